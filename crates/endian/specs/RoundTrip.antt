@@ -1,0 +1,37 @@
+-- Numbers and their bytes are the same thing, as long as the number fits.
+use Prim.Native.Nat.{ℕ, zero, suc, _+_, _*_, _/_, _%_, _^_, _<_}
+use native.Mathlib.Nat.{pow-suc}
+use native.Mathlib.Omega.{arith}
+use mathlib.Core.Path.{_≡_, refl, sym, ap, ap₂, _∙_}
+use mathlib.Core.List.{List, [], _∷_}
+use lib.ListN.{length, getD}
+use lib.Arith.{lt-one}
+use Rattle.endian.specs.Little.{bytes, value, Bytes}
+
+pub length-bytes : (k n : ℕ) → length (bytes k n) ≡ k
+unfolding bytes
+length-bytes zero n = refl
+length-bytes (suc k) n = ap suc (length-bytes k (n / 256))
+
+pub bytes-are : (k n : ℕ) → Bytes (bytes k n)
+unfolding bytes
+bytes-are zero n i = omega arith
+bytes-are (suc k) n zero = omega arith
+bytes-are (suc k) n (suc i) = bytes-are k (n / 256) i
+
+-- a number that fits in k bytes is read back from them
+pub value-bytes : (k n : ℕ) → n < 256 ^ k → value (bytes k n) ≡ n
+unfolding bytes value
+value-bytes zero n h = sym (lt-one h)
+value-bytes (suc k) n h =
+    let p = pow-suc 256 k in
+    let e : value (bytes k (n / 256)) ≡ n / 256 = value-bytes k (n / 256) (omega arith) in
+    omega arith
+
+-- bytes are written back from the number that they stand for
+pub bytes-value : (l : List ℕ) → Bytes l → bytes (length l) (value l) ≡ l
+unfolding bytes value
+bytes-value [] h = refl
+bytes-value (b ∷ l) h =
+    let s : b < 256 = h 0 in
+    ap₂ _∷_ (omega arith) (ap (bytes (length l)) (omega arith) ∙ bytes-value l (λ i. h (suc i)))

@@ -1,0 +1,28 @@
+-- Document 01's numbers of each verdict.
+use Prim.Native.Nat.{ℕ}
+use mathlib.Core.List.{List, _++_}
+use Rattle.endian.specs.Little.{bytes}
+use Rattle.refusal.specs.declared.Refusal.{Refusal}
+use Rattle.refusal.specs.declared.Code.{Code}
+use Rattle.refusal.specs.declared.Verdict.{Verdict}
+use Rattle.refusal.specs.declared.Verdict.the-variants.{Accepted, Written, Floor, Plan, Rules}
+
+-- "Every refusal carries its number and two further numbers; for files and sheets these are a byte offset and 0."
+abbrev pub refused : ℕ → ℕ → Refusal
+refused number at = record { number = number; first = at; second = 0 }
+
+-- the refusal's numbers, and the file that it is about: 1 floor, 2 plan, 3 rules
+abbrev pub codeAbout : ℕ → Refusal → Code
+codeAbout file r = record { about = file; number = r .number; first = r .first; second = r .second }
+
+-- the numbers of a verdict: about no file, 0 and, where bytes were written, how many
+abbrev pub codeOf : Verdict → Code
+codeOf Accepted = record { about = 0; number = 0; first = 0; second = 0 }
+codeOf (Written n) = record { about = 0; number = 0; first = n; second = 0 }
+codeOf (Floor r) = codeAbout 1 r
+codeOf (Plan r) = codeAbout 2 r
+codeOf (Rules r) = codeAbout 3 r
+
+-- a verdict's 16 bytes: its four numbers, little-endian
+abbrev pub bytesOf : Code → List ℕ
+bytesOf c = bytes 4 (c .about) ++ bytes 4 (c .number) ++ bytes 4 (c .first) ++ bytes 4 (c .second)

@@ -1,0 +1,48 @@
+/* The cart plan check, for C. Link libcontroller.a (x86-64 Linux).
+ *
+ * A buffer is lent as a pointer and a length; a null pointer with length 0 is an empty buffer. Nothing is kept after a call
+ * returns, nothing is allocated, and no call needs an earlier one. A refusal changes no byte of any buffer.
+ */
+#ifndef CARTPLAN_H
+#define CARTPLAN_H
+
+#include <stddef.h>
+#include <stdint.h>
+
+#ifdef __cplusplus
+extern "C" {
+#endif
+
+/* about: the file that is refused: 0 none, 1 floor, 2 plan, 3 rules.
+ * number: 0 accepted or done, else the refusal's number.
+ * first, second: the refusal's two further numbers; where bytes were written, first is how many. */
+struct cartplan_verdict {
+    uint32_t about, number, first, second;
+};
+
+/* Reads a floor. */
+struct cartplan_verdict cartplan_read_floor(const uint8_t *floor, size_t floor_len);
+
+/* Reads a floor, and a plan for it. */
+struct cartplan_verdict cartplan_read_plan(const uint8_t *floor, size_t floor_len,
+                                           const uint8_t *plan, size_t plan_len);
+
+/* Writes a floor to out: a place for each number of places (its 32 marks, m0 lowest), a lane for each three bytes of lanes
+ * (from, to, classes), a cart for each two bytes of carts (class, start). Bytes of out past the result stay. */
+struct cartplan_verdict cartplan_write_floor(const uint32_t *places, size_t place_count,
+                                             const uint8_t *lanes, size_t lanes_len,
+                                             const uint8_t *carts, size_t carts_len,
+                                             uint8_t *out, size_t out_len);
+
+/* Writes a plan for a floor to out: its head (h steps, first step l of the lap, drift d) and a row for each h bytes of rows.
+ * Bytes of out past the result stay. */
+struct cartplan_verdict cartplan_write_plan(const uint8_t *floor, size_t floor_len,
+                                            uint16_t h, uint16_t l, uint16_t d,
+                                            const uint8_t *rows, size_t rows_len,
+                                            uint8_t *out, size_t out_len);
+
+#ifdef __cplusplus
+}
+#endif
+
+#endif
