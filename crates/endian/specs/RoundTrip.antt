@@ -1,10 +1,11 @@
 -- Numbers and their bytes are the same thing, as long as the number fits.
-use Prim.Native.Nat.{ℕ, zero, suc, _+_, _*_, _/_, _%_, _^_, _<_}
+use Prim.Native.Nat.{ℕ, zero, suc, _+_, _/_, _^_, _<_}
 use native.Mathlib.Nat.{pow-suc}
 use native.Mathlib.Omega.{arith}
 use mathlib.Core.Path.{_≡_, refl, sym, ap, ap₂, _∙_}
 use mathlib.Core.List.{List, [], _∷_}
-use lib.ListN.{length, getD}
+use lib.ListN.{length, take, drop}
+use lib.Seq.{getD-drop}
 use lib.Arith.{lt-one}
 use Rattle.endian.specs.Little.{bytes, value, Bytes}
 
@@ -35,3 +36,13 @@ bytes-value [] h = refl
 bytes-value (b ∷ l) h =
     let s : b < 256 = h 0 in
     ap₂ _∷_ (omega arith) (ap (bytes (length l)) (omega arith) ∙ bytes-value l (λ i. h (suc i)))
+
+-- a part of bytes is bytes
+pub bytes-take : (n : ℕ) (l : List ℕ) → Bytes l → Bytes (take n l)
+bytes-take zero l h i = omega arith
+bytes-take (suc n) [] h i = omega arith
+bytes-take (suc n) (b ∷ l) h zero = h 0
+bytes-take (suc n) (b ∷ l) h (suc i) = bytes-take n l (λ j. h (suc j)) i
+
+pub bytes-drop : (n : ℕ) (l : List ℕ) → Bytes l → Bytes (drop n l)
+bytes-drop n l h i = rw getD-drop (h (n + i))

@@ -1,11 +1,10 @@
 -- A verdict's 16 bytes tell its four numbers.
-use Prim.Native.Nat.{ℕ, _^_, _<_, _+_}
-use mathlib.Core.Path.{_≡_, refl, sym, ap, _∙_}
-use mathlib.Core.List.{List, _++_}
-use lib.ListN.{length, take, drop}
-use lib.Seq.{take-at, drop-at, take-take, drop-drop}
+use Prim.Native.Nat.{ℕ, _^_, _<_}
+use mathlib.Core.Path.{_≡_}
+use mathlib.Core.List.{List}
+use lib.ListN.{take, drop}
 use Rattle.endian.specs.Little.{bytes, value}
-use Rattle.endian.specs.RoundTrip.{length-bytes, value-bytes}
+use Rattle.endian.specs.RoundTrip.{value-bytes}
 use Rattle.refusal.specs.declared.Code.{Code}
 use Rattle.refusal.specs.Codes.{bytesOf}
 

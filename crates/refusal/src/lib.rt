@@ -82,7 +82,21 @@ pub fn encoded(v: Verdict) -> [u8; 16]
     let f = endian::bytes32(c.first);
     let s = endian::bytes32(c.second);
     [
-        a[0], a[1], a[2], a[3], n[0], n[1], n[2], n[3], f[0], f[1], f[2], f[3], s[0], s[1], s[2],
+        a[0],
+        a[1],
+        a[2],
+        a[3],
+        n[0],
+        n[1],
+        n[2],
+        n[3],
+        f[0],
+        f[1],
+        f[2],
+        f[3],
+        s[0],
+        s[1],
+        s[2],
         s[3],
     ]
 }

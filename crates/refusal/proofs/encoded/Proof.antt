@@ -1,19 +1,13 @@
-use mathlib.Core.Path.{_≡_, refl, sym, ap, _∙_}
+use mathlib.Core.Path.{_≡_, ap, _∙_}
 use mathlib.Core.List.{List, _∷_, _++_, []}
 use Prim.Native.Nat.{ℕ}
 use lib.ListN.{getD}
 use Rattle.endian.specs.Little.{bytes}
-use Rattle.refusal.specs.Codes.{codeOf, bytesOf}
-use Rattle.refusal.specs.declared.Code.{Code}
+use Rattle.refusal.specs.Codes.{bytesOf}
 use borrow.Author.Needs.{needs}
 use Rattle.refusal.proofs.encoded.Statement.{statement}
 use Rattle.refusal.proofs.encoded.Tie as tie
-use Rattle.refusal.proofs.encoded.Reads as reads
-use Rattle.refusal.proofs.encoded.Lts as lts
-use Rattle.endian.proofs.bytes32.Reads as bytes32-reads
-use Rattle.refusal.proofs.code_of.Reads as code-of-reads
 
--- <top>
 -- four bytes taken one by one from four arrays of four
 four : List ℕ → List ℕ
 four l = getD l 0 0 ∷ getD l 1 0 ∷ getD l 2 0 ∷ getD l 3 0 ∷ []
@@ -22,93 +16,70 @@ words : (a n f s : ℕ) (x y z w : List ℕ) → x ≡ bytes 4 a → y ≡ bytes
     → four x ++ four y ++ four z ++ four w ≡ bytes 4 a ++ bytes 4 n ++ bytes 4 f ++ bytes 4 s
 unfolding four bytes
 words a n f s x y z w p q r t = rw (p, q, r, t)
--- </top>
 
--- src/lib.rt:79:9
 code-of-requires : tie.Need-code-of-requires
 code-of-requires c κs = search needs
 
--- src/lib.rt:80:13
 bytes32-requires : tie.Need-bytes32-requires
 bytes32-requires c κs = search needs
 
--- src/lib.rt:81:13
 bytes32-requires-2 : tie.Need-bytes32-requires-2
 bytes32-requires-2 c κs = search needs
 
--- src/lib.rt:82:13
 bytes32-requires-3 : tie.Need-bytes32-requires-3
 bytes32-requires-3 c κs = search needs
 
--- src/lib.rt:83:13
 bytes32-requires-4 : tie.Need-bytes32-requires-4
 bytes32-requires-4 c κs = search needs
 
--- src/lib.rt:85:9
 array-read-t10 : tie.Need-array-read-t10
 array-read-t10 c = search needs
 
--- src/lib.rt:85:15
 array-read-t13 : tie.Need-array-read-t13
 array-read-t13 c = search needs
 
--- src/lib.rt:85:21
 array-read-t16 : tie.Need-array-read-t16
 array-read-t16 c = search needs
 
--- src/lib.rt:85:27
 array-read-t19 : tie.Need-array-read-t19
 array-read-t19 c = search needs
 
--- src/lib.rt:85:33
 array-read-t22 : tie.Need-array-read-t22
 array-read-t22 c = search needs
 
--- src/lib.rt:85:39
 array-read-t25 : tie.Need-array-read-t25
 array-read-t25 c = search needs
 
--- src/lib.rt:85:45
 array-read-t28 : tie.Need-array-read-t28
 array-read-t28 c = search needs
 
--- src/lib.rt:85:51
 array-read-t31 : tie.Need-array-read-t31
 array-read-t31 c = search needs
 
--- src/lib.rt:85:57
 array-read-t34 : tie.Need-array-read-t34
 array-read-t34 c = search needs
 
--- src/lib.rt:85:63
 array-read-t37 : tie.Need-array-read-t37
 array-read-t37 c = search needs
 
--- src/lib.rt:85:69
 array-read-t40 : tie.Need-array-read-t40
 array-read-t40 c = search needs
 
--- src/lib.rt:85:75
 array-read-t43 : tie.Need-array-read-t43
 array-read-t43 c = search needs
 
--- src/lib.rt:85:81
 array-read-t46 : tie.Need-array-read-t46
 array-read-t46 c = search needs
 
--- src/lib.rt:85:87
 array-read-t49 : tie.Need-array-read-t49
 array-read-t49 c = search needs
 
--- src/lib.rt:85:93
 array-read-t52 : tie.Need-array-read-t52
 array-read-t52 c = search needs
 
--- src/lib.rt:86:9
 array-read-t55 : tie.Need-array-read-t55
 array-read-t55 c = search needs
 
--- src/lib.rt:76:1
 returns : tie.Need-returns
 unfolding four
 returns c =

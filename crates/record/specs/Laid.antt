@@ -1,0 +1,159 @@
+-- Parts and records laid out: one after the other, their lengths, and back again.
+use Prim.Native.Nat.{ℕ, zero, suc, _+_, _-_, _*_, _/_, _≤_, _<_, min}
+use native.Mathlib.Nat.{add-div-right, div-eq-of-lt, min-eq-left, min-eq-right, min-le-left, min-le-right, le-of-lt}
+use native.Mathlib.Omega.{arith}
+use mathlib.Core.Path.{_≡_, refl, sym, ap, ap₂, subst, _∙_}
+use mathlib.Core.Bool.{Bool, true, false}
+use lib.Dec.{leb}
+use borrow.Author.Tests.{leb-true, leb-false}
+use mathlib.Core.List.{List, [], _∷_, _++_, map, append-assoc, flatten}
+use lib.ListN.{length, take, drop, length-append, length-drop, take-append-drop, drop-of-length-le}
+use lib.Seq.{take-all, take-length, drop-length, drop-drop, take-at, drop-at, length-take-le}
+use Rattle.record.specs.Record.{Record, encoded, layout}
+use Rattle.record.specs.Parts.{parts, ofKind, laid}
+use Rattle.record.specs.Fuel.{parts-none, parts-open}
+use Rattle.record.specs.RoundTrip.{AllEncodable, length-encoded}
+
+pub layout-append : (rs ts : List Record) → layout (rs ++ ts) ≡ layout rs ++ layout ts
+unfolding layout
+layout-append [] ts = refl
+layout-append (r ∷ rs) ts = ap (λ (x : List ℕ). encoded r ++ x) (layout-append rs ts) ∙ sym (append-assoc (encoded r) (layout rs) (layout ts))
+
+-- the shorter of a part's size and what is left, and what is then the same
+short-or-full : (n : ℕ) (l : List ℕ) (P : ℕ → Type 0) → P n → (length l ≤ n → P (length l)) → P (min n (length l))
+short-or-full n l P full short = go (leb n (length l)) refl
+  where
+    go : (b : Bool) → leb n (length l) ≡ b → P (min n (length l))
+    go true e = subst P (sym (min-eq-left (leb-true _ _ e))) full
+    go false e =
+        let h : length l ≤ n = le-of-lt (leb-false _ _ e) in
+        subst P (sym (min-eq-right h)) (short h)
+
+take-min : (n : ℕ) (l : List ℕ) → take (min n (length l)) l ≡ take n l
+take-min n l = short-or-full n l (λ k. take k l ≡ take n l) refl (λ h. take-length l ∙ sym (take-all n l h))
+
+drop-min : (n : ℕ) (l : List ℕ) → drop (min n (length l)) l ≡ drop n l
+drop-min n l = short-or-full n l (λ k. drop k l ≡ drop n l) refl (λ h. drop-length l ∙ sym (drop-of-length-le l h))
+
+-- the first part, as long as there are bytes, and the parts behind it
+pub parts-step : (size : ℕ) (l : List ℕ) → 0 < size → 0 < length l
+    → parts size l ≡ take (min size (length l)) l ∷ parts size (drop (min size (length l)) l)
+parts-step size [] p h = absurd (omega arith)
+parts-step size (b ∷ l) p h =
+    parts-open size b l p ∙ ap₂ (λ (x y : List ℕ). x ∷ parts size y) (sym (take-min size (b ∷ l))) (sym (drop-min size (b ∷ l)))
+
+-- one record and the records behind it
+laid-open : (k size : ℕ) (l : List ℕ) → 0 < size → 0 < length l
+    → laid k size l ≡ encoded (ofKind k (take (min size (length l)) l)) ++ laid k size (drop (min size (length l)) l)
+unfolding layout
+laid-open k size l p h = ap (λ (x : List (List ℕ)). layout (map (ofKind k) x)) (parts-step size l p h)
+
+-- the same at an offset
+pub laid-step : (k size : ℕ) (l : List ℕ) (i : ℕ) → 0 < size → i < length l
+    → laid k size (drop i l)
+    ≡ encoded (ofKind k (take (min size (length l - i)) (drop i l))) ++ laid k size (drop (i + min size (length l - i)) l)
+laid-step k size l i p h =
+    let n : length (drop i l) ≡ length l - i = length-drop i l in
+    laid-open k size (drop i l) p (omega arith)
+    ∙ ap (λ (m : ℕ). encoded (ofKind k (take (min size m) (drop i l))) ++ laid k size (drop (min size m) (drop i l))) n
+    ∙ ap (λ (x : List ℕ). encoded (ofKind k (take (min size (length l - i)) (drop i l))) ++ laid k size x) (drop-drop (min size (length l - i)) i l)
+
+pub laid-none : (k size : ℕ) → laid k size [] ≡ []
+unfolding layout
+laid-none k size = ap (λ (x : List (List ℕ)). layout (map (ofKind k) x)) (parts-none size)
+
+-- how many parts of a size n bytes make
+abbrev pub partCount : ℕ → ℕ → ℕ
+partCount size n = (n + (size - 1)) / size
+
+count-step : (size n : ℕ) → 0 < size → 0 < n → partCount size n ≡ partCount size (n - min size n) + 1
+count-step size n p h = go (leb size n) refl
+  where
+    go : (b : Bool) → leb size n ≡ b → partCount size n ≡ partCount size (n - min size n) + 1
+    go true e =
+        let m : size ≤ n = leb-true _ _ e in
+        let d : n + (size - 1) ≡ (n - min size n + (size - 1)) + size = omega arith in
+        ap (λ (x : ℕ). x / size) d ∙ add-div-right (n - min size n + (size - 1)) p
+    go false e =
+        let m : n < size = leb-false _ _ e in
+        let d : n + (size - 1) ≡ (n - 1) + size = omega arith in
+        let z : n - min size n + (size - 1) < size = omega arith in
+        ap (λ (x : ℕ). x / size) d ∙ add-div-right (n - 1) p
+        ∙ ap (λ (x : ℕ). x + 1) (div-eq-of-lt {n = n - 1} {m = size} (omega arith) ∙ sym (div-eq-of-lt z))
+
+-- what holds of no bytes, and of bytes if it holds of those behind their first part, holds of all
+module _ (size : ℕ) (p : 0 < size) (P : List ℕ → Type 0) (none : P []) (more : (l : List ℕ) → 0 < length l → P (drop (min size (length l)) l) → P l) where
+  up-to : (f : ℕ) (l : List ℕ) → length l ≤ f → P l
+  up-to zero [] h = none
+  up-to zero (b ∷ l) h = absurd (omega arith)
+  up-to (suc f) [] h = none
+  up-to (suc f) (b ∷ l) h =
+      let m = min size (length (b ∷ l)) in
+      more (b ∷ l) (omega arith) (up-to f (drop m (b ∷ l)) (omega (arith, length-drop m (b ∷ l))))
+
+  parts-ind : (l : List ℕ) → P l
+  parts-ind l = up-to (length l) l (omega arith)
+
+-- four bytes of header for each part
+pub length-laid : (k size : ℕ) (l : List ℕ) → 0 < size → length (laid k size l) ≡ length l + 4 * partCount size (length l)
+length-laid k size l p = parts-ind size p (λ l. length (laid k size l) ≡ length l + 4 * partCount size (length l)) none more l
+  where
+    none : length (laid k size []) ≡ 0 + 4 * partCount size 0
+    none =
+        let a : length (laid k size []) ≡ 0 = ap length (laid-none k size) in
+        let b : partCount size 0 ≡ 0 = div-eq-of-lt {n = 0 + (size - 1)} {m = size} (omega arith) in
+        omega arith
+
+    more : (l : List ℕ) → 0 < length l
+        → length (laid k size (drop (min size (length l)) l)) ≡ length (drop (min size (length l)) l) + 4 * partCount size (length (drop (min size (length l)) l))
+        → length (laid k size l) ≡ length l + 4 * partCount size (length l)
+    more l h r =
+        let m = min size (length l) in
+        let n : length (drop m l) ≡ length l - m = length-drop m l in
+        let t : length (take m l) ≡ m = length-take-le m l (min-le-right size (length l)) in
+        let c : partCount size (length (drop m l)) ≡ partCount size (length l - m) = ap (partCount size) n in
+        let d = count-step size (length l) p h in
+        let e = length-encoded (ofKind k (take m l)) in
+        ap length (laid-open k size l p h) ∙ length-append (encoded (ofKind k (take m l))) (laid k size (drop m l)) ∙ omega arith
+
+-- parts of at most 65,535 bytes can be laid out
+pub parts-encodable : (k size : ℕ) (l : List ℕ) → k < 65536 → 0 < size → size < 65536 → AllEncodable (map (ofKind k) (parts size l))
+parts-encodable k size l h p q = parts-ind size p (λ l. AllEncodable (map (ofKind k) (parts size l))) none more l
+  where
+    none : AllEncodable (map (ofKind k) (parts size []))
+    none = subst (λ (x : List (List ℕ)). AllEncodable (map (ofKind k) x)) (sym (parts-none size)) tt
+
+    more : (l : List ℕ) → 0 < length l → AllEncodable (map (ofKind k) (parts size (drop (min size (length l)) l))) → AllEncodable (map (ofKind k) (parts size l))
+    more l b r =
+        let m = min size (length l) in
+        let t : length (take m l) ≡ m = length-take-le m l (min-le-right size (length l)) in
+        subst (λ (x : List (List ℕ)). AllEncodable (map (ofKind k) x)) (sym (parts-step size l p b))
+        (record { kind = h; size = omega (arith, min-le-left size (length l)) }, r)
+
+-- parts joined are what they were cut from
+pub flatten-parts : (size : ℕ) (l : List ℕ) → 0 < size → flatten (parts size l) ≡ l
+unfolding flatten
+flatten-parts size l p = parts-ind size p (λ l. flatten (parts size l) ≡ l) (ap flatten (parts-none size)) more l
+  where
+    more : (l : List ℕ) → 0 < length l → flatten (parts size (drop (min size (length l)) l)) ≡ drop (min size (length l)) l → flatten (parts size l) ≡ l
+    more l b r =
+        let m = min size (length l) in
+        ap flatten (parts-step size l p b) ∙ ap (λ (x : List ℕ). take m l ++ x) r ∙ take-append-drop m l
+
+-- bodies of one length
+abbrev pub AllOf : ℕ → List (List ℕ) → Type 0
+AllOf size [] = Unit {0}
+AllOf size (x ∷ xs) = (length x ≡ size) × AllOf size xs
+
+-- joined and cut again they are what they were
+pub parts-flatten : (size : ℕ) (bodies : List (List ℕ)) → 0 < size → AllOf size bodies → parts size (flatten bodies) ≡ bodies
+unfolding flatten
+parts-flatten size [] p h = parts-none size
+parts-flatten size (x ∷ xs) p h =
+    let l = x ++ flatten xs in
+    let n = length-append x (flatten xs) in
+    let s : length x ≡ size = h .0 in
+    let m : length x ≡ min size (length l) = omega arith in
+    parts-step size l p (omega arith)
+    ∙ ap₂ (λ (a : List ℕ) (b : List ℕ). a ∷ parts size b) (take-at x (flatten xs) (min size (length l)) m) (drop-at x (flatten xs) (min size (length l)) m)
+    ∙ ap (λ (t : List (List ℕ)). x ∷ t) (parts-flatten size xs p (h .1))

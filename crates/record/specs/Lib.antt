@@ -1,0 +1,8 @@
+pub mod Record
+pub mod Parts
+pub mod Found
+pub mod Stored
+pub mod Fuel
+pub mod Opened
+pub mod RoundTrip
+pub mod Laid
