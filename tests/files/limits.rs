@@ -77,42 +77,32 @@ fn counted_numbers(places: usize, lanes: usize, carts: usize) -> Floor {
     }
 }
 
-fn read_floor(name: &'static str, floor: Vec<u8>, verdict: Verdict) -> Limit {
-    let call = Call::ReadFloor(Input::from(floor));
+fn limit(name: &'static str, call: Call, verdict: Verdict) -> Limit {
     Limit {
         name,
         call,
         verdict,
     }
+}
+
+fn read_floor(name: &'static str, floor: Vec<u8>, verdict: Verdict) -> Limit {
+    limit(name, Call::ReadFloor(Input::from(floor)), verdict)
 }
 
 /// Reads a plan for the paper's floor.
 fn read_plan(name: &'static str, plan: Vec<u8>, verdict: Verdict) -> Limit {
-    let call = Call::ReadPlan(Input::from(paper_floor()), Input::from(plan));
-    Limit {
-        name,
-        call,
-        verdict,
-    }
+    let floor = Input::from(paper_floor());
+    limit(name, Call::ReadPlan(floor, Input::from(plan)), verdict)
 }
 
 fn write_floor(name: &'static str, numbers: Floor, room: usize, verdict: Verdict) -> Limit {
-    let call = Call::WriteFloor(numbers, room);
-    Limit {
-        name,
-        call,
-        verdict,
-    }
+    limit(name, Call::WriteFloor(numbers, room), verdict)
 }
 
 /// Writes a plan for the paper's floor.
 fn write_plan(name: &'static str, numbers: Plan, room: usize, verdict: Verdict) -> Limit {
-    let call = Call::WritePlan(Input::from(paper_floor()), numbers, room);
-    Limit {
-        name,
-        call,
-        verdict,
-    }
+    let floor = Input::from(paper_floor());
+    limit(name, Call::WritePlan(floor, numbers, room), verdict)
 }
 
 fn floor_ends() -> Vec<Limit> {
@@ -227,10 +217,18 @@ fn plan_heads() -> Vec<Limit> {
     ]
 }
 
-fn plan_records() -> Vec<Limit> {
-    let plan = paper_plan;
-    let last = |record: Vec<u8>| with(plan(), &record);
-    let only = |kept: usize, record: Vec<u8>| with(plan()[..kept].to_vec(), &record);
+/// The paper's plan with a record behind it.
+fn plan_and(record: Vec<u8>) -> Vec<u8> {
+    with(paper_plan(), &record)
+}
+
+/// The first bytes of the paper's plan, then a record.
+fn plan_part(kept: usize, record: Vec<u8>) -> Vec<u8> {
+    with(paper_plan()[..kept].to_vec(), &record)
+}
+
+fn plan_kinds() -> Vec<Limit> {
+    let (last, only) = (plan_and, plan_part);
     vec![
         read_plan("empty plan", Vec::new(), [2, 7, 0, 0]),
         read_plan("head only", only(10, Vec::new()), [2, 7, 10, 0]),
@@ -252,6 +250,12 @@ fn plan_records() -> Vec<Limit> {
         read_plan("cart first", record(3, &[0; 2]), [2, 3, 0, 0]),
         read_plan("kind 0", only(18, record(0, &[0; 4])), [2, 3, 18, 0]),
         read_plan("kind 261", only(18, vec![0, 0, 5, 1]), [2, 3, 18, 0]),
+    ]
+}
+
+fn plan_rows() -> Vec<Limit> {
+    let (last, only) = (plan_and, plan_part);
+    vec![
         read_plan("short row", only(18, record(5, &[9; 3])), [2, 4, 18, 0]),
         read_plan("long row", only(18, record(5, &[9; 5])), [2, 4, 18, 0]),
         read_plan(
@@ -301,33 +305,47 @@ fn floors_below() -> Vec<Limit> {
         ),
         ("long floor, no rows", write(&long, 4, &[]), [1, 1, 0, 0]),
     ];
-    let limit = |(name, call, verdict)| Limit {
-        name,
-        call,
-        verdict,
+    cases
+        .map(|(name, call, verdict)| limit(name, call, verdict))
+        .into()
+}
+
+/// Everything at its limit: 32 rows of 64 steps on 256 places.
+fn full_plans() -> Vec<Limit> {
+    let floor = || Input::from(counted(256, 1_024, 32));
+    let head = record(4, &[64, 0, 63, 0, 16, 0]);
+    let plan = |rows: usize| [head.clone(), record(5, &[255; 64]).repeat(rows)].concat();
+    let read = |rows: usize| Call::ReadPlan(floor(), Input::from(plan(rows)));
+    let write = |rows: usize, room: usize| {
+        let numbers = plan_numbers(64, 63, 16, &vec![255; 64 * rows]);
+        Call::WritePlan(floor(), numbers, room)
     };
-    cases.map(limit).into()
+    vec![
+        limit("full plan", read(32), DONE),
+        limit("33 rows", read(33), [2, 5, 2_186, 0]),
+        limit("31 rows", read(31), [2, 7, 2_118, 0]),
+        limit("full plan to write", write(32, 2_186), [0, 0, 2_186, 0]),
+        limit("one byte short", write(32, 2_185), [2, 18, 2_186, 0]),
+        limit("33 rows to write", write(33, 4_000), [2, 5, 2_186, 0]),
+        limit("31 rows to write", write(31, 4_000), [2, 7, 2_118, 0]),
+    ]
 }
 
 fn floor_writes() -> Vec<Limit> {
     let paper = paper_floor_numbers;
     let some = counted_numbers;
-    let with_lanes = |count: usize, more: &[u8]| {
-        let mut numbers = some(1, count, 1);
-        numbers.lanes.extend_from_slice(more);
-        numbers
-    };
-    let with_carts = |count: usize, more: &[u8]| {
-        let mut numbers = some(1, 0, count);
-        numbers.carts.extend_from_slice(more);
-        numbers
-    };
     vec![
         write_floor("just room", paper(), 56, [0, 0, 56, 0]),
         write_floor("more room", paper(), 70, [0, 0, 56, 0]),
         write_floor("one byte short", paper(), 55, [1, 18, 56, 0]),
         write_floor("no room", paper(), 0, [1, 18, 56, 0]),
         write_floor("all full", some(256, 1_024, 32), 9_408, [0, 0, 9_408, 0]),
+        write_floor(
+            "full, short",
+            some(256, 1_024, 32),
+            9_407,
+            [1, 18, 9_408, 0],
+        ),
         write_floor("nothing", some(0, 0, 0), 0, [1, 7, 0, 0]),
         write_floor("no cart, no room", some(2, 1, 0), 0, [1, 7, 23, 0]),
         write_floor("no place", some(0, 1, 1), 99, [1, 6, 0, 0]),
@@ -335,19 +353,38 @@ fn floor_writes() -> Vec<Limit> {
         write_floor("257 places", some(257, 1, 1), 9_999, [1, 5, 2_048, 0]),
         write_floor("1,025 lanes", some(1, 1_025, 1), 9_999, [1, 5, 7_176, 0]),
         write_floor("33 carts", some(1, 0, 33), 999, [1, 5, 200, 0]),
-        write_floor("a byte of a lane", with_lanes(1, &[9]), 99, [1, 4, 15, 0]),
-        write_floor("two bytes", with_lanes(1, &[9, 9]), 99, [1, 4, 15, 0]),
-        write_floor("1,025th cut", with_lanes(1_024, &[9]), 99, [1, 4, 7_176, 0]),
-        write_floor("absent to", with_lanes(1, &[0, 1, 0]), 99, [1, 6, 15, 0]),
-        write_floor("a byte of a cart", with_carts(1, &[9]), 99, [1, 4, 14, 0]),
-        write_floor("33rd cut", with_carts(32, &[9]), 999, [1, 4, 200, 0]),
-        write_floor("class 8", with_carts(1, &[8, 0]), 99, [1, 6, 14, 0]),
-        write_floor("class 7", with_carts(1, &[7, 0]), 99, [0, 0, 20, 0]),
         write_floor("65,536 bytes", some(8_192, 0, 0), 99, [1, 5, 2_048, 0]),
         write_floor("65,544 bytes", some(8_193, 0, 0), 99, [1, 1, 0, 0]),
-        // 8 for the place, 10,920 carts: 65,528; five more for a byte left over, six for a lane's.
-        write_floor("65,533 bytes", with_carts(10_920, &[0]), 99, [1, 5, 200, 0]),
-        write_floor("65,538 bytes", with_carts(10_921, &[0]), 99, [1, 1, 0, 0]),
+    ]
+}
+
+fn floor_groups() -> Vec<Limit> {
+    let lanes = |count: usize, more: &[u8]| {
+        let mut numbers = counted_numbers(1, count, 1);
+        numbers.lanes.extend_from_slice(more);
+        numbers
+    };
+    let carts = |count: usize, more: &[u8]| {
+        let mut numbers = counted_numbers(1, 0, count);
+        numbers.carts.extend_from_slice(more);
+        numbers
+    };
+    vec![
+        write_floor("a byte of a lane", lanes(1, &[9]), 99, [1, 4, 15, 0]),
+        write_floor("two bytes", lanes(1, &[9, 9]), 99, [1, 4, 15, 0]),
+        write_floor("1,025th cut", lanes(1_024, &[9]), 99, [1, 4, 7_176, 0]),
+        write_floor("absent to", lanes(1, &[0, 1, 0]), 99, [1, 6, 15, 0]),
+        write_floor("a byte of a cart", carts(1, &[9]), 99, [1, 4, 14, 0]),
+        write_floor("33rd cut", carts(32, &[9]), 999, [1, 4, 200, 0]),
+        write_floor("class 8", carts(1, &[8, 0]), 99, [1, 6, 14, 0]),
+        write_floor("class 7", carts(1, &[7, 0]), 99, [0, 0, 20, 0]),
+        // A place and 10,920 carts are 65,528 bytes; a byte left over takes five more.
+        write_floor("65,533 bytes", carts(10_920, &[0]), 99, [1, 5, 200, 0]),
+        write_floor("65,539 bytes", carts(10_921, &[0]), 99, [1, 1, 0, 0]),
+        // A place, a cart and 9,360 lanes are 65,534 bytes; left-over bytes take five or six.
+        write_floor("65,534 bytes", lanes(9_360, &[]), 99, [1, 5, 7_176, 0]),
+        write_floor("65,532 bytes", lanes(9_359, &[0]), 99, [1, 5, 7_176, 0]),
+        write_floor("65,539 again", lanes(9_360, &[0]), 99, [1, 1, 0, 0]),
     ]
 }
 
@@ -356,7 +393,6 @@ fn plan_writes() -> Vec<Limit> {
     let paper = |room: usize, verdict: Verdict| {
         write_plan("paper's plan", numbers(4, 0, 0, &ROWS), room, verdict)
     };
-    let rows = |rows: &[u8]| numbers(4, 0, 0, rows);
     let zeros = |h: u16, count: usize| numbers(h, 0, 0, &vec![0; count]);
     vec![
         paper(26, [0, 0, 26, 0]),
@@ -368,6 +404,13 @@ fn plan_writes() -> Vec<Limit> {
         write_plan("d 17", numbers(4, 0, 17, &ROWS), 0, [2, 8, 0, 0]),
         write_plan("h 64", zeros(64, 128), 146, [0, 0, 146, 0]),
         write_plan("h 65", zeros(65, 130), 148, [2, 8, 0, 0]),
+    ]
+}
+
+fn plan_groups() -> Vec<Limit> {
+    let rows = |rows: &[u8]| plan_numbers(4, 0, 0, rows);
+    let zeros = |h: u16, count: usize| plan_numbers(h, 0, 0, &vec![0; count]);
+    vec![
         write_plan("h 0, no rows", zeros(0, 0), 0, [2, 8, 0, 0]),
         write_plan("h 0, 65,536 bytes", zeros(0, 65_522), 9, [2, 8, 0, 0]),
         write_plan("h 0, 65,537 bytes", zeros(0, 65_523), 9, [2, 1, 0, 0]),
@@ -375,7 +418,7 @@ fn plan_writes() -> Vec<Limit> {
         write_plan("h 65,535, long", zeros(65_535, 65_523), 9, [2, 1, 0, 0]),
         write_plan("65,535 bytes", zeros(1, 13_105), 9, [2, 5, 20, 0]),
         write_plan("65,540 bytes", zeros(1, 13_106), 9, [2, 1, 0, 0]),
-        // 8,190 rows of 8 bytes and 65,530; then two bytes left over take six.
+        // A head and 8,190 rows of 8 bytes are 65,530; two bytes left over take six more.
         write_plan("65,536, cut", zeros(4, 32_762), 9, [2, 5, 26, 0]),
         write_plan("65,537, cut", zeros(4, 32_763), 9, [2, 1, 0, 0]),
         write_plan("no rows", rows(&[]), 99, [2, 7, 10, 0]),
@@ -398,10 +441,14 @@ pub fn all() -> Vec<Limit> {
         floor_records(),
         floor_counts(),
         plan_heads(),
-        plan_records(),
+        plan_kinds(),
+        plan_rows(),
         floors_below(),
+        full_plans(),
         floor_writes(),
+        floor_groups(),
         plan_writes(),
+        plan_groups(),
     ];
     parts.into_iter().flatten().collect()
 }

@@ -1,4 +1,4 @@
-//! Reading and writing floors and plans through the C interface, against a second reader and writer.
+//! Reads and writes floors and plans through the C interface, against a second reader and writer.
 //!
 //! Arguments: a seed, then a number of cases; both may be left out.
 
@@ -137,7 +137,7 @@ impl Harness {
         }
     }
 
-    /// The cases written by hand: the reference, too, has to give the verdict that is written there.
+    /// The cases written by hand: the reference, too, has to give the verdict written there.
     fn run_limits(&mut self) -> u64 {
         let limits = limits::all();
         let count = limits.len() as u64;

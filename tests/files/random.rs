@@ -50,7 +50,7 @@ impl Random {
     }
 }
 
-/// Mostly small, so that many cases fit into a run; now and then up to the limit or the limit itself.
+/// Mostly small, so that many cases fit into a run; now and then up to the limit, or the limit.
 fn size(random: &mut Random, least: usize, limit: usize) -> usize {
     match random.below(100) {
         0..=1 => limit,

@@ -1,6 +1,7 @@
 -- Document 01's numbers of each verdict.
 use Prim.Native.Nat.{ℕ}
-use mathlib.Core.List.{List, _++_}
+use mathlib.Core.Bool.{Bool, cond}
+use mathlib.Core.List.{List, [], _∷_, _++_}
 use Rattle.endian.specs.Little.{bytes}
 use Rattle.refusal.specs.declared.Refusal.{Refusal}
 use Rattle.refusal.specs.declared.Code.{Code}
@@ -10,6 +11,11 @@ use Rattle.refusal.specs.declared.Verdict.the-variants.{Accepted, Writte
 -- "Every refusal carries its number and two further numbers; for files and sheets these are a byte offset and 0."
 abbrev pub refused : ℕ → ℕ → Refusal
 refused number at = record { number = number; first = at; second = 0 }
+
+-- "At one offset of a file, the refusal named first": the number of the first test that holds, 0 if none does.
+abbrev pub firstOf : List (Bool × ℕ) → ℕ
+firstOf [] = 0
+firstOf (t ∷ ts) = cond (t .0) (t .1) (firstOf ts)
 
 -- the refusal's numbers, and the file that it is about: 1 floor, 2 plan, 3 rules
 abbrev pub codeAbout : ℕ → Refusal → Code

@@ -1,0 +1,176 @@
+/* The C interface from C: document 01's floor and plan written, compared with bytes written out by hand and read back;
+ * empty buffers as null pointers; room one byte short; a refusal of each function. */
+#include <stdio.h>
+#include <string.h>
+
+#include "cartplan.h"
+
+#define FLOOR_LEN 56
+#define PLAN_LEN 26
+#define ROOM 80
+#define FILL 0xa5
+
+static const uint8_t floor_bytes[FLOOR_LEN] = {
+    4, 0, 1, 0, 1, 0, 0, 0, /* place 0: m0 */
+    4, 0, 1, 0, 2, 0, 0, 0, /* place 1: m1 */
+    3, 0, 2, 0, 0, 1, 255,  /* lanes */
+    3, 0, 2, 0, 1, 0, 255,
+    3, 0, 2, 0, 0, 0, 255,
+    3, 0, 2, 0, 1, 1, 255,
+    2, 0, 3, 0, 0, 0, /* carts: class, start */
+    2, 0, 3, 0, 0, 0,
+};
+
+static const uint8_t plan_bytes[PLAN_LEN] = {
+    6, 0, 4, 0, 4, 0, 0, 0, 0, 0, /* h, l, d */
+    4, 0, 5, 0, 0, 1, 1, 0,       /* rows */
+    4, 0, 5, 0, 0, 0, 1, 1,
+};
+
+static const uint32_t places[2] = {1, 2};
+static const uint8_t lanes[12] = {0, 1, 255, 1, 0, 255, 0, 0, 255, 1, 1, 255};
+static const uint8_t carts[4] = {0, 0, 0, 0};
+static const uint8_t rows[8] = {0, 1, 1, 0, 0, 0, 1, 1};
+
+static int checks, failed;
+
+static void check(int holds, const char *name)
+{
+    checks++;
+    if (!holds) {
+        failed++;
+        printf("edge: %s: wrong\n", name);
+    }
+}
+
+static void check_verdict(struct cartplan_verdict is, uint32_t about, uint32_t number, uint32_t first, const char *name)
+{
+    checks++;
+    if (is.about != about || is.number != number || is.first != first || is.second != 0) {
+        failed++;
+        printf("edge: %s: got %u %u %u %u, wanted %u %u %u 0\n", name, (unsigned)is.about, (unsigned)is.number,
+               (unsigned)is.first, (unsigned)is.second, (unsigned)about, (unsigned)number, (unsigned)first);
+    }
+}
+
+/* Whether bytes from `from` up to ROOM still hold the fill. */
+static int untouched(const uint8_t *buffer, size_t from)
+{
+    for (size_t i = from; i < ROOM; i++)
+        if (buffer[i] != FILL)
+            return 0;
+    return 1;
+}
+
+static struct cartplan_verdict write_floor(uint8_t *out, size_t room)
+{
+    memset(out, FILL, ROOM);
+    return cartplan_write_floor(places, 2, lanes, sizeof lanes, carts, sizeof carts, out, room);
+}
+
+static struct cartplan_verdict write_plan(uint8_t *out, size_t room)
+{
+    memset(out, FILL, ROOM);
+    return cartplan_write_plan(floor_bytes, FLOOR_LEN, 4, 0, 0, rows, sizeof rows, out, room);
+}
+
+static void check_layout(void)
+{
+    check(sizeof(struct cartplan_verdict) == 16, "a verdict is 16 bytes");
+    check(offsetof(struct cartplan_verdict, about) == 0, "about stands first");
+    check(offsetof(struct cartplan_verdict, number) == 4, "number stands second");
+    check(offsetof(struct cartplan_verdict, first) == 8, "first stands third");
+    check(offsetof(struct cartplan_verdict, second) == 12, "second stands last");
+}
+
+static void check_floor_written(void)
+{
+    uint8_t out[ROOM];
+
+    check_verdict(write_floor(out, ROOM), 0, 0, FLOOR_LEN, "floor written");
+    check(memcmp(out, floor_bytes, FLOOR_LEN) == 0, "floor's bytes");
+    check(untouched(out, FLOOR_LEN), "bytes past the floor");
+    check_verdict(cartplan_read_floor(out, FLOOR_LEN), 0, 0, 0, "floor read back");
+    check(memcmp(out, floor_bytes, FLOOR_LEN) == 0, "floor unchanged by reading");
+
+    check_verdict(write_floor(out, FLOOR_LEN), 0, 0, FLOOR_LEN, "floor written, just room");
+    check(memcmp(out, floor_bytes, FLOOR_LEN) == 0, "floor's bytes, just room");
+    check(untouched(out, FLOOR_LEN), "bytes past the room");
+
+    check_verdict(write_floor(out, FLOOR_LEN - 1), 1, 18, FLOOR_LEN, "floor, one byte short");
+    check(untouched(out, 0), "no byte of a floor refused for room");
+}
+
+static void check_plan_written(void)
+{
+    uint8_t out[ROOM];
+
+    check_verdict(write_plan(out, ROOM), 0, 0, PLAN_LEN, "plan written");
+    check(memcmp(out, plan_bytes, PLAN_LEN) == 0, "plan's bytes");
+    check(untouched(out, PLAN_LEN), "bytes past the plan");
+    check_verdict(cartplan_read_plan(floor_bytes, FLOOR_LEN, out, PLAN_LEN), 0, 0, 0, "plan read back");
+    check(memcmp(out, plan_bytes, PLAN_LEN) == 0, "plan unchanged by reading");
+
+    check_verdict(write_plan(out, PLAN_LEN), 0, 0, PLAN_LEN, "plan written, just room");
+    check(memcmp(out, plan_bytes, PLAN_LEN) == 0, "plan's bytes, just room");
+    check(untouched(out, PLAN_LEN), "bytes past the room");
+
+    check_verdict(write_plan(out, PLAN_LEN - 1), 2, 18, PLAN_LEN, "plan, one byte short");
+    check(untouched(out, 0), "no byte of a plan refused for room");
+}
+
+static void check_null(void)
+{
+    uint8_t out[ROOM];
+
+    memset(out, FILL, ROOM);
+    check_verdict(cartplan_read_floor(NULL, 0), 1, 7, 0, "null floor");
+    check_verdict(cartplan_read_plan(NULL, 0, NULL, 0), 1, 7, 0, "null floor and plan");
+    check_verdict(cartplan_read_plan(floor_bytes, FLOOR_LEN, NULL, 0), 2, 7, 0, "null plan");
+    check_verdict(cartplan_write_floor(NULL, 0, NULL, 0, NULL, 0, NULL, 0), 1, 7, 0, "nothing to write");
+    check_verdict(cartplan_write_floor(places, 2, lanes, 12, carts, 4, NULL, 0), 1, 18, 56, "floor to null");
+    check_verdict(cartplan_write_floor(NULL, 0, lanes, 12, carts, 4, out, ROOM), 1, 6, 0, "null places");
+    check_verdict(cartplan_write_floor(places, 2, lanes, 12, NULL, 0, out, ROOM), 1, 7, 44, "null carts");
+    check_verdict(cartplan_write_plan(NULL, 0, 4, 0, 0, rows, 8, out, ROOM), 1, 7, 0, "plan on null floor");
+    check_verdict(cartplan_write_plan(floor_bytes, 56, 4, 0, 0, NULL, 0, out, ROOM), 2, 7, 10, "null rows");
+    check_verdict(cartplan_write_plan(floor_bytes, 56, 0, 0, 0, NULL, 0, NULL, 0), 2, 8, 0, "no steps, null rows");
+    check_verdict(cartplan_write_plan(floor_bytes, 56, 4, 0, 0, rows, 8, NULL, 0), 2, 18, 26, "plan to null");
+    check(untouched(out, 0), "no byte of a refused write");
+    check_verdict(cartplan_write_floor(places, 2, NULL, 0, carts, 4, out, ROOM), 0, 0, 28, "null lanes");
+    check_verdict(cartplan_read_floor(out, 28), 0, 0, 0, "floor without lanes");
+}
+
+static void check_refusals(void)
+{
+    static const uint8_t class_8[2] = {8, 0};
+    uint8_t out[ROOM];
+    uint8_t bad[FLOOR_LEN];
+
+    memset(out, FILL, ROOM);
+    memcpy(bad, floor_bytes, FLOOR_LEN);
+    bad[21] = 2; /* the first lane's end, a place that isn't there */
+    check_verdict(cartplan_read_floor(bad, FLOOR_LEN), 1, 6, 16, "absent place");
+    check_verdict(cartplan_read_floor(floor_bytes, FLOOR_LEN - 1), 1, 2, 50, "cut floor");
+    check_verdict(cartplan_read_plan(bad, FLOOR_LEN, plan_bytes, PLAN_LEN), 1, 6, 16, "plan on a bad floor");
+    check_verdict(cartplan_read_plan(floor_bytes, FLOOR_LEN, plan_bytes, 18), 2, 7, 18, "a row missing");
+    check_verdict(cartplan_read_plan(floor_bytes, 50, plan_bytes, PLAN_LEN), 2, 5, 18, "a row too many");
+    check_verdict(cartplan_write_floor(places, 2, lanes, 11, carts, 4, out, ROOM), 1, 4, 37, "two thirds of a lane");
+    check_verdict(cartplan_write_floor(places, 2, lanes, 12, class_8, 2, out, ROOM), 1, 6, 44, "class 8");
+    check_verdict(cartplan_write_plan(bad, FLOOR_LEN, 4, 0, 0, rows, 8, out, ROOM), 1, 6, 16, "plan for a bad floor");
+    check_verdict(cartplan_write_plan(floor_bytes, FLOOR_LEN, 4, 4, 0, rows, 8, out, ROOM), 2, 8, 0, "l is h");
+    check_verdict(cartplan_write_plan(floor_bytes, FLOOR_LEN, 4, 3, 17, rows, 8, out, ROOM), 2, 8, 0, "d 17");
+    check_verdict(cartplan_write_plan(floor_bytes, FLOOR_LEN, 4, 0, 0, rows, 7, out, ROOM), 2, 4, 18, "a step missing");
+    check(untouched(out, 0), "no byte of a refused result");
+    check(bad[21] == 2 && memcmp(bad + 22, floor_bytes + 22, FLOOR_LEN - 22) == 0, "a refused floor unchanged");
+}
+
+int main(void)
+{
+    check_layout();
+    check_floor_written();
+    check_plan_written();
+    check_null();
+    check_refusals();
+    printf("edge: %d checks, %d failed\n", checks, failed);
+    return failed != 0;
+}
