@@ -384,7 +384,7 @@ fn floor_groups() -> Vec<Limit> {
         // A place, a cart and 9,360 lanes are 65,534 bytes; left-over bytes take five or six.
         write_floor("65,534 bytes", lanes(9_360, &[]), 99, [1, 5, 7_176, 0]),
         write_floor("65,532 bytes", lanes(9_359, &[0]), 99, [1, 5, 7_176, 0]),
-        write_floor("65,539 again", lanes(9_360, &[0]), 99, [1, 1, 0, 0]),
+        write_floor("65,539 by lanes", lanes(9_360, &[0]), 99, [1, 1, 0, 0]),
     ]
 }
 

@@ -1,0 +1,14 @@
+-- Where no refusal is named, no test holds.
+use Prim.Native.Nat.{ℕ, suc}
+use native.Mathlib.Omega.{arith}
+use mathlib.Core.Path.{_≡_, refl, sym}
+use mathlib.Core.Bool.{Bool, true, false, cond, not}
+
+-- of the first test, and then of those behind it
+pub none-holds : (t : Bool) (n rest : ℕ) → cond t (suc n) rest ≡ 0 → (t ≡ false) × (rest ≡ 0)
+none-holds true n rest e = absurd (omega arith)
+none-holds false n rest e = (refl, e)
+
+pub not-not : (b : Bool) → not b ≡ false → b ≡ true
+not-not true e = refl
+not-not false e = sym e

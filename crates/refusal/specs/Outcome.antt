@@ -1,0 +1,25 @@
+-- What an operation that writes gives: its answer, and the lent buffer afterwards.
+use Prim.Native.Nat.{ℕ}
+use mathlib.Core.Bool.{cond}
+use mathlib.Core.List.{List, _++_}
+use lib.Dec.{ltb}
+use lib.ListN.{length, drop}
+use Rattle.refusal.specs.Codes.{refused}
+use Rattle.refusal.specs.declared.Refusal.{Refusal}
+use Rattle.refusal.specs.declared.Verdict.{Verdict}
+use Rattle.refusal.specs.declared.Verdict.the-variants.{Written}
+
+pub record Outcome : Type 0 where
+  pub answer : Verdict
+  pub out : List ℕ
+
+-- "Lent buffers are unchanged."
+abbrev pub unchanged : Verdict → List ℕ → Outcome
+unchanged v out = record { answer = v; out = out }
+
+-- "18 if the lent buffer is shorter than the result (needed length, 0)", about the file being written; "bytes past the result stay"
+abbrev pub written : (Refusal → Verdict) → List ℕ → List ℕ → Outcome
+written about bytes out =
+    cond (ltb (length out) (length bytes))
+    (unchanged (about (refused 18 (length bytes))) out)
+    (record { answer = Written (length bytes); out = bytes ++ drop (length bytes) out })
