@@ -7,7 +7,7 @@ use mathlib.Core.Bool.{Bool, true, false, cond, not, _||_}
 use mathlib.Core.List.{List, [], _∷_, _++_, map}
 use lib.Dec.{eqb, ltb}
 use lib.ListN.{length}
-use borrow.Author.Tests.{eqb-true, eqb-false, eq-eqb, ltb-false}
+use borrow.Author.Tests.{eqb-true, eqb-false, ltb-false, leb-false}
 use Rattle.refusal.specs.Faults.{none-holds, not-not}
 use Rattle.record.specs.Record.{Record}
 use Rattle.record.specs.Parts.{ofKind}
@@ -46,6 +46,12 @@ passed f k body g e =
 abbrev pub grouped : List Record → List Record
 grouped rs = map (ofKind 1) (bodiesOf 1 rs) ++ (map (ofKind 2) (bodiesOf 2 rs) ++ map (ofKind 3) (bodiesOf 3 rs))
 
+-- 1 to 256 places, 0 to 1,024 lanes, 1 to 32 carts: never more
+pub record Within (f : Floor) : Type 0 where
+  pub places : f .places ≤ 256
+  pub lanes : f .lanes ≤ 1024
+  pub carts : f .carts ≤ 32
+
 -- records judged from f on without a refusal, up to g
 pub record Sorted (f g : Floor) (rs : List Record) : Type 0 where
   pub in-order : rs ≡ grouped rs
@@ -57,6 +63,7 @@ pub record Sorted (f g : Floor) (rs : List Record) : Type 0 where
   pub places : g .places ≡ f .places + length (bodiesOf 1 rs)
   pub lanes : g .lanes ≡ f .lanes + length (bodiesOf 2 rs)
   pub carts : g .carts ≡ f .carts + length (bodiesOf 3 rs)
+  pub within : Within f → Within g
 
 either-false : (a b : Bool) → a || b ≡ false → (a ≡ false) × (b ≡ false)
 either-false true b e = let z : _≡_ {A = ℕ} 0 1 = cc in absurd (omega arith)
@@ -73,6 +80,7 @@ module _ (body : List ℕ) (rs : List Record) (f h g : Floor) (s : Sorted h g rs
       let a : h .places ≡ f .places + 1 = ap (λ (x : Floor). x .places) (p .count) in
       let b : h .lanes ≡ f .lanes = ap (λ (x : Floor). x .lanes) (p .count) in
       let d : h .carts ≡ f .carts = ap (λ (x : Floor). x .carts) (p .count) in
+      let m : f .places < 256 = leb-false _ _ (p .room) in
       record {
         in-order = ap (λ (x : List Record). ofKind 1 body ∷ x) (s .in-order);
         no-places = λ q. absurd (omega arith);
@@ -83,6 +91,7 @@ module _ (body : List ℕ) (rs : List Record) (f h g : Floor) (s : Sorted h g rs
         places = omega (arith, s .places);
         lanes = omega (arith, s .lanes);
         carts = omega (arith, s .carts);
+        within = λ q. s .within (record { places = omega (arith, q .places); lanes = omega (arith, q .lanes); carts = omega (arith, q .carts) });
       }
 
   at-lane : Passed f lane body h → Sorted f g (ofKind 2 body ∷ rs)
@@ -94,6 +103,7 @@ module _ (body : List ℕ) (rs : List Record) (f h g : Floor) (s : Sorted h g rs
       let d : h .carts ≡ f .carts = ap (λ (x : Floor). x .carts) (p .count) in
       let none : bodiesOf 1 rs ≡ [] = s .no-places (omega arith) in
       let rest : List Record = map (ofKind 2) (bodiesOf 2 rs) ++ map (ofKind 3) (bodiesOf 3 rs) in
+      let m : f .lanes < 1024 = leb-false _ _ (p .room) in
       record {
         in-order = ap (λ (x : List Record). ofKind 2 body ∷ x) (s .in-order ∙ ap (λ (x : List (List ℕ)). map (ofKind 1) x ++ rest) none)
             ∙ sym (ap (λ (x : List (List ℕ)). map (ofKind 1) x ++ (ofKind 2 body ∷ rest)) none);
@@ -105,6 +115,7 @@ module _ (body : List ℕ) (rs : List Record) (f h g : Floor) (s : Sorted h g rs
         places = omega (arith, s .places);
         lanes = omega (arith, s .lanes);
         carts = omega (arith, s .carts);
+        within = λ q. s .within (record { places = omega (arith, q .places); lanes = omega (arith, q .lanes); carts = omega (arith, q .carts) });
       }
 
   at-cart : Passed f cart body h → Sorted f g (ofKind 3 body ∷ rs)
@@ -116,6 +127,7 @@ module _ (body : List ℕ) (rs : List Record) (f h g : Floor) (s : Sorted h g rs
       let none : bodiesOf 1 rs ≡ [] = s .no-places (omega arith) in
       let none′ : bodiesOf 2 rs ≡ [] = s .no-lanes (omega arith) in
       let rest : List Record = map (ofKind 3) (bodiesOf 3 rs) in
+      let m : f .carts < 32 = leb-false _ _ (p .room) in
       record {
         in-order = ap (λ (x : List Record). ofKind 3 body ∷ x) (s .in-order ∙ ap₂ (λ (x y : List (List ℕ)). map (ofKind 1) x ++ (map (ofKind 2) y ++ rest)) none none′)
             ∙ sym (ap₂ (λ (x y : List (List ℕ)). map (ofKind 1) x ++ (map (ofKind 2) y ++ (ofKind 3 body ∷ rest))) none none′);
@@ -127,6 +139,7 @@ module _ (body : List ℕ) (rs : List Record) (f h g : Floor) (s : Sorted h g rs
         places = omega (arith, s .places);
         lanes = omega (arith, s .lanes);
         carts = omega (arith, s .carts);
+        within = λ q. s .within (record { places = omega (arith, q .places); lanes = omega (arith, q .lanes); carts = omega (arith, q .carts) });
       }
 
 -- a record that is judged good is of one of the three kinds
@@ -168,6 +181,7 @@ sorted [] f at g n e =
       places = omega arith;
       lanes = omega arith;
       carts = omega arith;
+      within = λ w. subst Within q w;
     }
 sorted (r ∷ rs) f at g n e = go (judged f (kindOf (r .kind)) (r .body)) refl (λ h. sorted rs h (at + 4 + length (r .body)) g n) e
   where

@@ -3,8 +3,13 @@ use record::Found;
 use refusal::Refusal;
 ghost use mathlib.Core.Path.{_≡_};
 ghost use mathlib.Core.Bool.{false};
-ghost use Prim.Native.Nat.{_≤_};
-ghost use Rattle.floor.specs.Floor.{place, lane, cart, kindOf, judged, ending, readFloor};
+ghost use mathlib.Core.List.{map};
+ghost use Prim.Native.Nat.{_+_, _*_, _≤_, _<_, min};
+ghost use lib.ListN.{length};
+ghost use Rattle.record.specs.Parts.{parts, ofKind, laid};
+ghost use Rattle.record.specs.Laid.{partCount};
+ghost use Rattle.floor.specs.Floor.{place, lane, cart, kindOf, judged, walk, ending, nothing, readFloor};
+ghost use Rattle.floor.specs.Numbers.{placeRecord};
 ghost use Rattle.floor.specs.declared.Walked.the-variants.{At};
 
 // How many places, lanes and carts a floor has. What they are stays in the file's bytes.
@@ -169,4 +174,63 @@ pub fn read(s: &[u8]) -> FloorAnswer
             },
         }
     }
+}
+
+// Judges records of one kind, so many bytes of the bodies to each, that are laid out from an offset on.
+fn walk_parts(f: Floor, at: usize, kind: u16, size: usize, bodies: &[u8]) -> Walked
+    requires { ⌜ (0 < size) × (at + length (laid kind size (now bodies)) ≤ 65536) ⌝ }
+    ensures { λ r. ⌜ r ≡ walk f at (map (ofKind kind) (parts size (now (bodies .entry)))) ⌝ }
+{
+    let mut g = f;
+    let mut next = at;
+    let mut i: usize = 0;
+    while i < bodies.len() {
+        let end = record::part_end(i, size, bodies.len());
+        match judge(g, kind, &bodies[i..end]) {
+            Judged::Good(h) => {
+                g = h;
+                next = next + 4 + (end - i);
+                i = end;
+            }
+            Judged::Fault(n) => {
+                return Walked::Stopped(refusal::at_offset(n, next as u32));
+            }
+        }
+    }
+    Walked::At(g, next)
+}
+
+// Judges place records laid out from the start on: nothing but their number can be wrong.
+fn walk_places(places: &[u32]) -> Walked
+    ensures { λ r. ⌜ r ≡ walk nothing 0 (map placeRecord (now (places .entry))) ⌝ }
+{
+    let n = places.len();
+    if 256 < n {
+        return Walked::Stopped(refusal::at_offset(5, 2048));
+    }
+    Walked::At(
+        Floor {
+            places: n,
+            lanes: 0,
+            carts: 0,
+        },
+        n * 8,
+    )
+}
+
+// The length of a floor laid out, or 65,537 if it is longer than a file may be.
+fn laid_size(places: usize, lanes: usize, carts: usize) -> usize
+    ensures { λ r. ⌜ r ≡ min 65537 (8 * places + (lanes + 4 * partCount 3 lanes + (carts + 4 * partCount 2 carts))) ⌝ }
+{
+    if 65536 < places {
+        return 65537;
+    }
+    if 65536 < lanes {
+        return 65537;
+    }
+    if 65536 < carts {
+        return 65537;
+    }
+    let n = places * 8 + (lanes + (lanes + 2) / 3 * 4 + (carts + (carts + 1) / 2 * 4));
+    if 65536 < n { 65537 } else { n }
 }

@@ -2,7 +2,7 @@
 use Prim.Native.Nat.{ℕ, _+_, _-_, _≤_, _<_, min}
 use native.Mathlib.Nat.{min-le-right}
 use native.Mathlib.Omega.{arith}
-use mathlib.Core.Path.{_≡_, refl, sym, ap, _∙_}
+use mathlib.Core.Path.{_≡_, refl, sym, ap, ap₂, _∙_}
 use mathlib.Core.List.{List, [], _++_, append-assoc, append-nil}
 use lib.ListN.{length, take, drop, length-append, length-drop, drop-of-length-le}
 use lib.Seq.{length-take-le}
@@ -11,7 +11,7 @@ use Rattle.record.specs.Parts.{ofKind, laid}
 use Rattle.record.specs.Found.{stored}
 use Rattle.record.specs.Stored.{stored-nothing, stored-more, length-stored}
 use Rattle.record.specs.RoundTrip.{length-encoded}
-use Rattle.record.specs.Laid.{laid-step, laid-none}
+use Rattle.record.specs.Laid.{PartAt, laid-step, length-step, laid-none}
 
 -- up to byte i of the bodies, `done` is written, up to offset `next`
 pub record Putting (out₀ : List ℕ) (at kind size : ℕ) (bodies out : List ℕ) (next i : ℕ) : Type 0 where
@@ -21,59 +21,41 @@ pub record Putting (out₀ : List ℕ) (at kind size : ℕ) (bodies out : List �
   pub far : next ≡ at + length done
   pub rest : done ++ laid kind size (drop i bodies) ≡ laid kind size bodies
 
-module _ (out₀ : List ℕ) (at kind size : ℕ) (bodies : List ℕ) (p : 0 < size) (room : at + length (laid kind size bodies) ≤ length out₀) where
+module _ (out₀ : List ℕ) (at kind size : ℕ) (bodies : List ℕ) (room : at + length (laid kind size bodies) ≤ length out₀) where
   pub begin : Putting out₀ at kind size bodies out₀ at 0
   begin = record { within = omega arith; done = []; held = sym (stored-nothing out₀ at); far = omega arith; rest = refl }
 
-  module _ (out : List ℕ) (next i end : ℕ) (w : Putting out₀ at kind size bodies out next i) (more : i < length bodies) (e : end ≡ i + min size (length bodies - i)) where
-    part : List ℕ
-    part = take (end - i) (drop i bodies)
+  module _ (out : List ℕ) (next i end : ℕ) (w : Putting out₀ at kind size bodies out next i) (p : PartAt size bodies i end) where
+    abbrev one : List ℕ
+    one = encoded (ofKind kind (take (end - i) (drop i bodies)))
 
-    size-of : end - i ≡ min size (length bodies - i)
-    size-of = omega arith
+    all : (w .done ++ one) ++ laid kind size (drop end bodies) ≡ laid kind size bodies
+    all =
+        append-assoc (w .done) one (laid kind size (drop end bodies))
+        ∙ ap (λ (x : List ℕ). w .done ++ x) (sym (laid-step kind size bodies i end p)) ∙ w .rest
 
-    pub length-part : length (take (end - i) (drop i bodies)) ≡ end - i
-    length-part = length-take-le (end - i) (drop i bodies) (omega (arith, length-drop i bodies, min-le-right size (length bodies - i)))
-
-    step : laid kind size (drop i bodies) ≡ encoded (ofKind kind part) ++ laid kind size (drop end bodies)
-    unfolding part
-    step =
-        laid-step kind size bodies i p more
-        ∙ ap (λ (k : ℕ). encoded (ofKind kind (take k (drop i bodies))) ++ laid kind size (drop (i + min size (length bodies - i)) bodies)) (sym size-of)
-        ∙ ap (λ (k : ℕ). encoded (ofKind kind (take (end - i) (drop i bodies))) ++ laid kind size (drop k bodies)) (sym e)
-
-    all : (w .done ++ encoded (ofKind kind part)) ++ laid kind size (drop end bodies) ≡ laid kind size bodies
-    all = append-assoc (w .done) (encoded (ofKind kind part)) (laid kind size (drop end bodies)) ∙ ap (λ (x : List ℕ). w .done ++ x) (sym step) ∙ w .rest
-
-    length-all : length (w .done) + (4 + (end - i)) ≤ length (laid kind size bodies)
-    unfolding part
-    length-all =
-        let a = sym (ap length all) ∙ length-append (w .done ++ encoded (ofKind kind part)) (laid kind size (drop end bodies)) in
-        let b = length-append (w .done) (encoded (ofKind kind part)) in
-        let c = length-encoded (ofKind kind part) in
-        omega (arith, length-part)
+    length-done : length (w .done) + (4 + (end - i)) ≤ length (laid kind size bodies)
+    length-done =
+        let a = sym (ap length (w .rest)) ∙ length-append (w .done) (laid kind size (drop i bodies)) in
+        let b = length-step kind size bodies i end p in
+        omega arith
 
     pub fits : next + 4 + length (take (end - i) (drop i bodies)) ≤ length out
     fits =
-        let a = length-all in
-        let f = w .far in
+        let a = length-done in
         let s : length out ≡ length out₀ = ap length (w .held) ∙ length-stored out₀ at (w .done) (omega arith) in
-        omega (arith, length-part)
+        omega (arith, w .far, p .size-is)
 
-    pub again : (out′ : List ℕ) → out′ ≡ stored out next (encoded (ofKind kind (take (end - i) (drop i bodies)))) → Putting out₀ at kind size bodies out′ (next + 4 + (end - i)) end
-    unfolding part
+    pub again : (out′ : List ℕ) → out′ ≡ stored out next one → Putting out₀ at kind size bodies out′ (next + 4 + (end - i)) end
     again out′ q =
-        let a = length-all in
-        let b = length-append (w .done) (encoded (ofKind kind part)) in
-        let c = length-encoded (ofKind kind part) in
-        let f = w .far in
+        let a = length-done in
+        let b = length-append (w .done) one in
+        let c = length-encoded (ofKind kind (take (end - i) (drop i bodies))) in
         record {
-          within = omega (arith, min-le-right size (length bodies - i));
-          done = w .done ++ encoded (ofKind kind part);
-          held = q ∙ ap (λ (x : List ℕ). stored x next (encoded (ofKind kind part))) (w .held)
-              ∙ ap (λ (k : ℕ). stored (stored out₀ at (w .done)) k (encoded (ofKind kind part))) f
-              ∙ stored-more out₀ at (w .done) (encoded (ofKind kind part)) (omega arith);
-          far = omega (arith, length-part);
+          within = p .within;
+          done = w .done ++ one;
+          held = q ∙ ap₂ (λ (x : List ℕ) (k : ℕ). stored x k one) (w .held) (w .far) ∙ stored-more out₀ at (w .done) one (omega arith);
+          far = omega (arith, w .far, p .size-is);
           rest = all;
         }
 

@@ -1,6 +1,6 @@
 -- Parts and records laid out: one after the other, their lengths, and back again.
 use Prim.Native.Nat.{ℕ, zero, suc, _+_, _-_, _*_, _/_, _≤_, _<_, min}
-use native.Mathlib.Nat.{add-div-right, div-eq-of-lt, min-eq-left, min-eq-right, min-le-left, min-le-right, le-of-lt}
+use native.Mathlib.Nat.{add-div-right, div-eq-of-lt, min-eq-left, min-eq-right, min-le-left, min-le-right, le-of-lt, add-sub-of-le}
 use native.Mathlib.Omega.{arith}
 use mathlib.Core.Path.{_≡_, refl, sym, ap, ap₂, subst, _∙_}
 use mathlib.Core.Bool.{Bool, true, false}
@@ -42,21 +42,38 @@ parts-step size [] p h = absurd (omega arith)
 parts-step size (b ∷ l) p h =
     parts-open size b l p ∙ ap₂ (λ (x y : List ℕ). x ∷ parts size y) (sym (take-min size (b ∷ l))) (sym (drop-min size (b ∷ l)))
 
--- one record and the records behind it
-laid-open : (k size : ℕ) (l : List ℕ) → 0 < size → 0 < length l
-    → laid k size l ≡ encoded (ofKind k (take (min size (length l)) l)) ++ laid k size (drop (min size (length l)) l)
-unfolding layout
-laid-open k size l p h = ap (λ (x : List (List ℕ)). layout (map (ofKind k) x)) (parts-step size l p h)
+-- the same at an offset: the part from there to its end, and the parts from its end on
+pub record PartAt (size : ℕ) (l : List ℕ) (i end : ℕ) : Type 0 where
+  pub forward : i < end
+  pub within : end ≤ length l
+  pub size-is : length (take (end - i) (drop i l)) ≡ end - i
+  pub step : parts size (drop i l) ≡ take (end - i) (drop i l) ∷ parts size (drop end l)
 
--- the same at an offset
-pub laid-step : (k size : ℕ) (l : List ℕ) (i : ℕ) → 0 < size → i < length l
-    → laid k size (drop i l)
-    ≡ encoded (ofKind k (take (min size (length l - i)) (drop i l))) ++ laid k size (drop (i + min size (length l - i)) l)
-laid-step k size l i p h =
+pub part-at : (size : ℕ) (l : List ℕ) (i end : ℕ) → 0 < size → i < length l → end ≡ i + min size (length l - i) → PartAt size l i end
+part-at size l i end p h e =
     let n : length (drop i l) ≡ length l - i = length-drop i l in
-    laid-open k size (drop i l) p (omega arith)
-    ∙ ap (λ (m : ℕ). encoded (ofKind k (take (min size m) (drop i l))) ++ laid k size (drop (min size m) (drop i l))) n
-    ∙ ap (λ (x : List ℕ). encoded (ofKind k (take (min size (length l - i)) (drop i l))) ++ laid k size x) (drop-drop (min size (length l - i)) i l)
+    let m : min size (length (drop i l)) ≡ end - i = omega arith in
+    let next : drop (end - i) (drop i l) ≡ drop end l = drop-drop (end - i) i l ∙ ap (λ (k : ℕ). drop k l) (add-sub-of-le {n = end} {m = i} (omega arith)) in
+    record {
+      forward = omega arith;
+      within = omega arith;
+      size-is = length-take-le (end - i) (drop i l) (omega arith);
+      step = parts-step size (drop i l) p (omega arith)
+          ∙ ap (λ (k : ℕ). take k (drop i l) ∷ parts size (drop k (drop i l))) m
+          ∙ ap (λ (x : List ℕ). take (end - i) (drop i l) ∷ parts size x) next;
+    }
+
+-- and as records: one, and those behind it
+module _ (k size : ℕ) (l : List ℕ) (i end : ℕ) (at : PartAt size l i end) where
+  pub laid-step : laid k size (drop i l) ≡ encoded (ofKind k (take (end - i) (drop i l))) ++ laid k size (drop end l)
+  unfolding layout
+  laid-step = ap (λ (x : List (List ℕ)). layout (map (ofKind k) x)) (at .step)
+
+  pub length-step : length (laid k size (drop i l)) ≡ 4 + (end - i) + length (laid k size (drop end l))
+  length-step =
+      let a = at .size-is in
+      let b = length-encoded (ofKind k (take (end - i) (drop i l))) in
+      ap length laid-step ∙ length-append (encoded (ofKind k (take (end - i) (drop i l)))) (laid k size (drop end l)) ∙ omega arith
 
 pub laid-none : (k size : ℕ) → laid k size [] ≡ []
 unfolding layout
@@ -93,6 +110,12 @@ module _ (size : ℕ) (p : 0 < size) (P : List ℕ → Type 0) (none : P []) (mo
 
   parts-ind : (l : List ℕ) → P l
   parts-ind l = up-to (length l) l (omega arith)
+
+-- one record and the records behind it
+laid-open : (k size : ℕ) (l : List ℕ) → 0 < size → 0 < length l
+    → laid k size l ≡ encoded (ofKind k (take (min size (length l)) l)) ++ laid k size (drop (min size (length l)) l)
+unfolding layout
+laid-open k size l p h = ap (λ (x : List (List ℕ)). layout (map (ofKind k) x)) (parts-step size l p h)
 
 -- four bytes of header for each part
 pub length-laid : (k size : ℕ) (l : List ℕ) → 0 < size → length (laid k size l) ≡ length l + 4 * partCount size (length l)

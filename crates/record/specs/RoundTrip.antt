@@ -9,7 +9,7 @@ use lib.Seq.{take-append-seam, drop-append-seam, drop-drop, length-take-le}
 use borrow.Author.Tests.{le-leb}
 use Rattle.endian.specs.Little.{bytes, value, Bytes}
 use Rattle.endian.specs.RoundTrip.{value-bytes, bytes-value, bytes-take, bytes-drop}
-use Rattle.record.specs.Record.{Record, Split, cutShort, joined, encoded, layout, whole, front, behind, sizeIn, kindIn, recordsIn}
+use Rattle.record.specs.Record.{Record, Split, cutShort, joined, encoded, layout, whole, front, behind, sizeIn, kindIn, split, recordsIn}
 use Rattle.record.specs.Fuel.{records-none, records-open}
 use Rattle.record.specs.Opened.{goes-on, whole-size, body-size}
 
@@ -21,6 +21,10 @@ pub record Encodable (r : Record) : Type 0 where
 abbrev pub AllEncodable : List Record → Type 0
 AllEncodable [] = Unit {0}
 AllEncodable (r ∷ rs) = Encodable r × AllEncodable rs
+
+pub encodable-append : (rs ts : List Record) → AllEncodable rs → AllEncodable ts → AllEncodable (rs ++ ts)
+encodable-append [] ts h k = k
+encodable-append (r ∷ rs) ts h k = (h .0, encodable-append rs ts (h .1) k)
 
 -- a laid-out record in front of anything
 pub length-encoded : (r : Record) → length (encoded r) ≡ 4 + length (r .body)
@@ -111,3 +115,22 @@ layout-up-to (suc n) (c ∷ l) h b e =
 -- a file that is not cut short is its records laid out
 pub layout-records : (l : List ℕ) → Bytes l → recordsIn l .cut ≡ false → layout (recordsIn l .records) ≡ l
 layout-records l b e = layout-up-to (length l) l (omega arith) b e
+
+-- the bodies of a file's records are bytes
+abbrev pub AllBytes : List Record → Type 0
+AllBytes [] = Unit {0}
+AllBytes (r ∷ rs) = Bytes (r .body) × AllBytes rs
+
+bytes-up-to : (n : ℕ) (l : List ℕ) → Bytes l → AllBytes (split n l .records)
+unfolding split
+bytes-up-to zero l b = tt
+bytes-up-to (suc n) [] b = tt
+bytes-up-to (suc n) (c ∷ l) b = go (whole (c ∷ l)) (bytes-up-to n (behind (c ∷ l)) (bytes-drop (4 + sizeIn (c ∷ l)) (c ∷ l) b))
+  where
+    go : (w : Bool) → AllBytes (split n (behind (c ∷ l)) .records) → AllBytes (joined w (front (c ∷ l)) (split n (behind (c ∷ l))) .records)
+    go true h = (bytes-take (sizeIn (c ∷ l)) (drop 4 (c ∷ l)) (bytes-drop 4 (c ∷ l) b), h)
+    go false h = tt
+
+pub records-bytes : (l : List ℕ) → Bytes l → AllBytes (recordsIn l .records)
+unfolding recordsIn
+records-bytes l b = bytes-up-to (length l) l b

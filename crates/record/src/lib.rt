@@ -63,7 +63,7 @@ pub fn put(out: &mut [u8], at: usize, kind: u16, body: &[u8])
 }
 
 // Where the part of so many bytes that begins at an offset ends: the last part is shorter where bytes are left over.
-fn part_end(from: usize, size: usize, len: usize) -> usize
+pub fn part_end(from: usize, size: usize, len: usize) -> usize
     requires { ⌜ from ≤ len ⌝ }
     ensures { λ r. ⌜ r ≡ from + min size (len - from) ⌝ }
 {

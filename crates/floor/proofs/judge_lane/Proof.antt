@@ -52,8 +52,13 @@ returns-5 : tie.Need-returns-5
 unfolding judged
 returns-5 c =
     let a = c .before .before .before .before .before .before .before .before .before .before .before .before .before .before .args in
-    simp (le-ltb _ _ (c .before .before .before .before .before .before .before .before .before .before .before .if1 .left), eq-eqb _ _ (c .before .before .before .before .before .before .before .before .before .before .if2 .left), lt-leb _ _ (c .before .before .before .before .before .before .before .before .if3 .left), lt-leb (a .f .places) (getD (a .body .now) 0 0) (omega arith),
-    le-leb (a .f .places) (getD (a .body .now) 1 0) (omega arith))
+    simp (
+      le-ltb _ _ (c .before .before .before .before .before .before .before .before .before .before .before .if1 .left),
+      eq-eqb _ _ (c .before .before .before .before .before .before .before .before .before .before .if2 .left),
+      lt-leb _ _ (c .before .before .before .before .before .before .before .before .if3 .left),
+      lt-leb (a .f .places) (getD (a .body .now) 0 0) (omega arith),
+      le-leb (a .f .places) (getD (a .body .now) 1 0) (omega arith),
+    )
 
 -- src/lib.rt:77:16
 add-t4 : tie.Need-add-t4
@@ -64,8 +69,13 @@ returns-6 : tie.Need-returns-6
 unfolding judged
 returns-6 c =
     let a = c .before .before .before .before .before .before .before .before .before .before .before .before .before .before .before .args in
-    simp (le-ltb _ _ (c .before .before .before .before .before .before .before .before .before .before .before .before .if1 .left), eq-eqb _ _ (c .before .before .before .before .before .before .before .before .before .before .before .if2 .left), lt-leb _ _ (c .before .before .before .before .before .before .before .before .before .if3 .left), lt-leb (a .f .places) (getD (a .body .now) 0 0) (omega arith),
-    lt-leb (a .f .places) (getD (a .body .now) 1 0) (omega arith))
+    simp (
+      le-ltb _ _ (c .before .before .before .before .before .before .before .before .before .before .before .before .if1 .left),
+      eq-eqb _ _ (c .before .before .before .before .before .before .before .before .before .before .before .if2 .left),
+      lt-leb _ _ (c .before .before .before .before .before .before .before .before .before .if3 .left),
+      lt-leb (a .f .places) (getD (a .body .now) 0 0) (omega arith),
+      lt-leb (a .f .places) (getD (a .body .now) 1 0) (omega arith),
+    )
 
 pub judge-lane-spec : {M : Type 1} → statement M
 judge-lane-spec =

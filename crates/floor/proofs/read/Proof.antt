@@ -119,11 +119,10 @@ loop-less c =
 -- src/lib.rt:153:5
 loop-again : tie.Need-loop-again Inv-loop μ-loop
 loop-again c =
-    let s = c .before .before .before .before .before .before .before .before .before .before .before .before .args .s .now in
-    (
-  opens (c .before .before .before .before .before) .within,
-  c .before .before .before .before .before .before .before .before .before .loop .inv .1,
-  sym (at-good s (c .before .before .before .before .before .before .before .before .before .loop .f) (c .before .before .before .before .before .before .before .before .before .loop .at) _ _ _ (found (c .before .before .before .before .before)) _ (sym (c .before .before .before .judge .ensures) ∙ c .before .g .given .1)) ∙ c .before .before .before .before .before .before .before .before .before .loop .inv .2,
+    let s = c .before .before .before .before .before .before .before .before .before .before .before .before .args .s .now in (
+      opens (c .before .before .before .before .before) .within,
+      c .before .before .before .before .before .before .before .before .before .loop .inv .1,
+      sym (at-good s (c .before .before .before .before .before .before .before .before .before .loop .f) (c .before .before .before .before .before .before .before .before .before .loop .at) _ _ _ (found (c .before .before .before .before .before)) _ (sym (c .before .before .before .judge .ensures) ∙ c .before .g .given .1)) ∙ c .before .before .before .before .before .before .before .before .before .loop .inv .2,
     )
 
 -- src/lib.rt:166:31
