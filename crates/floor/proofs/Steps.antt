@@ -1,24 +1,22 @@
 -- One record after the other: what reading from an offset on comes to, by what is found there.
 use Prim.Native.Nat.{ℕ, _+_, _-_, _≤_, _<_}
 use native.Mathlib.Omega.{arith}
-use mathlib.Core.Path.{_≡_, refl, sym, ap, _∙_}
-use mathlib.Core.Bool.{Bool, true, false, cond}
-use mathlib.Core.List.{List, _∷_}
+use mathlib.Core.Path.{_≡_, sym, ap, _∙_}
+use mathlib.Core.Bool.{Bool, false, cond}
+use mathlib.Core.List.{List}
 use lib.ListN.{length, take, drop, length-drop}
 use lib.Seq.{length-take-le}
 use borrow.Author.Tests.{lt-ltb, le-ltb}
 use Rattle.refusal.specs.Codes.{refused}
-use Rattle.record.specs.Record.{Record, Split, ended, cutShort, joined, recordsIn}
+use Rattle.record.specs.Record.{recordsIn}
 use Rattle.record.specs.Found.{foundAt}
-use Rattle.record.specs.Opened.{Opened, opened, found-end, found-cut}
+use Rattle.record.specs.Opened.{opened, found-end, found-cut}
 use Rattle.record.specs.declared.Found.the-variants.{End, Cut, Whole}
 use Rattle.floor.specs.Floor.{kindOf, judged, onward, walk, ending, readOn, nothing, readFloor}
 use Rattle.floor.specs.declared.Floor.{Floor}
 use Rattle.floor.specs.declared.Judged.{Judged}
 use Rattle.floor.specs.declared.Judged.the-variants.{Good, Fault}
-use Rattle.floor.specs.declared.Walked.{Walked}
 use Rattle.floor.specs.declared.Walked.the-variants.{At}
-use Rattle.floor.specs.declared.FloorAnswer.{FloorAnswer}
 use Rattle.floor.specs.declared.FloorAnswer.the-variants.{Refused}
 
 pub too-long : (s : List ℕ) → 65536 < length s → Refused (refused 1 0) ≡ readFloor s

@@ -1,11 +1,10 @@
 -- Records of one kind, so many bytes to a body, judged one after the other.
 use Prim.Native.Nat.{ℕ, _+_, _-_}
-use mathlib.Core.Path.{_≡_, refl, sym, ap, _∙_}
-use mathlib.Core.List.{List, [], _∷_, map}
+use mathlib.Core.Path.{_≡_, ap, _∙_}
+use mathlib.Core.List.{List, map}
 use lib.ListN.{length, take, drop, drop-of-length-le}
 use Prim.Native.Nat.{_≤_}
 use Rattle.refusal.specs.Codes.{refused}
-use Rattle.record.specs.Record.{Record}
 use Rattle.record.specs.Parts.{parts, ofKind}
 use Rattle.record.specs.Fuel.{parts-none}
 use Rattle.record.specs.Laid.{PartAt}

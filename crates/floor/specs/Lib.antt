@@ -1,5 +1,6 @@
 pub mod Floor
 pub mod Numbers
-pub mod Walk
+pub mod Promises
 pub mod Sorted
 pub mod RoundTrip
+pub mod Walk

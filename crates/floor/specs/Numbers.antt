@@ -18,13 +18,25 @@ pub record Numbers : Type 0 where
   pub lanes : List ℕ
   pub carts : List ℕ
 
+abbrev pub numbers : List ℕ → List ℕ → List ℕ → Numbers
+numbers places lanes carts = record { places = places; lanes = lanes; carts = carts }
+
 -- a place's marks are four bytes
 abbrev pub placeRecord : ℕ → Record
 placeRecord marks = ofKind 1 (bytes 4 marks)
 
 -- the numbers laid out as records: a lane to each three bytes, a cart to each two; bytes left over are a record of wrong length
+abbrev pub placesOf : Numbers → List Record
+placesOf n = map placeRecord (n .places)
+
+abbrev pub lanesOf : Numbers → List Record
+lanesOf n = map (ofKind 2) (parts 3 (n .lanes))
+
+abbrev pub cartsOf : Numbers → List Record
+cartsOf n = map (ofKind 3) (parts 2 (n .carts))
+
 abbrev pub floorRecords : Numbers → List Record
-floorRecords n = map placeRecord (n .places) ++ (map (ofKind 2) (parts 3 (n .lanes)) ++ map (ofKind 3) (parts 2 (n .carts)))
+floorRecords n = placesOf n ++ (lanesOf n ++ cartsOf n)
 
 abbrev pub floorBytes : Numbers → List ℕ
 floorBytes n = layout (floorRecords n)

@@ -1,21 +1,28 @@
 -- What is written reads back as the same numbers, and what was read writes back as the same bytes.
-use Prim.Native.Nat.{ℕ, zero, suc, _+_, _^_, _≤_, _<_}
+use Prim.Native.Nat.{ℕ, suc, _*_, _^_, _≤_, _<_}
+use native.Mathlib.Nat.{zero-add}
 use native.Mathlib.Omega.{arith}
 use mathlib.Core.Path.{_≡_, refl, sym, ap, ap₂, subst, _∙_}
 use mathlib.Core.Bool.{Bool, true, false, cond, _||_}
 use mathlib.Core.List.{List, [], _∷_, _++_, map, flatten, append-nil}
 use lib.Dec.{eqb, ltb}
-use lib.ListN.{length, getD}
+use lib.ListN.{length, getD, take, length-map}
 use borrow.Author.Tests.{eq-eqb, eqb-false, ltb-false}
 use Rattle.endian.specs.Little.{bytes, value, Bytes}
 use Rattle.endian.specs.RoundTrip.{length-bytes, value-bytes, bytes-value}
 use Rattle.record.specs.Record.{Record, Split, layout, recordsIn}
 use Rattle.record.specs.Parts.{parts, ofKind}
-use Rattle.record.specs.Laid.{AllOf, parts-encodable, flatten-parts, parts-flatten}
-use Rattle.record.specs.RoundTrip.{Encodable, AllEncodable, encodable-append, records-layout, layout-records, AllBytes, records-bytes}
+use Rattle.record.specs.Laid.{AllOf, length-flatten, parts-encodable, flatten-parts, parts-flatten}
+use Rattle.record.specs.RoundTrip.{AllEncodable, encodable-append, records-layout, layout-records, AllBytes, records-bytes}
 use Rattle.refusal.specs.Codes.{refused}
+use Rattle.refusal.specs.Outcome.{Gives}
+use Rattle.refusal.specs.Held.{written-front}
+use Rattle.refusal.specs.declared.Refusal.{Refusal}
+use Rattle.refusal.specs.declared.Verdict.{Verdict}
+use Rattle.refusal.specs.declared.Verdict.the-variants.{Written, Floor as AboutFloor}
+use Rattle.floor.specs.Promises.{Counts}
 use Rattle.floor.specs.Floor.{walk, ending, nothing, readOn, readFloor}
-use Rattle.floor.specs.Numbers.{Numbers, placeRecord, floorRecords, floorBytes, bodiesOf, numbersIn, numbersOf}
+use Rattle.floor.specs.Numbers.{Numbers, placeRecord, floorRecords, floorBytes, bodiesOf, numbersIn, numbersOf, byReading, writeFloor}
 use Rattle.floor.specs.Sorted.{Sorted, Within, sorted}
 use Rattle.floor.specs.declared.Floor.{Floor}
 use Rattle.floor.specs.declared.Walked.{Walked}
@@ -173,3 +180,30 @@ bytes-back s f b e =
     (ap₂ (λ (x y : List (List ℕ)). map (ofKind 2) x ++ map (ofKind 3) y) (parts-flatten 3 l (omega arith) (o .lane-sizes)) (parts-flatten 2 c (omega arith) (o .cart-sizes)))
     ∙ sym (o .in-order))
     ∙ layout-records s b (whole s f e .uncut)
+
+-- as many as are counted
+pub counts : (s : List ℕ) (f : Floor) → readFloor s ≡ Read f → Counts f (numbersOf s)
+counts s f e =
+    let o = accepted-sorted s f e in
+    let rs = recordsIn s .records in
+    record {
+      places = length-map (bodiesOf 1 rs) value ∙ sym (o .places ∙ zero-add (length (bodiesOf 1 rs)));
+      lanes = length-flatten 3 (bodiesOf 2 rs) (o .lane-sizes) ∙ ap (λ (k : ℕ). 3 * k) (sym (o .lanes ∙ zero-add (length (bodiesOf 2 rs))));
+      carts = length-flatten 2 (bodiesOf 3 rs) (o .cart-sizes) ∙ ap (λ (k : ℕ). 2 * k) (sym (o .carts ∙ zero-add (length (bodiesOf 3 rs))));
+    }
+
+-- what is written reads back as the same numbers
+about-floor : (r : Refusal) (k : ℕ) → AboutFloor r ≡ Written k → ⊥
+about-floor r k e = let z : _≡_ {A = ℕ} 0 1 = cc in omega arith
+
+pub reads-back : (n : Numbers) (before : List ℕ) (v : Verdict) (after : List ℕ) → Words (n .places) → Gives (writeFloor n before) v after
+    → (k : ℕ) → v ≡ Written k → (f : Floor) × (readFloor (take k after) ≡ Read f) × (numbersOf (take k after) ≡ n)
+unfolding writeFloor
+reads-back n before v after w g k e = go (readFloor (floorBytes n)) refl g
+  where
+    go : (a : FloorAnswer) → readFloor (floorBytes n) ≡ a → Gives (byReading a (floorBytes n) before) v after
+        → (f : Floor) × (readFloor (take k after) ≡ Read f) × (numbersOf (take k after) ≡ n)
+    go (Refused r) q g = absurd (about-floor r k (sym (g .answer) ∙ e))
+    go (Read f) q g =
+        let t : take k after ≡ floorBytes n = written-front AboutFloor about-floor (floorBytes n) before v after k g e in
+        (f, ap readFloor t ∙ q, ap numbersOf t ∙ numbers-written n w)

@@ -1,13 +1,12 @@
 -- The records of an accepted floor: places, then lanes, then carts, each body of its kind's length, and as many as are counted.
 use Prim.Native.Nat.{ℕ, zero, suc, _+_, _≤_, _<_}
-use native.Mathlib.Nat.{add-zero}
 use native.Mathlib.Omega.{arith}
 use mathlib.Core.Path.{_≡_, refl, sym, ap, ap₂, subst, _∙_}
-use mathlib.Core.Bool.{Bool, true, false, cond, not, _||_}
+use mathlib.Core.Bool.{Bool, true, false, not, _||_}
 use mathlib.Core.List.{List, [], _∷_, _++_, map}
 use lib.Dec.{eqb, ltb}
 use lib.ListN.{length}
-use borrow.Author.Tests.{eqb-true, eqb-false, ltb-false, leb-false}
+use borrow.Author.Tests.{eqb-true, ltb-false, leb-false}
 use Rattle.refusal.specs.Faults.{none-holds, not-not}
 use Rattle.record.specs.Record.{Record}
 use Rattle.record.specs.Parts.{ofKind}
@@ -17,8 +16,7 @@ use Rattle.floor.specs.Numbers.{bodiesOf}
 use Rattle.floor.specs.declared.Floor.{Floor}
 use Rattle.floor.specs.declared.Judged.{Judged}
 use Rattle.floor.specs.declared.Judged.the-variants.{Good, Fault}
-use Rattle.floor.specs.declared.Walked.{Walked}
-use Rattle.floor.specs.declared.Walked.the-variants.{At, Stopped}
+use Rattle.floor.specs.declared.Walked.the-variants.{At}
 
 -- a record that is counted in passed every test
 pub record Passed (f : Floor) (k : Kind) (body : List ℕ) (g : Floor) : Type 0 where

@@ -1,29 +1,37 @@
 -- Records judged in order.
-use Prim.Native.Nat.{ℕ, zero, suc, _+_, _-_, _*_, _≤_, _<_}
-use native.Mathlib.Nat.{zero-add}
+use Prim.Native.Nat.{ℕ, _+_, _-_, _*_, _≤_, _<_}
 use native.Mathlib.Omega.{arith}
-use mathlib.Core.Path.{_≡_, refl, sym, ap, ap₂, _∙_}
-use mathlib.Core.Bool.{Bool, true, false}
+use mathlib.Core.Path.{_≡_, refl, ap, ap₂, _∙_}
+use mathlib.Core.Bool.{Bool, true, false, cond}
 use mathlib.Core.List.{List, [], _∷_, _++_, map}
-use lib.ListN.{length}
+use lib.ListN.{length, length-append}
 use lib.Dec.{leb}
-use borrow.Author.Tests.{le-leb, lt-leb, leb-true, leb-false}
+use borrow.Author.Tests.{le-leb, lt-leb, leb-true, leb-false, le-ltb}
 use Rattle.endian.specs.Little.{bytes}
 use Rattle.endian.specs.RoundTrip.{length-bytes}
 use Rattle.refusal.specs.Codes.{refused}
-use Rattle.record.specs.Record.{Record}
-use Rattle.floor.specs.Floor.{kindOf, place, judged, onward, walk}
-use Rattle.floor.specs.Numbers.{placeRecord}
+use Rattle.record.specs.Record.{Record, encoded, layout, recordsIn}
+use Rattle.record.specs.Laid.{layout-append, length-laid, partCount}
+use Rattle.record.specs.RoundTrip.{length-encoded, records-layout}
+use Rattle.floor.specs.Floor.{kindOf, place, judged, onward, walk, ending, readOn, nothing, readFloor}
+use Rattle.floor.specs.Numbers.{Numbers, placeRecord, placesOf, lanesOf, cartsOf, floorRecords, floorBytes}
+use Rattle.floor.specs.RoundTrip.{floor-encodable}
 use Rattle.floor.specs.declared.Floor.{Floor}
 use Rattle.floor.specs.declared.Judged.{Judged}
 use Rattle.floor.specs.declared.Judged.the-variants.{Good, Fault}
 use Rattle.floor.specs.declared.Walked.{Walked}
 use Rattle.floor.specs.declared.Walked.the-variants.{At, Stopped}
+use Rattle.floor.specs.declared.FloorAnswer.the-variants.{Refused}
 
 -- further records behind those judged
 abbrev pub walkOn : Walked → List Record → Walked
 walkOn (At f at) rs = walk f at rs
 walkOn (Stopped r) rs = Stopped r
+
+-- so many bytes more stay below a limit
+abbrev pub UpTo : ℕ → Walked → ℕ → Type 0
+UpTo most (At f at) n = at + n ≤ most
+UpTo most (Stopped r) n = Unit {0}
 
 pub walk-append : (f : Floor) (at : ℕ) (rs ts : List Record) → walk f at (rs ++ ts) ≡ walkOn (walk f at rs) ts
 unfolding walk
@@ -34,6 +42,10 @@ walk-append f at (r ∷ rs) ts = go (judged f (kindOf (r .kind)) (r .body)) (λ 
         → onward j at (λ g. walk g (at + 4 + length (r .body)) (rs ++ ts)) ≡ walkOn (onward j at (λ g. walk g (at + 4 + length (r .body)) rs)) ts
     go (Good g) h = h g
     go (Fault n) h = refl
+
+pub on-append : (w : Walked) (rs ts : List Record) → walkOn w (rs ++ ts) ≡ walkOn (walkOn w rs) ts
+on-append (At f at) rs ts = walk-append f at rs ts
+on-append (Stopped r) rs ts = refl
 
 -- places alone
 abbrev pub onlyPlaces : ℕ → Floor
@@ -81,3 +93,81 @@ places-over (m ∷ ms) n at h k = go (leb 256 n) refl (places-over ms (n + 1) (a
         let l : n < 256 = leb-false 256 n e in
         let a : at + 8 + 8 * (256 - (n + 1)) ≡ at + 8 * (256 - n) = omega arith in
         place-next m ms n at l ∙ f (omega arith) (omega arith) ∙ ap (λ (x : ℕ). Stopped (refused 5 x)) a
+
+-- the offset behind records is their length
+pub walk-offset : (rs : List Record) (f : Floor) (at : ℕ) (g : Floor) (n : ℕ) → walk f at rs ≡ At g n → n ≡ at + length (layout rs)
+unfolding walk layout
+walk-offset [] f at g n e = let q : at ≡ n = cc in omega arith
+walk-offset (r ∷ rs) f at g n e = go (judged f (kindOf (r .kind)) (r .body)) (λ h. walk-offset rs h (at + 4 + length (r .body)) g n) e
+  where
+    go : (j : Judged) → ((h : Floor) → walk h (at + 4 + length (r .body)) rs ≡ At g n → n ≡ at + 4 + length (r .body) + length (layout rs))
+        → onward j at (λ h. walk h (at + 4 + length (r .body)) rs) ≡ At g n → n ≡ at + length (encoded r ++ layout rs)
+    go (Good h) ih e =
+        let a = ih h e in
+        let b = length-append (encoded r) (layout rs) in
+        let c = length-encoded r in
+        omega arith
+    go (Fault m) ih e = let z : _≡_ {A = ℕ} 0 1 = cc in absurd (omega arith)
+
+-- so records judged from an offset on, with more bytes behind them, stay below it
+pub walk-up-to : (most : ℕ) (f : Floor) (at : ℕ) (rs : List Record) (n : ℕ) → at + (length (layout rs) + n) ≤ most → UpTo most (walk f at rs) n
+walk-up-to most f at rs n h = go (walk f at rs) refl
+  where
+    go : (w : Walked) → walk f at rs ≡ w → UpTo most w n
+    go (At g m) e = let a = walk-offset rs f at g m e in omega arith
+    go (Stopped r) e = tt
+
+pub on-up-to : (most : ℕ) (w : Walked) (rs : List Record) (n : ℕ) → UpTo most w (length (layout rs) + n) → UpTo most (walkOn w rs) n
+on-up-to most (At f at) rs n h = walk-up-to most f at rs n h
+on-up-to most (Stopped r) rs n h = tt
+
+-- four bytes of header and four of marks to each place
+pub length-places : (ms : List ℕ) → length (layout (map placeRecord ms)) ≡ 8 * length ms
+unfolding layout
+length-places [] = refl
+length-places (m ∷ ms) =
+    let a = length-append (encoded (placeRecord m)) (layout (map placeRecord ms)) in
+    let b = length-encoded (placeRecord m) in
+    let c = length-bytes 4 m in
+    let d = length-places ms in
+    omega arith
+
+module _ (n : Numbers) where
+  pub length-three : length (floorBytes n) ≡ length (layout (placesOf n)) + (length (layout (lanesOf n)) + length (layout (cartsOf n)))
+  length-three =
+      ap length (layout-append (placesOf n) ((lanesOf n) ++ (cartsOf n)) ∙ ap (λ (x : List ℕ). layout (placesOf n) ++ x) (layout-append (lanesOf n) (cartsOf n)))
+      ∙ length-append (layout (placesOf n)) (layout (lanesOf n) ++ layout (cartsOf n))
+      ∙ ap (λ (k : ℕ). length (layout (placesOf n)) + k) (length-append (layout (lanesOf n)) (layout (cartsOf n)))
+
+  -- the length of a floor laid out
+  pub length-floor : length (floorBytes n)
+      ≡ 8 * length (n .places) + (length (n .lanes) + 4 * partCount 3 (length (n .lanes)) + (length (n .carts) + 4 * partCount 2 (length (n .carts))))
+  length-floor =
+      let a = length-places (n .places) in
+      let b = length-laid 2 3 (n .lanes) (omega arith) in
+      let c = length-laid 3 2 (n .carts) (omega arith) in
+      length-three ∙ ap₂ _+_ a (ap₂ _+_ b c)
+
+  -- reading it judges places, lanes and carts in turn
+  pub read-numbers : length (floorBytes n) ≤ 65536 → readFloor (floorBytes n) ≡ ending (walkOn (walkOn (walk nothing 0 (placesOf n)) (lanesOf n)) (cartsOf n)) false
+  unfolding readFloor
+  read-numbers h =
+      ap (λ (b : Bool). cond b (Refused (refused 1 0)) (readOn nothing 0 (recordsIn (floorBytes n)))) (le-ltb 65536 (length (floorBytes n)) h)
+      ∙ ap (readOn nothing 0) (records-layout (floorRecords n) (floor-encodable n))
+      ∙ ap (λ (w : Walked). ending w false) (walk-append nothing 0 (placesOf n) ((lanesOf n) ++ (cartsOf n)) ∙ on-append (walk nothing 0 (placesOf n)) (lanesOf n) (cartsOf n))
+
+  -- within a file's length throughout
+  module _ (h : length (floorBytes n) ≤ 65536) where
+    up-to-places : UpTo 65536 (walk nothing 0 (placesOf n)) (length (layout (lanesOf n)) + (length (layout (cartsOf n)) + 0))
+    up-to-places = walk-up-to 65536 nothing 0 (placesOf n) (length (layout (lanesOf n)) + (length (layout (cartsOf n)) + 0)) (omega (arith, length-three))
+
+    pub up-to-lanes : UpTo 65536 (walk nothing 0 (placesOf n)) (length (layout (lanesOf n)))
+    up-to-lanes = walk-up-to 65536 nothing 0 (placesOf n) (length (layout (lanesOf n))) (omega (arith, length-three))
+
+    pub up-to-carts : UpTo 65536 (walkOn (walk nothing 0 (placesOf n)) (lanesOf n)) (length (layout (cartsOf n)))
+    up-to-carts = on-up-to 65536 (walk nothing 0 (placesOf n)) (lanesOf n) (length (layout (cartsOf n)))
+        (walk-up-to 65536 nothing 0 (placesOf n) (length (layout (lanesOf n)) + length (layout (cartsOf n))) (omega (arith, length-three)))
+
+    pub up-to-end : UpTo 65536 (walkOn (walkOn (walk nothing 0 (placesOf n)) (lanesOf n)) (cartsOf n)) 0
+    up-to-end = on-up-to 65536 (walkOn (walk nothing 0 (placesOf n)) (lanesOf n)) (cartsOf n) 0
+        (on-up-to 65536 (walk nothing 0 (placesOf n)) (lanesOf n) (length (layout (cartsOf n)) + 0) up-to-places)

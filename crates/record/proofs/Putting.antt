@@ -1,11 +1,9 @@
 -- Records of one kind written one after the other: what holds before each turn.
-use Prim.Native.Nat.{ℕ, _+_, _-_, _≤_, _<_, min}
-use native.Mathlib.Nat.{min-le-right}
+use Prim.Native.Nat.{ℕ, _+_, _-_, _≤_}
 use native.Mathlib.Omega.{arith}
 use mathlib.Core.Path.{_≡_, refl, sym, ap, ap₂, _∙_}
 use mathlib.Core.List.{List, [], _++_, append-assoc, append-nil}
-use lib.ListN.{length, take, drop, length-append, length-drop, drop-of-length-le}
-use lib.Seq.{length-take-le}
+use lib.ListN.{length, take, drop, length-append, drop-of-length-le}
 use Rattle.record.specs.Record.{encoded}
 use Rattle.record.specs.Parts.{ofKind, laid}
 use Rattle.record.specs.Found.{stored}

@@ -1,6 +1,6 @@
 -- Parts and records laid out: one after the other, their lengths, and back again.
 use Prim.Native.Nat.{ℕ, zero, suc, _+_, _-_, _*_, _/_, _≤_, _<_, min}
-use native.Mathlib.Nat.{add-div-right, div-eq-of-lt, min-eq-left, min-eq-right, min-le-left, min-le-right, le-of-lt, add-sub-of-le}
+use native.Mathlib.Nat.{add-div-right, div-eq-of-lt, min-eq-left, min-eq-right, min-le-left, min-le-right, le-of-lt, add-sub-of-le, add-comm, mul-zero, mul-suc}
 use native.Mathlib.Omega.{arith}
 use mathlib.Core.Path.{_≡_, refl, sym, ap, ap₂, subst, _∙_}
 use mathlib.Core.Bool.{Bool, true, false}
@@ -180,3 +180,9 @@ parts-flatten size (x ∷ xs) p h =
     parts-step size l p (omega arith)
     ∙ ap₂ (λ (a : List ℕ) (b : List ℕ). a ∷ parts size b) (take-at x (flatten xs) (min size (length l)) m) (drop-at x (flatten xs) (min size (length l)) m)
     ∙ ap (λ (t : List (List ℕ)). x ∷ t) (parts-flatten size xs p (h .1))
+
+pub length-flatten : (size : ℕ) (bodies : List (List ℕ)) → AllOf size bodies → length (flatten bodies) ≡ size * length bodies
+unfolding flatten
+length-flatten size [] h = sym (mul-zero size)
+length-flatten size (x ∷ xs) h =
+    length-append x (flatten xs) ∙ ap₂ _+_ (h .0) (length-flatten size xs (h .1)) ∙ add-comm size (size * length xs) ∙ sym (mul-suc size (length xs))

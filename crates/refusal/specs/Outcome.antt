@@ -1,5 +1,6 @@
 -- What an operation that writes gives: its answer, and the lent buffer afterwards.
 use Prim.Native.Nat.{ℕ}
+use mathlib.Core.Path.{_≡_}
 use mathlib.Core.Bool.{cond}
 use mathlib.Core.List.{List, _++_}
 use lib.Dec.{ltb}
@@ -23,3 +24,8 @@ written about bytes out =
     cond (ltb (length out) (length bytes))
     (unchanged (about (refused 18 (length bytes))) out)
     (record { answer = Written (length bytes); out = bytes ++ drop (length bytes) out })
+
+-- an answer and a buffer afterwards that are those of a definition
+pub record Gives (o : Outcome) (v : Verdict) (after : List ℕ) : Type 0 where
+  pub answer : v ≡ o .answer
+  pub out : after ≡ o .out

@@ -1,0 +1,96 @@
+// One record of a floor, judged behind those already counted.
+use crate::Floor;
+use crate::Judged;
+ghost use mathlib.Core.Path.{_≡_};
+ghost use Rattle.floor.specs.Floor.{place, lane, cart, kindOf, judged};
+
+fn judge_place(f: Floor, body: &[u8]) -> Judged
+    ensures { λ r. ⌜ r ≡ judged f place (now (body .entry)) ⌝ }
+{
+    if 0 < f.lanes {
+        return Judged::Fault(3);
+    }
+    if 0 < f.carts {
+        return Judged::Fault(3);
+    }
+    if body.len() != 4 {
+        return Judged::Fault(4);
+    }
+    if 256 <= f.places {
+        return Judged::Fault(5);
+    }
+    Judged::Good(Floor {
+        places: f.places + 1,
+        lanes: f.lanes,
+        carts: f.carts,
+    })
+}
+
+fn judge_lane(f: Floor, body: &[u8]) -> Judged
+    ensures { λ r. ⌜ r ≡ judged f lane (now (body .entry)) ⌝ }
+{
+    if 0 < f.carts {
+        return Judged::Fault(3);
+    }
+    if body.len() != 3 {
+        return Judged::Fault(4);
+    }
+    if 1024 <= f.lanes {
+        return Judged::Fault(5);
+    }
+    if f.places <= wide(body[0]) {
+        return Judged::Fault(6);
+    }
+    if f.places <= wide(body[1]) {
+        return Judged::Fault(6);
+    }
+    Judged::Good(Floor {
+        places: f.places,
+        lanes: f.lanes + 1,
+        carts: f.carts,
+    })
+}
+
+fn judge_cart(f: Floor, body: &[u8]) -> Judged
+    ensures { λ r. ⌜ r ≡ judged f cart (now (body .entry)) ⌝ }
+{
+    if body.len() != 2 {
+        return Judged::Fault(4);
+    }
+    if 32 <= f.carts {
+        return Judged::Fault(5);
+    }
+    if 7 < body[0] {
+        return Judged::Fault(6);
+    }
+    if f.places <= wide(body[1]) {
+        return Judged::Fault(6);
+    }
+    Judged::Good(Floor {
+        places: f.places,
+        lanes: f.lanes,
+        carts: f.carts + 1,
+    })
+}
+
+fn wide(b: u8) -> usize
+    ensures { λ r. ⌜ r ≡ b ⌝ }
+{
+    b as usize
+}
+
+// Judges a record by its kind and body, behind those already counted.
+pub fn judge(f: Floor, kind: u16, body: &[u8]) -> Judged
+    ensures { λ r. ⌜ r ≡ judged f (kindOf kind) (now (body .entry)) ⌝ }
+{
+    if kind == 1 {
+        return judge_place(f, body);
+    }
+    if kind == 2 {
+        return judge_lane(f, body);
+    }
+    if kind == 3 {
+        return judge_cart(f, body);
+    }
+    Judged::Fault(3)
+}

@@ -1,0 +1,156 @@
+// Writing a floor.
+use crate::Floor;
+use crate::FloorAnswer;
+use crate::Judged;
+use crate::Walked;
+use crate::judging::judge;
+use crate::reading::at_end;
+use refusal::Verdict;
+ghost use mathlib.Core.Path.{_≡_};
+ghost use mathlib.Core.Bool.{false};
+ghost use mathlib.Core.List.{map};
+ghost use Prim.Native.Nat.{_+_, _*_, _≤_, _<_, min};
+ghost use lib.ListN.{length};
+ghost use Rattle.refusal.specs.Outcome.{written, Gives};
+ghost use Rattle.refusal.specs.declared.Verdict.the-variants.{Floor as AboutFloor};
+ghost use Rattle.record.specs.Record.{layout};
+ghost use Rattle.record.specs.Found.{stored};
+ghost use Rattle.record.specs.Parts.{parts, ofKind, laid};
+ghost use Rattle.record.specs.Laid.{partCount};
+ghost use Rattle.floor.specs.Floor.{walk, ending, nothing, readFloor};
+ghost use Rattle.floor.specs.Promises.{FloorWritten};
+ghost use Rattle.floor.specs.Walk.{walkOn, UpTo};
+ghost use Rattle.floor.specs.Numbers.{placeRecord, floorBytes, numbers};
+
+// Judges records of one kind, so many bytes of the bodies to each, that are laid out from an offset on.
+fn walk_parts(f: Floor, at: usize, kind: u16, size: usize, bodies: &[u8]) -> Walked
+    requires { ⌜ (0 < size) × (at + length (laid kind size (now bodies)) ≤ 65536) ⌝ }
+    ensures { λ r. ⌜ r ≡ walk f at (map (ofKind kind) (parts size (now (bodies .entry)))) ⌝ }
+{
+    let mut g = f;
+    let mut next = at;
+    let mut i: usize = 0;
+    while i < bodies.len() {
+        let end = record::part_end(i, size, bodies.len());
+        match judge(g, kind, &bodies[i..end]) {
+            Judged::Good(h) => {
+                g = h;
+                next = next + 4 + (end - i);
+                i = end;
+            }
+            Judged::Fault(n) => {
+                return Walked::Stopped(refusal::at_offset(n, next as u32));
+            }
+        }
+    }
+    Walked::At(g, next)
+}
+
+// Judges place records laid out from the start on: nothing but their number can be wrong.
+fn walk_places(places: &[u32]) -> Walked
+    ensures { λ r. ⌜ r ≡ walk nothing 0 (map placeRecord (now (places .entry))) ⌝ }
+{
+    let n = places.len();
+    if 256 < n {
+        return Walked::Stopped(refusal::at_offset(5, 2048));
+    }
+    Walked::At(
+        Floor {
+            places: n,
+            lanes: 0,
+            carts: 0,
+        },
+        n * 8,
+    )
+}
+
+// The length of a floor laid out, or 65,537 if it is longer than a file may be.
+fn laid_size(places: usize, lanes: usize, carts: usize) -> usize
+    ensures { λ r. ⌜ r ≡ min 65537 (8 * places + (lanes + 4 * partCount 3 lanes + (carts + 4 * partCount 2 carts))) ⌝ }
+{
+    if 65536 < places {
+        return 65537;
+    }
+    if 65536 < lanes {
+        return 65537;
+    }
+    if 65536 < carts {
+        return 65537;
+    }
+    let n = places * 8 + (lanes + (lanes + 2) / 3 * 4 + (carts + (carts + 1) / 2 * 4));
+    if 65536 < n { 65537 } else { n }
+}
+
+// The same behind records already judged, if none of those was refused.
+fn walk_on(w: Walked, kind: u16, size: usize, bodies: &[u8]) -> Walked
+    requires { ⌜ (0 < size) × UpTo 65536 w (length (laid kind size (now bodies))) ⌝ }
+    ensures { λ r. ⌜ r ≡ walkOn w (map (ofKind kind) (parts size (now (bodies .entry)))) ⌝ }
+{
+    match w {
+        Walked::At(f, at) => walk_parts(f, at, kind, size, bodies),
+        Walked::Stopped(r) => Walked::Stopped(r),
+    }
+}
+
+// The answer behind the last record.
+fn answer(w: Walked) -> FloorAnswer
+    requires { ⌜ UpTo 65536 w 0 ⌝ }
+    ensures { λ r. ⌜ r ≡ ending w false ⌝ }
+{
+    match w {
+        Walked::At(f, at) => at_end(f, at),
+        Walked::Stopped(r) => FloorAnswer::Refused(r),
+    }
+}
+
+// Judges a floor's numbers as reading their records would.
+fn judge_numbers(places: &[u32], lanes: &[u8], carts: &[u8]) -> FloorAnswer
+    ensures { λ r. ⌜ r ≡ readFloor (floorBytes (numbers (now (places .entry)) (now (lanes .entry)) (now (carts .entry)))) ⌝ }
+{
+    if 65536 < laid_size(places.len(), lanes.len(), carts.len()) {
+        return FloorAnswer::Refused(refusal::at_offset(1, 0));
+    }
+    let p = walk_places(places);
+    let l = walk_on(p, 2, 3, lanes);
+    let c = walk_on(l, 3, 2, carts);
+    answer(c)
+}
+
+// Writes places from the start of a buffer on, and returns where they end. Every other byte stays.
+fn put_places(out: &mut [u8], places: &[u32]) -> usize
+    requires { ⌜ length (layout (map placeRecord (now places))) ≤ length (now out) ⌝ }
+    ensures { λ r. ⌜ r ≡ length (layout (map placeRecord (now (places .entry)))) ⌝ }
+    ensures { λ _. ⌜ now (out .exit) ≡ stored (now (out .entry)) 0 (layout (map placeRecord (now (places .entry)))) ⌝ }
+{
+    let mut i: usize = 0;
+    while i < places.len() {
+        record::put(out, i * 8, 1, &endian::bytes32(places[i]));
+        i += 1;
+    }
+    i * 8
+}
+
+// Writes a floor's numbers as a file, or refuses them as reading that file would.
+pub fn write(places: &[u32], lanes: &[u8], carts: &[u8], out: &mut [u8]) -> Verdict
+    ensures { λ v. ⌜ FloorWritten (numbers (now (places .entry)) (now (lanes .entry)) (now (carts .entry))) (now (out .entry)) v (now (out .exit)) ⌝ }
+{
+    match judge_numbers(places, lanes, carts) {
+        FloorAnswer::Refused(r) => Verdict::Floor(r),
+        FloorAnswer::Read(_) => put_numbers(places, lanes, carts, out),
+    }
+}
+
+// Writes a floor's numbers that reading would accept, if there is room.
+fn put_numbers(places: &[u32], lanes: &[u8], carts: &[u8], out: &mut [u8]) -> Verdict
+    requires { ⌜ length (floorBytes (numbers (now places) (now lanes) (now carts))) ≤ 65536 ⌝ }
+    ensures { λ v. ⌜ Gives (written AboutFloor (floorBytes (numbers (now (places .entry)) (now (lanes .entry)) (now (carts .entry)))) (now (out .entry))) v (now (out .exit)) ⌝ }
+{
+    let n = laid_size(places.len(), lanes.len(), carts.len());
+    if out.len() < n {
+        return Verdict::Floor(refusal::at_offset(18, n as u32));
+    }
+    let lanes_at = put_places(out, places);
+    let carts_at = record::put_parts(out, lanes_at, 2, 3, lanes);
+    record::put_parts(out, carts_at, 3, 2, carts);
+    Verdict::Written(n as u32)
+}

@@ -1,0 +1,39 @@
+-- Writing, by whether there is room; and a buffer to which bytes were written begins with them.
+use Prim.Native.Nat.{ℕ, _≤_, _<_}
+use mathlib.Core.Path.{_≡_, sym, ap₂, _∙_}
+use mathlib.Core.Bool.{Bool, true, false, cond}
+use mathlib.Core.List.{List, _++_}
+use lib.Dec.{ltb}
+use borrow.Author.Tests.{lt-ltb, le-ltb}
+use lib.ListN.{length, take, drop}
+use lib.Seq.{take-append-seam}
+use Rattle.refusal.specs.Codes.{refused}
+use Rattle.refusal.specs.Outcome.{unchanged, written, Gives}
+use Rattle.refusal.specs.declared.Refusal.{Refusal}
+use Rattle.refusal.specs.declared.Verdict.{Verdict}
+use Rattle.refusal.specs.declared.Verdict.the-variants.{Written}
+
+pub gives-short : (about : Refusal → Verdict) (bytes before : List ℕ) (v : Verdict) → length before < length bytes → v ≡ about (refused 18 (length bytes))
+    → Gives (written about bytes before) v before
+gives-short about bytes before v h e =
+    let t = lt-ltb (length before) (length bytes) h in
+    record { answer = e ∙ simp t; out = simp t }
+
+pub gives-written : (about : Refusal → Verdict) (bytes before : List ℕ) (v : Verdict) (after : List ℕ) → length bytes ≤ length before
+    → v ≡ Written (length bytes) → after ≡ bytes ++ drop (length bytes) before → Gives (written about bytes before) v after
+gives-written about bytes before v after h e q =
+    let t = le-ltb (length before) (length bytes) h in
+    record { answer = e ∙ simp t; out = q ∙ simp t }
+
+module _ (about : Refusal → Verdict) (apart : (r : Refusal) (k : ℕ) → about r ≡ Written k → ⊥) (bytes before : List ℕ) (v : Verdict) (after : List ℕ) (k : ℕ) where
+  pub written-front : Gives (written about bytes before) v after → v ≡ Written k → take k after ≡ bytes
+  written-front g e = go (ltb (length before) (length bytes)) (g .answer) (g .out)
+    where
+      go : (b : Bool)
+          → v ≡ (cond b (unchanged (about (refused 18 (length bytes))) before) (record { answer = Written (length bytes); out = bytes ++ drop (length bytes) before })) .answer
+          → after ≡ (cond b (unchanged (about (refused 18 (length bytes))) before) (record { answer = Written (length bytes); out = bytes ++ drop (length bytes) before })) .out
+          → take k after ≡ bytes
+      go true p q = absurd (apart (refused 18 (length bytes)) k (sym p ∙ e))
+      go false p q =
+          let n : k ≡ length bytes = cc in
+          ap₂ take n q ∙ take-append-seam bytes (drop (length bytes) before)
