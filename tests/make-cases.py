@@ -29,8 +29,8 @@ def lane(start, end, classes=255):
     return record(2, [start, end, classes])  # 7 bytes
 
 
-def cart(group, start):
-    return record(3, [group, start])  # 6 bytes
+def cart(class_, start):
+    return record(3, [class_, start])  # 6 bytes
 
 
 def head(h, l=0, d=0):

@@ -4,8 +4,9 @@ use native.Mathlib.Nat.{pow-suc}
 use native.Mathlib.Omega.{arith}
 use mathlib.Core.Path.{_≡_, refl, sym, ap, ap₂, _∙_}
 use mathlib.Core.List.{List, [], _∷_}
-use lib.ListN.{length, take, drop}
-use lib.Seq.{getD-drop}
+use lib.ListN.{length, take, drop, getD}
+use lib.Seq.{getD-drop, drop-cons}
+use native.Mathlib.Numerals.{add-one}
 use lib.Arith.{lt-one}
 use Rattle.endian.specs.Little.{bytes, value, Bytes}
 
@@ -46,3 +47,10 @@ bytes-take (suc n) (b ∷ l) h (suc i) = bytes-take n l (λ j. h (suc j)) i
 
 pub bytes-drop : (n : ℕ) (l : List ℕ) → Bytes l → Bytes (drop n l)
 bytes-drop n l h i = rw getD-drop (h (n + i))
+
+-- two bytes from an offset on
+pub two-at : (s : List ℕ) (k : ℕ) → k + 1 < length s → take 2 (drop k s) ≡ getD s k 0 ∷ getD s (k + 1) 0 ∷ []
+two-at s k h =
+    let one : k < length s = omega arith in
+    let more : suc k < length s = omega arith in
+    rw (drop-cons s k 0, drop-cons s (suc k) 0, add-one)

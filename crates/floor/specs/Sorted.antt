@@ -2,12 +2,12 @@
 use Prim.Native.Nat.{ℕ, zero, suc, _+_, _≤_, _<_}
 use native.Mathlib.Omega.{arith}
 use mathlib.Core.Path.{_≡_, refl, sym, ap, ap₂, subst, _∙_}
-use mathlib.Core.Bool.{Bool, true, false, not, _||_}
+use mathlib.Core.Bool.{Bool, true, false, not}
 use mathlib.Core.List.{List, [], _∷_, _++_, map}
 use lib.Dec.{eqb, ltb}
 use lib.ListN.{length}
 use borrow.Author.Tests.{eqb-true, ltb-false, leb-false}
-use Rattle.refusal.specs.Faults.{none-holds, not-not}
+use Rattle.refusal.specs.Faults.{none-holds, not-not, either-false}
 use Rattle.record.specs.Record.{Record}
 use Rattle.record.specs.Parts.{ofKind}
 use Rattle.record.specs.Laid.{AllOf}
@@ -62,10 +62,6 @@ pub record Sorted (f g : Floor) (rs : List Record) : Type 0 where
   pub lanes : g .lanes ≡ f .lanes + length (bodiesOf 2 rs)
   pub carts : g .carts ≡ f .carts + length (bodiesOf 3 rs)
   pub within : Within f → Within g
-
-either-false : (a b : Bool) → a || b ≡ false → (a ≡ false) × (b ≡ false)
-either-false true b e = let z : _≡_ {A = ℕ} 0 1 = cc in absurd (omega arith)
-either-false false b e = (refl, e)
 
 -- one record more in front
 module _ (body : List ℕ) (rs : List Record) (f h g : Floor) (s : Sorted h g rs) where

@@ -1,39 +1,32 @@
 -- The header at an offset, byte by byte, and what is found there.
-use Prim.Native.Nat.{ℕ, suc, _+_, _-_, _≤_, _<_}
-use native.Mathlib.Numerals.{add-one}
+use Prim.Native.Nat.{ℕ, _+_, _-_, _≤_, _<_}
 use native.Mathlib.Omega.{arith}
 use mathlib.Core.Path.{_≡_, sym, ap, ap₂, _∙_}
 use mathlib.Core.Bool.{Bool, true, false, _&&_}
 use mathlib.Core.List.{List, [], _∷_}
 use lib.Dec.{leb}
 use lib.ListN.{length, take, drop, getD, length-drop}
-use lib.Seq.{drop-cons, drop-drop}
+use lib.Seq.{drop-drop}
 use borrow.Author.Tests.{le-leb, lt-leb}
 use Rattle.endian.specs.Little.{value}
+use Rattle.endian.specs.RoundTrip.{two-at}
 use Rattle.record.specs.Record.{joined, whole, front, behind, sizeIn, kindIn, recordsIn}
 use Rattle.record.specs.Found.{foundIn, foundAt}
 use Rattle.record.specs.Opened.{goes-on, past-end, body-size}
 use Rattle.record.specs.declared.Found.the-variants.{End, Cut, Whole}
-
--- two bytes from an offset on
-pub two : (s : List ℕ) (k : ℕ) → k + 1 < length s → take 2 (drop k s) ≡ getD s k 0 ∷ getD s (k + 1) 0 ∷ []
-two s k h =
-    let one : k < length s = omega arith in
-    let more : suc k < length s = omega arith in
-    rw (drop-cons s k 0, drop-cons s (suc k) 0, add-one)
 
 pub none : (s : List ℕ) (at : ℕ) → length s ≤ at → End ≡ foundAt s at
 none s at h = sym (ap (foundIn at) (past-end s at h))
 
 module _ (s : List ℕ) (at : ℕ) (more : at < length s) where
   size-at : at + 4 ≤ length s → sizeIn (drop at s) ≡ value (getD s at 0 ∷ getD s (at + 1) 0 ∷ [])
-  size-at h = ap value (two s at (omega arith))
+  size-at h = ap value (two-at s at (omega arith))
 
   kind-at : at + 4 ≤ length s → kindIn (drop at s) ≡ value (getD s (at + 2) 0 ∷ getD s (at + 3) 0 ∷ [])
   kind-at h =
       let next : at + 2 + 1 ≡ at + 3 = omega arith in
       ap (λ (t : List ℕ). value (take 2 t)) (drop-drop 2 at s)
-      ∙ ap value (two s (at + 2) (omega arith))
+      ∙ ap value (two-at s (at + 2) (omega arith))
       ∙ ap (λ (k : ℕ). value (getD s (at + 2) 0 ∷ getD s k 0 ∷ [])) next
 
   -- what is found, by whether the record is whole

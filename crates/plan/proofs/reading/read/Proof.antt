@@ -1,0 +1,41 @@
+use mathlib.Core.Path.{sym, ap, _∙_}
+use Rattle.floor.specs.declared.FloorAnswer.{FloorAnswer}
+use Rattle.plan.specs.Plan.{onFloor, readBoth}
+use borrow.Author.Needs.{needs}
+use Rattle.plan.proofs.reading.read.Statement.{statement}
+use Rattle.plan.proofs.reading.read.Tie as tie
+
+read-requires : tie.Need-read-requires
+read-requires c κs = search needs
+
+enum-known-r : tie.Need-enum-known-r
+enum-known-r c = search needs
+
+refuse-requires : tie.Need-refuse-requires
+refuse-requires c κs = search needs
+
+enum-known-f : tie.Need-enum-known-f
+enum-known-f c = search needs
+
+read-for-requires : tie.Need-read-for-requires
+read-for-requires c κs = search needs
+
+returns : tie.Need-returns
+unfolding readBoth
+returns c = c .refuse .ensures ∙ sym (ap (λ (x : FloorAnswer). onFloor x (c .before .before .before .before .before .before .before .args .plan .now)) (sym (c .before .before .before .before .read .ensures .answer) ∙ c .before .before .r .given .1))
+
+returns-2 : tie.Need-returns-2
+unfolding readBoth
+returns-2 c = c .read-for .ensures ∙ sym (ap (λ (x : FloorAnswer). onFloor x (c .before .before .before .before .before .before .before .args .plan .now)) (sym (c .before .before .before .before .read .ensures .answer) ∙ c .before .before .f .given .1))
+
+pub read-spec : {M : Type 1} → statement M
+read-spec =
+    tie.close
+    (tie.spec
+    read-requires
+    enum-known-r
+    refuse-requires
+    enum-known-f
+    read-for-requires
+    returns
+    returns-2)

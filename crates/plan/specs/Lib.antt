@@ -1,0 +1,4 @@
+pub mod Plan
+pub mod Phases
+pub mod Block
+pub mod Passed

@@ -1,0 +1,46 @@
+// Plans: a head and a row of places for each cart.
+mod heads;
+mod reading;
+mod rows;
+
+use floor::Floor;
+pub use heads::judge_head;
+pub use reading::read;
+pub use reading::read_for;
+use refusal::Refusal;
+use refusal::Verdict;
+pub use rows::judge_row;
+
+// A plan's steps, the first step of its lap, and its drift.
+pub struct Head {
+    pub steps: usize,
+    pub lap: usize,
+    pub drift: usize,
+}
+
+// The first record judged.
+pub enum HeadAnswer {
+    Good(Head),
+    Refused(Refusal),
+}
+
+// A row judged on its body: every place is on the floor, or its length is wrong, or the lowest step whose place is absent.
+pub enum RowAnswer {
+    Fits,
+    Length,
+    Absent(usize),
+}
+
+// An accepted plan: cart n's row begins at byte 64 n of the block.
+pub struct Plan {
+    pub head: Head,
+    pub carts: usize,
+    pub block: [u8; 2048],
+}
+
+// What reading a plan answers: the verdict and, if it is accepted, floor and plan.
+pub struct PlanRead {
+    pub verdict: Verdict,
+    pub floor: Floor,
+    pub plan: Plan,
+}
