@@ -1,3 +1,5 @@
 pub mod Steps
 pub mod RowTests
 pub mod Rowing
+pub mod JudgingRows
+pub mod Storing

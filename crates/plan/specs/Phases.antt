@@ -6,10 +6,12 @@ use lib.ListN.{drop}
 use Rattle.refusal.specs.Codes.{refused}
 use Rattle.record.specs.Record.{Record, Split, recordsIn}
 use Rattle.floor.specs.declared.Floor.{Floor}
-use Rattle.plan.specs.Plan.{PlanAnswer, judgedHead, readRows}
+use Rattle.plan.specs.Plan.{PlanAnswer, accepted, rejected, judgedHead, readRows}
 use Rattle.plan.specs.declared.Head.{Head}
 use Rattle.plan.specs.declared.HeadAnswer.{HeadAnswer}
 use Rattle.plan.specs.declared.HeadAnswer.the-variants.{Refused}
+use Rattle.plan.specs.declared.NumbersAnswer.{NumbersAnswer}
+use Rattle.plan.specs.declared.NumbersAnswer.the-variants.{Good as NumbersGood, Refused as NumbersRefused}
 
 abbrev pub headFirst : List Record → Bool → HeadAnswer
 headFirst [] true = Refused (refused 2 0)
@@ -21,3 +23,8 @@ headOf s = headFirst (s .records) (s .cut)
 
 abbrev pub rowsFrom : Floor → Head → List (List ℕ) → ℕ → List ℕ → PlanAnswer
 rowsFrom f h rows at s = readRows f h rows at (recordsIn (drop at s) .records) (recordsIn (drop at s) .cut)
+
+-- whether numbers are accepted, or their refusal
+abbrev pub judgedNumbers : PlanAnswer → NumbersAnswer
+judgedNumbers (accepted n) = NumbersGood
+judgedNumbers (rejected r) = NumbersRefused r

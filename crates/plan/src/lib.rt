@@ -2,6 +2,7 @@
 mod heads;
 mod reading;
 mod rows;
+mod writing;
 
 use floor::Floor;
 pub use heads::judge_head;
@@ -10,6 +11,7 @@ pub use reading::read_for;
 use refusal::Refusal;
 use refusal::Verdict;
 pub use rows::judge_row;
+pub use writing::write;
 
 // A plan's steps, the first step of its lap, and its drift.
 pub struct Head {
@@ -29,6 +31,12 @@ pub enum RowAnswer {
     Fits,
     Length,
     Absent(usize),
+}
+
+// A plan's numbers judged before they are written.
+pub enum NumbersAnswer {
+    Good,
+    Refused(Refusal),
 }
 
 // An accepted plan: cart n's row begins at byte 64 n of the block.

@@ -16,7 +16,8 @@ ghost use lib.ListN.{length};
 ghost use Rattle.refusal.specs.Codes.{refused};
 ghost use Rattle.refusal.specs.declared.Verdict.the-variants.{Plan as AboutPlan};
 ghost use Rattle.record.specs.Record.{recordsIn};
-ghost use Rattle.plan.specs.Plan.{refusedRead, planRead, readPlan, readBoth};
+ghost use Rattle.plan.specs.Plan.{refusedRead, planRead, readPlan};
+ghost use Rattle.plan.specs.Promises.{PlanReads};
 ghost use Rattle.plan.specs.Phases.{rowsFrom, headOf};
 
 // A refusal, with no floor and no plan.
@@ -117,7 +118,7 @@ pub fn read_for(f: Floor, s: &[u8]) -> PlanRead
 
 // Reads a floor, and a plan for it.
 pub fn read(floor: &[u8], plan: &[u8]) -> PlanRead
-    ensures { λ r. ⌜ r ≡ readBoth (now (floor .entry)) (now (plan .entry)) ⌝ }
+    ensures { λ r. ⌜ PlanReads (now (floor .entry)) (now (plan .entry)) r ⌝ }
 {
     match floor::read(floor) {
         FloorAnswer::Refused(r) => refuse(Verdict::Floor(r)),

@@ -10,7 +10,7 @@ use mathlib.Core.List.{List, [], _∷_, _++_, map, append-assoc, flatten}
 use lib.ListN.{length, take, drop, length-append, length-drop, take-append-drop, drop-of-length-le}
 use lib.Seq.{take-all, take-length, drop-length, drop-drop, take-at, drop-at, length-take-le}
 use Rattle.record.specs.Record.{Record, encoded, layout}
-use Rattle.record.specs.Parts.{parts, ofKind, laid}
+use Rattle.record.specs.Parts.{partsIn, parts, ofKind, laid}
 use Rattle.record.specs.Fuel.{parts-none, parts-open}
 use Rattle.record.specs.RoundTrip.{AllEncodable, length-encoded}
 
@@ -152,6 +152,25 @@ parts-encodable k size l h p q = parts-ind size p (λ l. AllEncodable (map (ofKi
         let t : length (take m l) ≡ m = length-take-le m l (min-le-right size (length l)) in
         subst (λ (x : List (List ℕ)). AllEncodable (map (ofKind k) x)) (sym (parts-step size l p b))
         (record { kind = h; size = omega (arith, min-le-left size (length l)) }, r)
+
+-- and so can records of one kind whose whole length is a file's
+pub short-encodable : (k : ℕ) (xs : List (List ℕ)) → k < 65536 → length (layout (map (ofKind k) xs)) ≤ 65536 → AllEncodable (map (ofKind k) xs)
+unfolding layout
+short-encodable k [] h l = tt
+short-encodable k (x ∷ xs) h l =
+    let a = length-append (encoded (ofKind k x)) (layout (map (ofKind k) xs)) in
+    let b = length-encoded (ofKind k x) in
+    (record { kind = h; size = omega arith }, short-encodable k xs h (omega arith))
+
+-- of size 0 there is one part, of all bytes
+pub length-whole : (k : ℕ) (l : List ℕ) → 0 < length l → length (laid k 0 l) ≡ 4 + length l
+unfolding layout parts partsIn
+length-whole k [] h = absurd (omega arith)
+length-whole k (b ∷ l) h =
+    let a = length-append (encoded (ofKind k (take (length (b ∷ l)) (b ∷ l)))) [] in
+    let c = length-encoded (ofKind k (take (length (b ∷ l)) (b ∷ l))) in
+    let d = ap length (take-length (b ∷ l)) in
+    a ∙ omega arith
 
 -- parts joined are what they were cut from
 pub flatten-parts : (size : ℕ) (l : List ℕ) → 0 < size → flatten (parts size l) ≡ l

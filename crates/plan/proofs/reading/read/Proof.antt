@@ -1,9 +1,21 @@
+use mathlib.Core.Path.{_≡_}
+use Prim.Native.Nat.{ℕ}
+use native.Mathlib.Omega.{arith}
+use mathlib.Core.List.{List}
+use Rattle.endian.specs.Little.{Bytes}
+use Rattle.plan.specs.Promises.{PlanReads}
+use Rattle.plan.specs.RoundTrip.{accepts}
+use Rattle.plan.specs.declared.PlanRead.{PlanRead}
 use mathlib.Core.Path.{sym, ap, _∙_}
 use Rattle.floor.specs.declared.FloorAnswer.{FloorAnswer}
 use Rattle.plan.specs.Plan.{onFloor, readBoth}
 use borrow.Author.Needs.{needs}
 use Rattle.plan.proofs.reading.read.Statement.{statement}
 use Rattle.plan.proofs.reading.read.Tie as tie
+
+-- the promise, from its first part
+promise : (floor s : List ℕ) (r : PlanRead) → Bytes s → r ≡ readBoth floor s → PlanReads floor s r
+promise floor s r b e = record { answer = e; writes-back = λ v. accepts floor s r b v e }
 
 read-requires : tie.Need-read-requires
 read-requires c κs = search needs
@@ -22,11 +34,15 @@ read-for-requires c κs = search needs
 
 returns : tie.Need-returns
 unfolding readBoth
-returns c = c .refuse .ensures ∙ sym (ap (λ (x : FloorAnswer). onFloor x (c .before .before .before .before .before .before .before .args .plan .now)) (sym (c .before .before .before .before .read .ensures .answer) ∙ c .before .before .r .given .1))
+returns c =
+    promise _ _ _ (λ i. omega (arith, c .before .before .before .before .before .shared-slice-known2 .given i))
+    (c .refuse .ensures ∙ sym (ap (λ (x : FloorAnswer). onFloor x (c .before .before .before .before .before .before .before .args .plan .now)) (sym (c .before .before .before .before .read .ensures .answer) ∙ c .before .before .r .given .1)))
 
 returns-2 : tie.Need-returns-2
 unfolding readBoth
-returns-2 c = c .read-for .ensures ∙ sym (ap (λ (x : FloorAnswer). onFloor x (c .before .before .before .before .before .before .before .args .plan .now)) (sym (c .before .before .before .before .read .ensures .answer) ∙ c .before .before .f .given .1))
+returns-2 c =
+    promise _ _ _ (λ i. omega (arith, c .before .before .before .before .before .shared-slice-known2 .given i))
+    (c .read-for .ensures ∙ sym (ap (λ (x : FloorAnswer). onFloor x (c .before .before .before .before .before .before .before .args .plan .now)) (sym (c .before .before .before .before .read .ensures .answer) ∙ c .before .before .f .given .1)))
 
 pub read-spec : {M : Type 1} → statement M
 read-spec =

@@ -1,0 +1,20 @@
+use mathlib.Core.Path.{sym, ap}
+use Rattle.controller.specs.Edge.{floorVerdict}
+use borrow.Author.Needs.{needs}
+use Rattle.controller.proofs.floor_verdict.Statement.{statement}
+use Rattle.controller.proofs.floor_verdict.Tie as tie
+
+enum-told : tie.Need-enum-told
+enum-told c = search needs
+
+enum-known-a : tie.Need-enum-known-a
+enum-known-a c = search needs
+
+returns : tie.Need-returns
+returns c = sym (ap floorVerdict (c .enum-told .given .1))
+
+returns-2 : tie.Need-returns-2
+returns-2 c = sym (ap floorVerdict (c .before .a .given .1))
+
+pub floor-verdict-spec : {M : Type 1} → statement M
+floor-verdict-spec = tie.close (tie.spec enum-told enum-known-a returns returns-2)

@@ -1,0 +1,65 @@
+use Prim.Native.Nat.{ℕ}
+use native.Mathlib.Omega.{arith}
+use mathlib.Core.Path.{_≡_, refl, sym, subst, _∙_}
+use mathlib.Core.List.{List}
+use Rattle.refusal.specs.Outcome.{Gives}
+use Rattle.refusal.specs.declared.Verdict.{Verdict}
+use Rattle.floor.specs.Floor.{readFloor}
+use Rattle.floor.specs.declared.FloorAnswer.{FloorAnswer}
+use Rattle.plan.specs.Numbers.{headOf, byFloor, writePlan}
+use Rattle.plan.specs.Promises.{PlanWritten}
+use Rattle.plan.specs.RoundTrip.{Narrow, reads-back}
+use Rattle.plan.specs.declared.Head.{Head}
+use borrow.Author.Needs.{needs}
+use Rattle.plan.proofs.writing.write.Statement.{statement}
+use Rattle.plan.proofs.writing.write.Tie as tie
+
+abbrev head : tie.Start → Head
+head c = headOf (c .args .steps) (c .args .lap) (c .args .drift)
+
+narrow : (c : tie.Start) → Narrow (head c)
+narrow c = record { steps = omega (arith, c .fits .steps); lap = omega (arith, c .fits .lap); drift = omega (arith, c .fits .drift) }
+
+promise : (floor : List ℕ) (h : Head) (rows before : List ℕ) (v : Verdict) (after : List ℕ) → Narrow h → (a : FloorAnswer) → readFloor floor ≡ a
+    → Gives (byFloor a h rows before) v after → PlanWritten floor h rows before v after
+unfolding writePlan
+promise floor h rows before v after w a e g =
+    let o : Gives (writePlan floor h rows before) v after = subst (λ (x : FloorAnswer). Gives (byFloor x h rows before) v after) (sym e) g in
+    record { outcome = o; reads-back = λ k q. reads-back floor h rows before v after w k q o }
+
+read-requires : tie.Need-read-requires
+read-requires c κs = search needs
+
+enum-known-r : tie.Need-enum-known-r
+enum-known-r c = search needs
+
+enum-known-f : tie.Need-enum-known-f
+enum-known-f c = search needs
+
+write-for-requires : tie.Need-write-for-requires
+write-for-requires c κs = search needs
+
+returns : tie.Need-returns
+returns c =
+    let a = c .before .before .before .before .before .before .before .args in
+    promise (a .floor .now) (head (c .before .before .before .before .before .before .before)) (a .rows .now) (a .out .now) _ _ (narrow (c .before .before .before .before .before .before .before)) _ (sym (c .before .before .before .read .ensures .answer) ∙ c .before .r .given .1) (record { answer = refl; out = refl })
+
+same-length : tie.Need-same-length
+same-length c = search needs
+
+returns-2 : tie.Need-returns-2
+returns-2 c =
+    let a = c .before .before .before .before .before .before .before .before .before .before .before .args in
+    promise (a .floor .now) (head (c .before .before .before .before .before .before .before .before .before .before .before)) (a .rows .now) (a .out .now) _ _ (narrow (c .before .before .before .before .before .before .before .before .before .before .before)) _ (sym (c .before .before .before .before .before .before .before .read .ensures .answer) ∙ c .before .before .before .before .before .f .given .1) (c .before .before .write-for .ensures)
+
+pub write-spec : {M : Type 1} → statement M
+write-spec =
+    tie.close
+    (tie.spec
+    read-requires
+    enum-known-r
+    enum-known-f
+    write-for-requires
+    returns
+    same-length
+    returns-2)
