@@ -4,3 +4,4 @@ pub mod Promises
 pub mod Sorted
 pub mod RoundTrip
 pub mod Walk
+pub mod Located

@@ -1,14 +1,16 @@
 -- The numbers that a floor holds, and writing them.
-use Prim.Native.Nat.{ℕ}
+use Prim.Native.Nat.{ℕ, _+_, _*_}
 use mathlib.Core.Bool.{cond}
 use mathlib.Core.List.{List, [], _∷_, _++_, map, flatten}
 use lib.Dec.{eqb}
+use lib.ListN.{take, drop}
 use Rattle.endian.specs.Little.{bytes, value}
 use Rattle.refusal.specs.Outcome.{Outcome, unchanged, written}
 use Rattle.refusal.specs.declared.Verdict.the-variants.{Floor as AboutFloor}
 use Rattle.record.specs.Record.{Record, layout, recordsIn}
 use Rattle.record.specs.Parts.{parts, ofKind}
 use Rattle.floor.specs.Floor.{readFloor}
+use Rattle.floor.specs.declared.Floor.{Floor}
 use Rattle.floor.specs.declared.FloorAnswer.{FloorAnswer}
 use Rattle.floor.specs.declared.FloorAnswer.the-variants.{Read, Refused}
 
@@ -52,6 +54,20 @@ numbersIn rs = record { places = map value (bodiesOf 1 rs); lanes = flatten (bod
 
 abbrev pub numbersOf : List ℕ → Numbers
 numbersOf s = numbersIn (recordsIn s .records)
+
+-- the offset of a place's, a lane's and a cart's record
+abbrev pub placeAt : ℕ → ℕ
+placeAt i = 8 * i
+
+abbrev pub laneAt : Floor → ℕ → ℕ
+laneAt f j = 8 * f .places + 7 * j
+
+abbrev pub cartAt : Floor → ℕ → ℕ
+cartAt f n = 8 * f .places + (7 * f .lanes + 6 * n)
+
+-- the body of so many bytes in the record at an offset
+abbrev pub bodyAt : ℕ → ℕ → List ℕ → List ℕ
+bodyAt size at s = take size (drop (at + 4) s)
 
 -- "Numbers that no file could give are refused as reading their file would be, then 18."
 abbrev pub byReading : FloorAnswer → List ℕ → List ℕ → Outcome

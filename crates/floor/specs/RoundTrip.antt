@@ -20,7 +20,6 @@ use Rattle.refusal.specs.Held.{written-front}
 use Rattle.refusal.specs.declared.Refusal.{Refusal}
 use Rattle.refusal.specs.declared.Verdict.{Verdict}
 use Rattle.refusal.specs.declared.Verdict.the-variants.{Written, Floor as AboutFloor}
-use Rattle.floor.specs.Promises.{Counts}
 use Rattle.floor.specs.Floor.{walk, ending, nothing, readOn, readFloor}
 use Rattle.floor.specs.Numbers.{Numbers, placeRecord, floorRecords, floorBytes, bodiesOf, numbersIn, numbersOf, byReading, writeFloor}
 use Rattle.floor.specs.Sorted.{Sorted, Within, sorted}
@@ -180,17 +179,6 @@ bytes-back s f b e =
     (ap₂ (λ (x y : List (List ℕ)). map (ofKind 2) x ++ map (ofKind 3) y) (parts-flatten 3 l (omega arith) (o .lane-sizes)) (parts-flatten 2 c (omega arith) (o .cart-sizes)))
     ∙ sym (o .in-order))
     ∙ layout-records s b (whole s f e .uncut)
-
--- as many as are counted
-pub counts : (s : List ℕ) (f : Floor) → readFloor s ≡ Read f → Counts f (numbersOf s)
-counts s f e =
-    let o = accepted-sorted s f e in
-    let rs = recordsIn s .records in
-    record {
-      places = length-map (bodiesOf 1 rs) value ∙ sym (o .places ∙ zero-add (length (bodiesOf 1 rs)));
-      lanes = length-flatten 3 (bodiesOf 2 rs) (o .lane-sizes) ∙ ap (λ (k : ℕ). 3 * k) (sym (o .lanes ∙ zero-add (length (bodiesOf 2 rs))));
-      carts = length-flatten 2 (bodiesOf 3 rs) (o .cart-sizes) ∙ ap (λ (k : ℕ). 2 * k) (sym (o .carts ∙ zero-add (length (bodiesOf 3 rs))));
-    }
 
 -- what is written reads back as the same numbers
 about-floor : (r : Refusal) (k : ℕ) → AboutFloor r ≡ Written k → ⊥

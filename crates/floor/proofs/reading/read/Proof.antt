@@ -1,7 +1,7 @@
 use Rattle.endian.specs.Little.{Bytes}
 use mathlib.Core.List.{List}
 use Rattle.floor.specs.Promises.{FloorRead}
-use Rattle.floor.specs.RoundTrip.{bytes-back, counts}
+use Rattle.floor.specs.Located.{accepts}
 use Rattle.floor.specs.declared.FloorAnswer.{FloorAnswer}
 use Rattle.record.specs.Found.{foundAt}
 use Rattle.record.specs.declared.Found.the-variants.{Whole}
@@ -27,7 +27,7 @@ abbrev μ-loop : tie.MeasureT-loop
 -- the record that was found, and what that tells of the file
 -- the promise, from its first part
 promise : (s : List ℕ) (r : FloorAnswer) → Bytes s → r ≡ readFloor s → FloorRead s r
-promise s r b e = record { answer = e; writes-back = λ f q. (bytes-back s f b (sym e ∙ q), counts s f (sym e ∙ q)) }
+promise s r b e = record { answer = e; accepted = λ f q. accepts s f b (sym e ∙ q) }
 
 found : (c : tie.After-known-told Inv-loop μ-loop)
     → foundAt (c .before .before .before .before .before .before .before .args .s .now) (c .before .before .before .before .loop .at) ≡ Whole (c .before .kind .given .0 .0) (c .before .kind .given .0 .1 .0) (c .before .kind .given .0 .1 .1 .0)

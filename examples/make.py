@@ -1,0 +1,63 @@
+#!/usr/bin/env python3
+"""Writes the example files from the tables below. Run from the repository's root: python3 examples/make.py"""
+import pathlib
+
+
+def record(kind, body):
+    return len(body).to_bytes(2, "little") + kind.to_bytes(2, "little") + bytes(body)
+
+
+def floor(places, lanes, carts):
+    """places: the set of mark numbers of each; lanes: (from, to, classes); carts: (class, start)."""
+    out = b"".join(record(1, sum(1 << m for m in marks).to_bytes(4, "little")) for marks in places)
+    out += b"".join(record(2, lane) for lane in lanes)
+    return out + b"".join(record(3, cart) for cart in carts)
+
+
+def plan(h, l, d, rows):
+    head = b"".join(n.to_bytes(2, "little") for n in (h, l, d))
+    return record(4, head) + b"".join(record(5, row) for row in rows)
+
+
+EVERY = 255  # open to all eight classes
+HIDES = 1 << 0  # open to class 0, the carts that carry hides
+PANELS = 1 << 1  # open to class 1, the carts that carry cut panels
+
+EXAMPLES = {
+    # Document 01's cases: two carts that go from place 0 to place 1 and back.
+    "two-carts": (
+        floor(
+            places=[{0}, {1}],
+            lanes=[(0, 1, EVERY), (1, 0, EVERY), (0, 0, EVERY), (1, 1, EVERY)],
+            carts=[(0, 0), (0, 0)],
+        ),
+        plan(4, 0, 0, [[0, 1, 1, 0], [0, 0, 1, 1]]),
+    ),
+    # Store (m0), two cutting tables (m1) and skiving (m2); three carts bring hides, one takes panels on to skiving.
+    # One step of run-in, then a lap of six.
+    "workshop": (
+        floor(
+            places=[{0}, {1}, {1}, {2}],
+            lanes=[
+                (0, 0, HIDES), (0, 1, HIDES), (0, 2, HIDES), (1, 0, HIDES), (2, 0, HIDES), (1, 1, EVERY), (2, 2, EVERY),
+                (1, 3, PANELS), (2, 3, PANELS), (3, 1, PANELS), (3, 2, PANELS), (3, 3, PANELS),
+            ],
+            carts=[(0, 0), (0, 0), (0, 0), (1, 3)],
+        ),
+        plan(
+            7, 1, 1,
+            [
+                [0, 1, 1, 1, 0, 0, 0],
+                [0, 0, 0, 2, 2, 2, 0],
+                [0, 0, 0, 0, 0, 1, 0],
+                [3, 3, 1, 1, 3, 2, 2],
+            ],
+        ),
+    ),
+}
+
+for name, (floor_bytes, plan_bytes) in EXAMPLES.items():
+    folder = pathlib.Path("examples") / name
+    folder.mkdir(exist_ok=True)
+    (folder / "floor").write_bytes(floor_bytes)
+    (folder / "plan").write_bytes(plan_bytes)
