@@ -1,28 +1,19 @@
 // The functions that the table controllers call from C: include/cartplan.h.
-use floor::FloorAnswer;
 use refusal::Code;
-use refusal::Verdict;
 ghost use mathlib.Core.Path.{_≡_};
-ghost use Rattle.floor.specs.Numbers.{numbers, writeFloor};
-ghost use Rattle.plan.specs.Numbers.{headOf, writePlan};
-ghost use Rattle.controller.specs.Edge.{floorVerdict, readFloorCode, readPlanCode, Wrote};
+ghost use Rattle.floor.specs.Numbers.{numbers};
+ghost use Rattle.plan.specs.Numbers.{headOf};
+ghost use Rattle.controller.specs.Edge.{readFloorCode, readPlanCode, FloorWrittenCode, PlanWrittenCode};
 
-fn floor_verdict(a: FloorAnswer) -> Verdict
-    ensures { λ v. ⌜ v ≡ floorVerdict a ⌝ }
-{
-    match a {
-        FloorAnswer::Read(_) => Verdict::Accepted,
-        FloorAnswer::Refused(r) => Verdict::Floor(r),
-    }
-}
-
+// Reads a floor.
 #[no_mangle]
 pub extern "C" fn cartplan_read_floor(floor: &[u8]) -> Code
     ensures { λ c. ⌜ c ≡ readFloorCode (now (floor .entry)) ⌝ }
 {
-    refusal::code_of(floor_verdict(floor::read(floor)))
+    refusal::code_of(floor::verdict_of(floor::read(floor)))
 }
 
+// Reads a floor, and a plan for it.
 #[no_mangle]
 pub extern "C" fn cartplan_read_plan(floor: &[u8], plan: &[u8]) -> Code
     ensures { λ c. ⌜ c ≡ readPlanCode (now (floor .entry)) (now (plan .entry)) ⌝ }
@@ -32,6 +23,7 @@ pub extern "C" fn cartplan_read_plan(floor: &[u8], plan: &[u8]) -> Code
     refusal::code_of(v)
 }
 
+// Writes a floor.
 #[no_mangle]
 pub extern "C" fn cartplan_write_floor(
     places: &[u32],
@@ -39,11 +31,12 @@ pub extern "C" fn cartplan_write_floor(
     carts: &[u8],
     out: &mut [u8],
 ) -> Code
-    ensures { λ c. ⌜ Wrote (writeFloor (numbers (now (places .entry)) (now (lanes .entry)) (now (carts .entry))) (now (out .entry))) c (now (out .exit)) ⌝ }
+    ensures { λ c. ⌜ FloorWrittenCode (numbers (now (places .entry)) (now (lanes .entry)) (now (carts .entry))) (now (out .entry)) c (now (out .exit)) ⌝ }
 {
     refusal::code_of(floor::write(places, lanes, carts, out))
 }
 
+// Writes a plan for a floor.
 #[no_mangle]
 pub extern "C" fn cartplan_write_plan(
     floor: &[u8],
@@ -53,7 +46,7 @@ pub extern "C" fn cartplan_write_plan(
     rows: &[u8],
     out: &mut [u8],
 ) -> Code
-    ensures { λ c. ⌜ Wrote (writePlan (now (floor .entry)) (headOf h l d) (now (rows .entry)) (now (out .entry))) c (now (out .exit)) ⌝ }
+    ensures { λ c. ⌜ PlanWrittenCode (now (floor .entry)) (headOf h l d) (now (rows .entry)) (now (out .entry)) c (now (out .exit)) ⌝ }
 {
     refusal::code_of(plan::write(floor, h, l, d, rows, out))
 }

@@ -7,7 +7,7 @@ use mathlib.Core.List.{List, [], _∷_, _++_, map, map-append, append-nil}
 use lib.ListN.{length, take, getD}
 use lib.Seq.{take-suc, length-take-le}
 use Rattle.record.specs.Record.{encoded, layout}
-use Rattle.record.specs.Found.{stored}
+use Rattle.record.specs.Buffer.{stored}
 use Rattle.record.specs.Stored.{stored-more}
 use Rattle.record.specs.Laid.{layout-append}
 use Rattle.floor.specs.Numbers.{placeRecord}

@@ -5,10 +5,10 @@ use mathlib.Core.Path.{_≡_, sym, ap, ap₂, _∙_}
 use mathlib.Core.List.{List, _++_, append-assoc}
 use lib.ListN.{length, drop, length-append}
 use Rattle.record.specs.Record.{layout}
-use Rattle.record.specs.Found.{stored}
+use Rattle.record.specs.Buffer.{stored}
 use Rattle.record.specs.Stored.{stored-more, stored-front}
 use Rattle.record.specs.Laid.{layout-append}
-use Rattle.floor.specs.Numbers.{Numbers, placesOf, lanesOf, cartsOf, floorBytes}
+use Rattle.floor.specs.Numbers.{Numbers, placeRecords, laneRecords, cartRecords, floorBytes}
 use Rattle.floor.specs.Walk.{length-three}
 
 three-stored : (out p l c : List ℕ) → length p + (length l + length c) ≤ length out
@@ -22,18 +22,18 @@ three-stored out p l c h =
 
 module _ (n : Numbers) (out : List ℕ) (room : length (floorBytes n) ≤ length out) where
   abbrev p : List ℕ
-  p = layout (placesOf n)
+  p = layout (placeRecords n)
 
   abbrev l : List ℕ
-  l = layout (lanesOf n)
+  l = layout (laneRecords n)
 
   abbrev c : List ℕ
-  c = layout (cartsOf n)
+  c = layout (cartRecords n)
 
   whole : (p ++ l) ++ c ≡ floorBytes n
   whole =
-      append-assoc p l c ∙ ap (λ (x : List ℕ). p ++ x) (sym (layout-append (lanesOf n) (cartsOf n)))
-      ∙ sym (layout-append (placesOf n) (lanesOf n ++ cartsOf n))
+      append-assoc p l c ∙ ap (λ (x : List ℕ). p ++ x) (sym (layout-append (laneRecords n) (cartRecords n)))
+      ∙ sym (layout-append (placeRecords n) (laneRecords n ++ cartRecords n))
 
   pub floor-stored : (x y z : List ℕ) (i j : ℕ) → i ≡ length p → j ≡ i + length l → x ≡ stored out 0 p → y ≡ stored x i l → z ≡ stored y j c
       → z ≡ floorBytes n ++ drop (length (floorBytes n)) out

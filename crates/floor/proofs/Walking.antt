@@ -4,7 +4,7 @@ use mathlib.Core.Path.{_≡_, ap, _∙_}
 use mathlib.Core.List.{List, map}
 use lib.ListN.{length, take, drop, drop-of-length-le}
 use Prim.Native.Nat.{_≤_}
-use Rattle.refusal.specs.Codes.{refused}
+use Rattle.refusal.specs.Codes.{atOffset}
 use Rattle.record.specs.Parts.{parts, ofKind}
 use Rattle.record.specs.Fuel.{parts-none}
 use Rattle.record.specs.Laid.{PartAt}
@@ -35,5 +35,5 @@ module _ (k size : ℕ) (l : List ℕ) (g : Floor) (next i end : ℕ) (p : PartA
   pub walk-good : (h : Floor) → judged g (kindOf k) (take (end - i) (drop i l)) ≡ Good h → walkFrom k size l g next i ≡ walkFrom k size l h (next + 4 + (end - i)) end
   walk-good h q = by (Good h) q
 
-  pub walk-fault : (n : ℕ) → judged g (kindOf k) (take (end - i) (drop i l)) ≡ Fault n → walkFrom k size l g next i ≡ Stopped (refused n next)
+  pub walk-fault : (n : ℕ) → judged g (kindOf k) (take (end - i) (drop i l)) ≡ Fault n → walkFrom k size l g next i ≡ Stopped (atOffset n next)
   walk-fault n q = by (Fault n) q

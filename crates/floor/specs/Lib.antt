@@ -1,6 +1,11 @@
+-- definitions
 pub mod Floor
 pub mod Numbers
+pub mod Walked
+pub mod Valid
+-- promises
 pub mod Promises
+-- laws
 pub mod Sorted
 pub mod RoundTrip
 pub mod Walk

@@ -1,11 +1,11 @@
 -- Where the numbers of an accepted floor lie in its bytes.
 use Prim.Native.Nat.{ℕ, zero, suc, _+_, _*_, _<_}
-use native.Mathlib.Nat.{mul-zero, mul-suc, zero-add}
+use native.Mathlib.Nat.{mul-zero, mul-suc, zero-add, add-zero}
 use native.Mathlib.Omega.{arith}
-use mathlib.Core.Path.{_≡_, refl, sym, ap, ap₂, _∙_}
+use mathlib.Core.Path.{_≡_, sym, ap, ap₂, subst, _∙_}
 use mathlib.Core.List.{List, [], _∷_, _++_, map, flatten, append-assoc, append-nil}
 use lib.ListN.{length, take, drop, getD, length-append, length-map, List·getD-map}
-use lib.Seq.{take-at, take-append-seam, drop-append-add, drop-drop, drop-at}
+use lib.Seq.{take-at, drop-append-add, getD-drop, getD-take}
 use Rattle.endian.specs.Little.{bytes, value, Bytes}
 use Rattle.record.specs.Record.{encoded, layout, recordsIn}
 use Rattle.record.specs.Parts.{ofKind}
@@ -13,8 +13,9 @@ use Rattle.record.specs.Laid.{AllOf, layout-append, length-flatten}
 use Rattle.record.specs.RoundTrip.{length-encoded, layout-records}
 use Rattle.floor.specs.Floor.{readFloor}
 use Rattle.floor.specs.Numbers.{bodiesOf, numbersOf, placeAt, laneAt, cartAt, bodyAt}
-use Rattle.floor.specs.Sorted.{Sorted}
-use Rattle.floor.specs.RoundTrip.{Whole, whole, accepted-sorted, bytes-back}
+use Rattle.floor.specs.Sorted.{Sorted, LaneOk, CartOk, All}
+use Rattle.floor.specs.Valid.{Valid}
+use Rattle.floor.specs.RoundTrip.{whole, accepted-sorted, accepted-within, bytes-back}
 use Rattle.floor.specs.Promises.{Accepts}
 use Rattle.floor.specs.declared.Floor.{Floor}
 use Rattle.floor.specs.declared.FloorAnswer.the-variants.{Read}
@@ -110,13 +111,47 @@ module _ (s : List ℕ) (f : Floor) (b : Bytes s) (e : readFloor s ≡ Read f) w
       ∙ ap (drop (6 * n + 4)) (sym (append-nil (layout (map (ofKind 3) carts)))))
       ∙ row-at 3 2 carts [] n (ordered .cart-sizes) m ∙ sym (flat-at 2 carts n (ordered .cart-sizes) m)
 
+  -- one number of a body, and what holds of all bodies
+  one-of : (size : ℕ) (xs : List (List ℕ)) (i k : ℕ) → AllOf size xs → i < length xs → k < size → getD (flatten xs) (size * i + k) 0 ≡ getD (getD xs i []) k 0
+  one-of size xs i k h l m =
+      sym (getD-drop (size * i) (flatten xs) k 0) ∙ sym (getD-take size (drop (size * i) (flatten xs)) k 0 m)
+      ∙ ap (λ (x : List ℕ). getD x k 0) (flat-at size xs i h l)
+
+  each : (P : List ℕ → Type 0) (xs : List (List ℕ)) (i : ℕ) → All P xs → i < length xs → P (getD xs i [])
+  each P [] i h l = absurd (omega arith)
+  each P (x ∷ xs) zero h l = h .0
+  each P (x ∷ xs) (suc i) h l = each P xs i (h .1) (omega arith)
+
+  lane-is : (j k : ℕ) → j < f .lanes → k < 3 → getD (numbersOf s .lanes) (3 * j + k) 0 ≡ getD (getD lanes j []) k 0
+  lane-is j k l m = one-of 3 lanes j k (ordered .lane-sizes) (omega (arith, ordered .lanes)) m
+
+  cart-is : (n k : ℕ) → n < f .carts → k < 2 → getD (numbersOf s .carts) (2 * n + k) 0 ≡ getD (getD carts n []) k 0
+  cart-is n k l m = one-of 2 carts n k (ordered .cart-sizes) (omega (arith, ordered .carts)) m
+
+  lane-ok : (j : ℕ) → j < f .lanes → LaneOk (f .places) (getD lanes j [])
+  lane-ok j l = each (LaneOk (f .places)) lanes j (ordered .lanes-ok) (omega (arith, ordered .lanes))
+
+  cart-ok : (n : ℕ) → n < f .carts → CartOk (f .places) (getD carts n [])
+  cart-ok n l = each (CartOk (f .places)) carts n (ordered .carts-ok) (omega (arith, ordered .carts))
+
+  valid : Valid (numbersOf s) f
+  valid =
+      let w = whole s f e in
+      let m = accepted-within s f e in
+      record {
+        places = length-map places value ∙ sym (ordered .places ∙ zero-add (length places));
+        lanes = length-flatten 3 lanes (ordered .lane-sizes) ∙ ap (λ (k : ℕ). 3 * k) (sym (ordered .lanes ∙ zero-add (length lanes)));
+        carts = length-flatten 2 carts (ordered .cart-sizes) ∙ ap (λ (k : ℕ). 2 * k) (sym (ordered .carts ∙ zero-add (length carts)));
+        some-place = w .some-place;
+        some-cart = w .some-cart;
+        few-places = m .places;
+        few-lanes = m .lanes;
+        few-carts = m .carts;
+        lane-from = λ j l. subst (λ (k : ℕ). getD (numbersOf s .lanes) k 0 < f .places) (add-zero (3 * j)) (rw (lane-is j 0 l (omega arith)) (lane-ok j l .0));
+        lane-to = λ j l. rw (lane-is j 1 l (omega arith)) (lane-ok j l .1);
+        cart-class = λ n l. subst (λ (k : ℕ). getD (numbersOf s .carts) k 0 < 8) (add-zero (2 * n)) (rw (cart-is n 0 l (omega arith)) (cart-ok n l .0));
+        cart-start = λ n l. rw (cart-is n 1 l (omega arith)) (cart-ok n l .1);
+      }
+
   pub accepts : Accepts s f
-  accepts = record {
-    writes-back = bytes-back s f b e;
-    places = length-map places value ∙ sym (ordered .places ∙ zero-add (length places));
-    lanes = length-flatten 3 lanes (ordered .lane-sizes) ∙ ap (λ (k : ℕ). 3 * k) (sym (ordered .lanes ∙ zero-add (length lanes)));
-    carts = length-flatten 2 carts (ordered .cart-sizes) ∙ ap (λ (k : ℕ). 2 * k) (sym (ordered .carts ∙ zero-add (length carts)));
-    place = place-located;
-    lane = lane-located;
-    cart = cart-located;
-  }
+  accepts = record { valid = valid; writes-back = bytes-back s f b e; place = place-located; lane = lane-located; cart = cart-located }

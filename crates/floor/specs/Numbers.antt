@@ -1,9 +1,9 @@
 -- The numbers that a floor holds, and writing them.
-use Prim.Native.Nat.{ℕ, _+_, _*_}
+use Prim.Native.Nat.{ℕ, _+_, _*_, _^_, _<_}
 use mathlib.Core.Bool.{cond}
 use mathlib.Core.List.{List, [], _∷_, _++_, map, flatten}
 use lib.Dec.{eqb}
-use lib.ListN.{take, drop}
+use lib.ListN.{take, drop, getD}
 use Rattle.endian.specs.Little.{bytes, value}
 use Rattle.refusal.specs.Outcome.{Outcome, unchanged, written}
 use Rattle.refusal.specs.declared.Verdict.the-variants.{Floor as AboutFloor}
@@ -14,31 +14,32 @@ use Rattle.floor.specs.declared.Floor.{Floor}
 use Rattle.floor.specs.declared.FloorAnswer.{FloorAnswer}
 use Rattle.floor.specs.declared.FloorAnswer.the-variants.{Read, Refused}
 
--- in file order: the marks of each place; from, to and classes of each lane; class and start of each cart
+-- "Places and carts are numbered from 0 in file order": the marks of each place; from, to and classes of each lane; class and start of each cart
 pub record Numbers : Type 0 where
   pub places : List ℕ
   pub lanes : List ℕ
   pub carts : List ℕ
 
+-- the three lists that a caller lends
 abbrev pub numbers : List ℕ → List ℕ → List ℕ → Numbers
 numbers places lanes carts = record { places = places; lanes = lanes; carts = carts }
 
--- a place's marks are four bytes
+-- "4 bytes: one bit for each mark m0 (lowest) to m31"
 abbrev pub placeRecord : ℕ → Record
 placeRecord marks = ofKind 1 (bytes 4 marks)
 
 -- the numbers laid out as records: a lane to each three bytes, a cart to each two; bytes left over are a record of wrong length
-abbrev pub placesOf : Numbers → List Record
-placesOf n = map placeRecord (n .places)
+abbrev pub placeRecords : Numbers → List Record
+placeRecords n = map placeRecord (n .places)
 
-abbrev pub lanesOf : Numbers → List Record
-lanesOf n = map (ofKind 2) (parts 3 (n .lanes))
+abbrev pub laneRecords : Numbers → List Record
+laneRecords n = map (ofKind 2) (parts 3 (n .lanes))
 
-abbrev pub cartsOf : Numbers → List Record
-cartsOf n = map (ofKind 3) (parts 2 (n .carts))
+abbrev pub cartRecords : Numbers → List Record
+cartRecords n = map (ofKind 3) (parts 2 (n .carts))
 
 abbrev pub floorRecords : Numbers → List Record
-floorRecords n = placesOf n ++ (lanesOf n ++ cartsOf n)
+floorRecords n = placeRecords n ++ (laneRecords n ++ cartRecords n)
 
 abbrev pub floorBytes : Numbers → List ℕ
 floorBytes n = layout (floorRecords n)
@@ -69,10 +70,14 @@ cartAt f n = 8 * f .places + (7 * f .lanes + 6 * n)
 abbrev pub bodyAt : ℕ → ℕ → List ℕ → List ℕ
 bodyAt size at s = take size (drop (at + 4) s)
 
--- "Numbers that no file could give are refused as reading their file would be, then 18."
+-- "(fields are no wider than the file's)": what every lent slice of 32-bit numbers is
+abbrev pub Words : List ℕ → Type 0
+Words l = (i : ℕ) → getD l i 0 < 2 ^ 32
+
+-- "Numbers that no file could give are refused as reading their file would be (fields are no wider than the file's), then 18 as below"
 abbrev pub byReading : FloorAnswer → List ℕ → List ℕ → Outcome
-byReading (Refused r) bytes out = unchanged (AboutFloor r) out
-byReading (Read f) bytes out = written AboutFloor bytes out
+byReading (Refused r) file out = unchanged (AboutFloor r) out
+byReading (Read f) file out = written AboutFloor file out
 
 unfoldable pub writeFloor : Numbers → List ℕ → Outcome
 writeFloor n out = byReading (readFloor (floorBytes n)) (floorBytes n) out

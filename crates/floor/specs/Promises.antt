@@ -2,24 +2,22 @@
 use Prim.Native.Nat.{ℕ, _*_, _<_}
 use mathlib.Core.Path.{_≡_}
 use mathlib.Core.List.{List}
-use lib.ListN.{length, take, drop, getD}
+use lib.ListN.{take, drop, getD}
 use Rattle.endian.specs.Little.{value}
 use Rattle.refusal.specs.Outcome.{Gives}
 use Rattle.refusal.specs.declared.Verdict.{Verdict}
 use Rattle.refusal.specs.declared.Verdict.the-variants.{Written}
 use Rattle.floor.specs.Floor.{readFloor}
 use Rattle.floor.specs.Numbers.{Numbers, floorBytes, numbersOf, placeAt, laneAt, cartAt, bodyAt, writeFloor}
+use Rattle.floor.specs.Valid.{Valid}
 use Rattle.floor.specs.declared.Floor.{Floor}
 use Rattle.floor.specs.declared.FloorAnswer.{FloorAnswer}
 use Rattle.floor.specs.declared.FloorAnswer.the-variants.{Read}
 
--- an accepted floor: its counts, and where the numbers lie that the file holds
+-- an accepted floor: its numbers are those of the table, they write back as the same bytes, and they lie at fixed offsets
 pub record Accepts (s : List ℕ) (f : Floor) : Type 0 where
-  -- what was read writes back as the same bytes
+  pub valid : Valid (numbersOf s) f
   pub writes-back : floorBytes (numbersOf s) ≡ s
-  pub places : length (numbersOf s .places) ≡ f .places
-  pub lanes : length (numbersOf s .lanes) ≡ 3 * f .lanes
-  pub carts : length (numbersOf s .carts) ≡ 2 * f .carts
   pub place : (i : ℕ) → i < f .places → value (bodyAt 4 (placeAt i) s) ≡ getD (numbersOf s .places) i 0
   pub lane : (j : ℕ) → j < f .lanes → bodyAt 3 (laneAt f j) s ≡ take 3 (drop (3 * j) (numbersOf s .lanes))
   pub cart : (n : ℕ) → n < f .carts → bodyAt 2 (cartAt f n) s ≡ take 2 (drop (2 * n) (numbersOf s .carts))
@@ -27,10 +25,11 @@ pub record Accepts (s : List ℕ) (f : Floor) : Type 0 where
 pub record FloorRead (s : List ℕ) (r : FloorAnswer) : Type 0 where
   -- the answer, for every file
   pub answer : r ≡ readFloor s
+  -- "floor and plan files read and write back to the same bytes"
   pub accepted : (f : Floor) → r ≡ Read f → Accepts s f
 
 pub record FloorWritten (n : Numbers) (before : List ℕ) (v : Verdict) (after : List ℕ) : Type 0 where
   -- the answer and every byte of the buffer, for all numbers
   pub outcome : Gives (writeFloor n before) v after
-  -- written: it reads back as the same numbers
+  -- "What is written reads back as the same numbers."
   pub reads-back : (k : ℕ) → v ≡ Written k → (f : Floor) × (readFloor (take k after) ≡ Read f) × (numbersOf (take k after) ≡ n)

@@ -1,37 +1,32 @@
 -- What is written reads back as the same numbers, and what was read writes back as the same bytes.
-use Prim.Native.Nat.{ℕ, suc, _*_, _^_, _≤_, _<_}
-use native.Mathlib.Nat.{zero-add}
+use Prim.Native.Nat.{ℕ, suc, _≤_, _<_}
 use native.Mathlib.Omega.{arith}
 use mathlib.Core.Path.{_≡_, refl, sym, ap, ap₂, subst, _∙_}
 use mathlib.Core.Bool.{Bool, true, false, cond, _||_}
 use mathlib.Core.List.{List, [], _∷_, _++_, map, flatten, append-nil}
 use lib.Dec.{eqb, ltb}
-use lib.ListN.{length, getD, take, length-map}
+use lib.ListN.{length, take}
 use borrow.Author.Tests.{eq-eqb, eqb-false, ltb-false}
 use Rattle.endian.specs.Little.{bytes, value, Bytes}
 use Rattle.endian.specs.RoundTrip.{length-bytes, value-bytes, bytes-value}
 use Rattle.record.specs.Record.{Record, Split, layout, recordsIn}
 use Rattle.record.specs.Parts.{parts, ofKind}
-use Rattle.record.specs.Laid.{AllOf, length-flatten, parts-encodable, flatten-parts, parts-flatten}
+use Rattle.record.specs.Laid.{AllOf, parts-encodable, flatten-parts, parts-flatten}
 use Rattle.record.specs.RoundTrip.{AllEncodable, encodable-append, records-layout, layout-records, AllBytes, records-bytes}
-use Rattle.refusal.specs.Codes.{refused}
+use Rattle.refusal.specs.Codes.{atOffset}
 use Rattle.refusal.specs.Outcome.{Gives}
 use Rattle.refusal.specs.Held.{written-front}
 use Rattle.refusal.specs.declared.Refusal.{Refusal}
 use Rattle.refusal.specs.declared.Verdict.{Verdict}
 use Rattle.refusal.specs.declared.Verdict.the-variants.{Written, Floor as AboutFloor}
-use Rattle.floor.specs.Floor.{walk, ending, nothing, readOn, readFloor}
-use Rattle.floor.specs.Numbers.{Numbers, placeRecord, floorRecords, floorBytes, bodiesOf, numbersIn, numbersOf, byReading, writeFloor}
+use Rattle.floor.specs.Floor.{walk, atEnd, emptyFloor, readOn, readFloor}
+use Rattle.floor.specs.Numbers.{Numbers, Words, placeRecord, floorRecords, floorBytes, bodiesOf, numbersIn, numbersOf, byReading, writeFloor}
 use Rattle.floor.specs.Sorted.{Sorted, Within, sorted}
 use Rattle.floor.specs.declared.Floor.{Floor}
 use Rattle.floor.specs.declared.Walked.{Walked}
 use Rattle.floor.specs.declared.Walked.the-variants.{At, Stopped}
 use Rattle.floor.specs.declared.FloorAnswer.{FloorAnswer}
 use Rattle.floor.specs.declared.FloorAnswer.the-variants.{Read, Refused}
-
--- what every lent slice of 32-bit numbers is
-abbrev pub Words : List ℕ → Type 0
-Words l = (i : ℕ) → getD l i 0 < 2 ^ 32
 
 -- laid out, a floor's numbers are whole records
 places-encodable : (ms : List ℕ) → AllEncodable (map placeRecord ms)
@@ -119,17 +114,17 @@ numbers-written n w = ap (λ (x : Split). numbersIn (x .records)) (records-layou
 pub record Whole (s : List ℕ) (f : Floor) : Type 0 where
   pub short : length s ≤ 65536
   pub end : ℕ
-  pub walked : walk nothing 0 (recordsIn s .records) ≡ At f end
+  pub walked : walk emptyFloor 0 (recordsIn s .records) ≡ At f end
   pub uncut : recordsIn s .cut ≡ false
   pub some-place : 0 < f .places
   pub some-cart : 0 < f .carts
 
-ends : (w : Walked) (c : Bool) (f : Floor) → ending w c ≡ Read f → (n : ℕ) × (w ≡ At f n) × (c ≡ false) × (0 < f .places) × (0 < f .carts)
+ends : (w : Walked) (c : Bool) (f : Floor) → atEnd w c ≡ Read f → (n : ℕ) × (w ≡ At f n) × (c ≡ false) × (0 < f .places) × (0 < f .carts)
 ends (Stopped r) c f e = let z : _≡_ {A = ℕ} 0 1 = cc in absurd (omega arith)
 ends (At g n) true f e = let z : _≡_ {A = ℕ} 0 1 = cc in absurd (omega arith)
 ends (At g n) false f e = go (eqb (g .places) 0) (eqb (g .carts) 0) refl refl e
   where
-    go : (a b : Bool) → eqb (g .places) 0 ≡ a → eqb (g .carts) 0 ≡ b → cond (a || b) (Refused (refused 7 n)) (Read g) ≡ Read f
+    go : (a b : Bool) → eqb (g .places) 0 ≡ a → eqb (g .carts) 0 ≡ b → cond (a || b) (Refused (atOffset 7 n)) (Read g) ≡ Read f
         → (m : ℕ) × (At g n ≡ At f m) × (_≡_ {A = Bool} false false) × (0 < f .places) × (0 < f .carts)
     go true b p q e = let z : _≡_ {A = ℕ} 0 1 = cc in absurd (omega arith)
     go false true p q e = let z : _≡_ {A = ℕ} 0 1 = cc in absurd (omega arith)
@@ -143,14 +138,14 @@ pub whole : (s : List ℕ) (f : Floor) → readFloor s ≡ Read f → Whole s f
 unfolding readFloor
 whole s f e = go (ltb 65536 (length s)) refl e
   where
-    go : (b : Bool) → ltb 65536 (length s) ≡ b → cond b (Refused (refused 1 0)) (readOn nothing 0 (recordsIn s)) ≡ Read f → Whole s f
+    go : (b : Bool) → ltb 65536 (length s) ≡ b → cond b (Refused (atOffset 1 0)) (readOn emptyFloor 0 (recordsIn s)) ≡ Read f → Whole s f
     go true p e = let z : _≡_ {A = ℕ} 0 1 = cc in absurd (omega arith)
     go false p e =
-        let t = ends (walk nothing 0 (recordsIn s .records)) (recordsIn s .cut) f e in
+        let t = ends (walk emptyFloor 0 (recordsIn s .records)) (recordsIn s .cut) f e in
         record { short = ltb-false _ _ p; end = t .0; walked = t .1; uncut = t .2; some-place = t .3; some-cart = t .4 }
 
-pub accepted-sorted : (s : List ℕ) (f : Floor) → readFloor s ≡ Read f → Sorted nothing f (recordsIn s .records)
-accepted-sorted s f e = let w = whole s f e in sorted (recordsIn s .records) nothing 0 f (w .end) (w .walked)
+pub accepted-sorted : (s : List ℕ) (f : Floor) → readFloor s ≡ Read f → Sorted emptyFloor f (recordsIn s .records)
+accepted-sorted s f e = let w = whole s f e in sorted (recordsIn s .records) emptyFloor 0 f (w .end) (w .walked)
 
 -- an accepted floor is within the limits
 pub accepted-within : (s : List ℕ) (f : Floor) → readFloor s ≡ Read f → Within f

@@ -4,14 +4,14 @@ use native.Mathlib.Omega.{arith}
 use mathlib.Core.Path.{_≡_, refl, sym, ap, ap₂, subst, _∙_}
 use mathlib.Core.Bool.{Bool, true, false, not}
 use mathlib.Core.List.{List, [], _∷_, _++_, map}
-use lib.Dec.{eqb, ltb}
-use lib.ListN.{length}
+use lib.Dec.{eqb, leb, ltb}
+use lib.ListN.{length, getD}
 use borrow.Author.Tests.{eqb-true, ltb-false, leb-false}
 use Rattle.refusal.specs.Faults.{none-holds, not-not, either-false}
 use Rattle.record.specs.Record.{Record}
 use Rattle.record.specs.Parts.{ofKind}
 use Rattle.record.specs.Laid.{AllOf}
-use Rattle.floor.specs.Floor.{Kind, place, lane, cart, unknown, kindOf, outOfPlace, sizeOf, full, absent, faultOf, counted, judgedBy, judged, onward, walk}
+use Rattle.floor.specs.Floor.{Kind, place, lane, cart, unknown, kindOf, outOfPlace, sizeOf, full, badField, faultOf, counted, judgedBy, judged, onward, walk}
 use Rattle.floor.specs.Numbers.{bodiesOf}
 use Rattle.floor.specs.declared.Floor.{Floor}
 use Rattle.floor.specs.declared.Judged.{Judged}
@@ -23,7 +23,7 @@ pub record Passed (f : Floor) (k : Kind) (body : List ℕ) (g : Floor) : Type 0 
   pub order : outOfPlace f k ≡ false
   pub size : length body ≡ sizeOf k
   pub room : full f k ≡ false
-  pub there : absent f k body ≡ false
+  pub there : badField f k body ≡ false
   pub count : g ≡ counted f k
 
 good-by : (n : ℕ) (h g : Floor) → judgedBy n h ≡ Good g → (n ≡ 0) × (g ≡ h)
@@ -37,7 +37,7 @@ passed f k body g e =
     let a = none-holds (outOfPlace f k) 2 _ (j .0) in
     let b = none-holds (not (eqb (length body) (sizeOf k))) 3 _ (a .1) in
     let c = none-holds (full f k) 4 _ (b .1) in
-    let d = none-holds (absent f k body) 5 _ (c .1) in
+    let d = none-holds (badField f k body) 5 _ (c .1) in
     record { order = a .0; size = eqb-true _ _ (not-not _ (b .0)); room = c .0; there = d .0; count = j .1 }
 
 -- the bodies by kind, and the records that they make up in file order
@@ -49,6 +49,17 @@ pub record Within (f : Floor) : Type 0 where
   pub places : f .places ≤ 256
   pub lanes : f .lanes ≤ 1024
   pub carts : f .carts ≤ 32
+
+-- bodies whose fields are in range on a floor of so many places
+abbrev pub LaneOk : ℕ → List ℕ → Type 0
+LaneOk places body = (getD body 0 0 < places) × (getD body 1 0 < places)
+
+abbrev pub CartOk : ℕ → List ℕ → Type 0
+CartOk places body = (getD body 0 0 < 8) × (getD body 1 0 < places)
+
+abbrev pub All : (List ℕ → Type 0) → List (List ℕ) → Type 0
+All P [] = Unit {0}
+All P (x ∷ xs) = P x × All P xs
 
 -- records judged from f on without a refusal, up to g
 pub record Sorted (f g : Floor) (rs : List Record) : Type 0 where
@@ -62,6 +73,8 @@ pub record Sorted (f g : Floor) (rs : List Record) : Type 0 where
   pub lanes : g .lanes ≡ f .lanes + length (bodiesOf 2 rs)
   pub carts : g .carts ≡ f .carts + length (bodiesOf 3 rs)
   pub within : Within f → Within g
+  pub lanes-ok : All (LaneOk (g .places)) (bodiesOf 2 rs)
+  pub carts-ok : All (CartOk (g .places)) (bodiesOf 3 rs)
 
 -- one record more in front
 module _ (body : List ℕ) (rs : List Record) (f h g : Floor) (s : Sorted h g rs) where
@@ -86,6 +99,8 @@ module _ (body : List ℕ) (rs : List Record) (f h g : Floor) (s : Sorted h g rs
         lanes = omega (arith, s .lanes);
         carts = omega (arith, s .carts);
         within = λ q. s .within (record { places = omega (arith, q .places); lanes = omega (arith, q .lanes); carts = omega (arith, q .carts) });
+        lanes-ok = s .lanes-ok;
+        carts-ok = s .carts-ok;
       }
 
   at-lane : Passed f lane body h → Sorted f g (ofKind 2 body ∷ rs)
@@ -98,6 +113,9 @@ module _ (body : List ℕ) (rs : List Record) (f h g : Floor) (s : Sorted h g rs
       let none : bodiesOf 1 rs ≡ [] = s .no-places (omega arith) in
       let rest : List Record = map (ofKind 2) (bodiesOf 2 rs) ++ map (ofKind 3) (bodiesOf 3 rs) in
       let m : f .lanes < 1024 = leb-false _ _ (p .room) in
+      let r = either-false (leb (f .places) (getD body 0 0)) (leb (f .places) (getD body 1 0)) (p .there) in
+      let from : getD body 0 0 < f .places = leb-false _ _ (r .0) in
+      let to : getD body 1 0 < f .places = leb-false _ _ (r .1) in
       record {
         in-order = ap (λ (x : List Record). ofKind 2 body ∷ x) (s .in-order ∙ ap (λ (x : List (List ℕ)). map (ofKind 1) x ++ rest) none)
             ∙ sym (ap (λ (x : List (List ℕ)). map (ofKind 1) x ++ (ofKind 2 body ∷ rest)) none);
@@ -110,6 +128,8 @@ module _ (body : List ℕ) (rs : List Record) (f h g : Floor) (s : Sorted h g rs
         lanes = omega (arith, s .lanes);
         carts = omega (arith, s .carts);
         within = λ q. s .within (record { places = omega (arith, q .places); lanes = omega (arith, q .lanes); carts = omega (arith, q .carts) });
+        lanes-ok = ((omega (arith, s .places), omega (arith, s .places)), s .lanes-ok);
+        carts-ok = s .carts-ok;
       }
 
   at-cart : Passed f cart body h → Sorted f g (ofKind 3 body ∷ rs)
@@ -122,6 +142,9 @@ module _ (body : List ℕ) (rs : List Record) (f h g : Floor) (s : Sorted h g rs
       let none′ : bodiesOf 2 rs ≡ [] = s .no-lanes (omega arith) in
       let rest : List Record = map (ofKind 3) (bodiesOf 3 rs) in
       let m : f .carts < 32 = leb-false _ _ (p .room) in
+      let r = either-false (ltb 7 (getD body 0 0)) (leb (f .places) (getD body 1 0)) (p .there) in
+      let class : getD body 0 0 ≤ 7 = ltb-false _ _ (r .0) in
+      let start : getD body 1 0 < f .places = leb-false _ _ (r .1) in
       record {
         in-order = ap (λ (x : List Record). ofKind 3 body ∷ x) (s .in-order ∙ ap₂ (λ (x y : List (List ℕ)). map (ofKind 1) x ++ (map (ofKind 2) y ++ rest)) none none′)
             ∙ sym (ap₂ (λ (x y : List (List ℕ)). map (ofKind 1) x ++ (map (ofKind 2) y ++ (ofKind 3 body ∷ rest))) none none′);
@@ -134,6 +157,8 @@ module _ (body : List ℕ) (rs : List Record) (f h g : Floor) (s : Sorted h g rs
         lanes = omega (arith, s .lanes);
         carts = omega (arith, s .carts);
         within = λ q. s .within (record { places = omega (arith, q .places); lanes = omega (arith, q .lanes); carts = omega (arith, q .carts) });
+        lanes-ok = s .lanes-ok;
+        carts-ok = ((omega arith, omega (arith, s .places)), s .carts-ok);
       }
 
 -- a record that is judged good is of one of the three kinds
@@ -176,6 +201,8 @@ sorted [] f at g n e =
       lanes = omega arith;
       carts = omega arith;
       within = λ w. subst Within q w;
+      lanes-ok = tt;
+      carts-ok = tt;
     }
 sorted (r ∷ rs) f at g n e = go (judged f (kindOf (r .kind)) (r .body)) refl (λ h. sorted rs h (at + 4 + length (r .body)) g n) e
   where

@@ -9,12 +9,14 @@ use lib.Dec.{leb}
 use borrow.Author.Tests.{le-leb, lt-leb, leb-true, leb-false, le-ltb}
 use Rattle.endian.specs.Little.{bytes}
 use Rattle.endian.specs.RoundTrip.{length-bytes}
-use Rattle.refusal.specs.Codes.{refused}
+use Rattle.refusal.specs.Codes.{atOffset}
 use Rattle.record.specs.Record.{Record, encoded, layout, recordsIn}
-use Rattle.record.specs.Laid.{layout-append, length-laid, partCount}
+use Rattle.record.specs.Laid.{layout-append, length-laid}
+use Rattle.record.specs.Parts.{partCount}
 use Rattle.record.specs.RoundTrip.{length-encoded, records-layout}
-use Rattle.floor.specs.Floor.{kindOf, place, judged, onward, walk, ending, readOn, nothing, readFloor}
-use Rattle.floor.specs.Numbers.{Numbers, placeRecord, placesOf, lanesOf, cartsOf, floorRecords, floorBytes}
+use Rattle.floor.specs.Floor.{kindOf, place, judged, onward, walk, atEnd, readOn, emptyFloor, readFloor}
+use Rattle.floor.specs.Walked.{walkOn, UpTo}
+use Rattle.floor.specs.Numbers.{Numbers, placeRecord, placeRecords, laneRecords, cartRecords, floorRecords, floorBytes}
 use Rattle.floor.specs.RoundTrip.{floor-encodable}
 use Rattle.floor.specs.declared.Floor.{Floor}
 use Rattle.floor.specs.declared.Judged.{Judged}
@@ -22,16 +24,6 @@ use Rattle.floor.specs.declared.Judged.the-variants.{Good, Fault}
 use Rattle.floor.specs.declared.Walked.{Walked}
 use Rattle.floor.specs.declared.Walked.the-variants.{At, Stopped}
 use Rattle.floor.specs.declared.FloorAnswer.the-variants.{Refused}
-
--- further records behind those judged
-abbrev pub walkOn : Walked → List Record → Walked
-walkOn (At f at) rs = walk f at rs
-walkOn (Stopped r) rs = Stopped r
-
--- so many bytes more stay below a limit
-abbrev pub UpTo : ℕ → Walked → ℕ → Type 0
-UpTo most (At f at) n = at + n ≤ most
-UpTo most (Stopped r) n = Unit {0}
 
 pub walk-append : (f : Floor) (at : ℕ) (rs ts : List Record) → walk f at (rs ++ ts) ≡ walkOn (walk f at rs) ts
 unfolding walk
@@ -78,21 +70,21 @@ places-fit (m ∷ ms) n at h =
     let b : at + 8 + 8 * length ms ≡ at + 8 * length (m ∷ ms) = omega arith in
     place-next m ms n at (omega arith) ∙ places-fit ms (n + 1) (at + 8) (omega arith) ∙ ap₂ (λ (x y : ℕ). At (onlyPlaces x) y) a b
 
-pub places-over : (ms : List ℕ) (n at : ℕ) → n ≤ 256 → 256 < n + length ms → walk (onlyPlaces n) at (map placeRecord ms) ≡ Stopped (refused 5 (at + 8 * (256 - n)))
+pub places-over : (ms : List ℕ) (n at : ℕ) → n ≤ 256 → 256 < n + length ms → walk (onlyPlaces n) at (map placeRecord ms) ≡ Stopped (atOffset 5 (at + 8 * (256 - n)))
 unfolding walk
 places-over [] n at h k = absurd (omega arith)
 places-over (m ∷ ms) n at h k = go (leb 256 n) refl (places-over ms (n + 1) (at + 8))
   where
-    go : (b : Bool) → leb 256 n ≡ b → (n + 1 ≤ 256 → 256 < n + 1 + length ms → walk (onlyPlaces (n + 1)) (at + 8) (map placeRecord ms) ≡ Stopped (refused 5 (at + 8 + 8 * (256 - (n + 1)))))
-        → walk (onlyPlaces n) at (map placeRecord (m ∷ ms)) ≡ Stopped (refused 5 (at + 8 * (256 - n)))
+    go : (b : Bool) → leb 256 n ≡ b → (n + 1 ≤ 256 → 256 < n + 1 + length ms → walk (onlyPlaces (n + 1)) (at + 8) (map placeRecord ms) ≡ Stopped (atOffset 5 (at + 8 + 8 * (256 - (n + 1)))))
+        → walk (onlyPlaces n) at (map placeRecord (m ∷ ms)) ≡ Stopped (atOffset 5 (at + 8 * (256 - n)))
     go true e f =
         let l = leb-true 256 n e in
         let a : at ≡ at + 8 * (256 - n) = omega arith in
-        ap (λ (j : Judged). onward j at (λ g. walk g (at + 4 + length (bytes 4 m)) (map placeRecord ms))) (full-place n m l) ∙ ap (λ (x : ℕ). Stopped (refused 5 x)) a
+        ap (λ (j : Judged). onward j at (λ g. walk g (at + 4 + length (bytes 4 m)) (map placeRecord ms))) (full-place n m l) ∙ ap (λ (x : ℕ). Stopped (atOffset 5 x)) a
     go false e f =
         let l : n < 256 = leb-false 256 n e in
         let a : at + 8 + 8 * (256 - (n + 1)) ≡ at + 8 * (256 - n) = omega arith in
-        place-next m ms n at l ∙ f (omega arith) (omega arith) ∙ ap (λ (x : ℕ). Stopped (refused 5 x)) a
+        place-next m ms n at l ∙ f (omega arith) (omega arith) ∙ ap (λ (x : ℕ). Stopped (atOffset 5 x)) a
 
 -- the offset behind records is their length
 pub walk-offset : (rs : List Record) (f : Floor) (at : ℕ) (g : Floor) (n : ℕ) → walk f at rs ≡ At g n → n ≡ at + length (layout rs)
@@ -133,11 +125,11 @@ length-places (m ∷ ms) =
     omega arith
 
 module _ (n : Numbers) where
-  pub length-three : length (floorBytes n) ≡ length (layout (placesOf n)) + (length (layout (lanesOf n)) + length (layout (cartsOf n)))
+  pub length-three : length (floorBytes n) ≡ length (layout (placeRecords n)) + (length (layout (laneRecords n)) + length (layout (cartRecords n)))
   length-three =
-      ap length (layout-append (placesOf n) ((lanesOf n) ++ (cartsOf n)) ∙ ap (λ (x : List ℕ). layout (placesOf n) ++ x) (layout-append (lanesOf n) (cartsOf n)))
-      ∙ length-append (layout (placesOf n)) (layout (lanesOf n) ++ layout (cartsOf n))
-      ∙ ap (λ (k : ℕ). length (layout (placesOf n)) + k) (length-append (layout (lanesOf n)) (layout (cartsOf n)))
+      ap length (layout-append (placeRecords n) ((laneRecords n) ++ (cartRecords n)) ∙ ap (λ (x : List ℕ). layout (placeRecords n) ++ x) (layout-append (laneRecords n) (cartRecords n)))
+      ∙ length-append (layout (placeRecords n)) (layout (laneRecords n) ++ layout (cartRecords n))
+      ∙ ap (λ (k : ℕ). length (layout (placeRecords n)) + k) (length-append (layout (laneRecords n)) (layout (cartRecords n)))
 
   -- the length of a floor laid out
   pub length-floor : length (floorBytes n)
@@ -149,25 +141,25 @@ module _ (n : Numbers) where
       length-three ∙ ap₂ _+_ a (ap₂ _+_ b c)
 
   -- reading it judges places, lanes and carts in turn
-  pub read-numbers : length (floorBytes n) ≤ 65536 → readFloor (floorBytes n) ≡ ending (walkOn (walkOn (walk nothing 0 (placesOf n)) (lanesOf n)) (cartsOf n)) false
+  pub read-numbers : length (floorBytes n) ≤ 65536 → readFloor (floorBytes n) ≡ atEnd (walkOn (walkOn (walk emptyFloor 0 (placeRecords n)) (laneRecords n)) (cartRecords n)) false
   unfolding readFloor
   read-numbers h =
-      ap (λ (b : Bool). cond b (Refused (refused 1 0)) (readOn nothing 0 (recordsIn (floorBytes n)))) (le-ltb 65536 (length (floorBytes n)) h)
-      ∙ ap (readOn nothing 0) (records-layout (floorRecords n) (floor-encodable n))
-      ∙ ap (λ (w : Walked). ending w false) (walk-append nothing 0 (placesOf n) ((lanesOf n) ++ (cartsOf n)) ∙ on-append (walk nothing 0 (placesOf n)) (lanesOf n) (cartsOf n))
+      ap (λ (b : Bool). cond b (Refused (atOffset 1 0)) (readOn emptyFloor 0 (recordsIn (floorBytes n)))) (le-ltb 65536 (length (floorBytes n)) h)
+      ∙ ap (readOn emptyFloor 0) (records-layout (floorRecords n) (floor-encodable n))
+      ∙ ap (λ (w : Walked). atEnd w false) (walk-append emptyFloor 0 (placeRecords n) ((laneRecords n) ++ (cartRecords n)) ∙ on-append (walk emptyFloor 0 (placeRecords n)) (laneRecords n) (cartRecords n))
 
   -- within a file's length throughout
   module _ (h : length (floorBytes n) ≤ 65536) where
-    up-to-places : UpTo 65536 (walk nothing 0 (placesOf n)) (length (layout (lanesOf n)) + (length (layout (cartsOf n)) + 0))
-    up-to-places = walk-up-to 65536 nothing 0 (placesOf n) (length (layout (lanesOf n)) + (length (layout (cartsOf n)) + 0)) (omega (arith, length-three))
+    up-to-places : UpTo 65536 (walk emptyFloor 0 (placeRecords n)) (length (layout (laneRecords n)) + (length (layout (cartRecords n)) + 0))
+    up-to-places = walk-up-to 65536 emptyFloor 0 (placeRecords n) (length (layout (laneRecords n)) + (length (layout (cartRecords n)) + 0)) (omega (arith, length-three))
 
-    pub up-to-lanes : UpTo 65536 (walk nothing 0 (placesOf n)) (length (layout (lanesOf n)))
-    up-to-lanes = walk-up-to 65536 nothing 0 (placesOf n) (length (layout (lanesOf n))) (omega (arith, length-three))
+    pub up-to-lanes : UpTo 65536 (walk emptyFloor 0 (placeRecords n)) (length (layout (laneRecords n)))
+    up-to-lanes = walk-up-to 65536 emptyFloor 0 (placeRecords n) (length (layout (laneRecords n))) (omega (arith, length-three))
 
-    pub up-to-carts : UpTo 65536 (walkOn (walk nothing 0 (placesOf n)) (lanesOf n)) (length (layout (cartsOf n)))
-    up-to-carts = on-up-to 65536 (walk nothing 0 (placesOf n)) (lanesOf n) (length (layout (cartsOf n)))
-        (walk-up-to 65536 nothing 0 (placesOf n) (length (layout (lanesOf n)) + length (layout (cartsOf n))) (omega (arith, length-three)))
+    pub up-to-carts : UpTo 65536 (walkOn (walk emptyFloor 0 (placeRecords n)) (laneRecords n)) (length (layout (cartRecords n)))
+    up-to-carts = on-up-to 65536 (walk emptyFloor 0 (placeRecords n)) (laneRecords n) (length (layout (cartRecords n)))
+        (walk-up-to 65536 emptyFloor 0 (placeRecords n) (length (layout (laneRecords n)) + length (layout (cartRecords n))) (omega (arith, length-three)))
 
-    pub up-to-end : UpTo 65536 (walkOn (walkOn (walk nothing 0 (placesOf n)) (lanesOf n)) (cartsOf n)) 0
-    up-to-end = on-up-to 65536 (walkOn (walk nothing 0 (placesOf n)) (lanesOf n)) (cartsOf n) 0
-        (on-up-to 65536 (walk nothing 0 (placesOf n)) (lanesOf n) (length (layout (cartsOf n)) + 0) up-to-places)
+    pub up-to-end : UpTo 65536 (walkOn (walkOn (walk emptyFloor 0 (placeRecords n)) (laneRecords n)) (cartRecords n)) 0
+    up-to-end = on-up-to 65536 (walkOn (walk emptyFloor 0 (placeRecords n)) (laneRecords n)) (cartRecords n) 0
+        (on-up-to 65536 (walk emptyFloor 0 (placeRecords n)) (laneRecords n) (length (layout (cartRecords n)) + 0) up-to-places)

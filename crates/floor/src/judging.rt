@@ -80,7 +80,7 @@ fn wide(b: u8) -> usize
 }
 
 // Judges a record by its kind and body, behind those already counted.
-pub fn judge(f: Floor, kind: u16, body: &[u8]) -> Judged
+pub(crate) fn judge(f: Floor, kind: u16, body: &[u8]) -> Judged
     ensures { λ r. ⌜ r ≡ judged f (kindOf kind) (now (body .entry)) ⌝ }
 {
     if kind == 1 {

@@ -3,8 +3,8 @@ mod judging;
 mod reading;
 mod writing;
 
-pub use judging::judge;
 pub use reading::read;
+pub use reading::verdict_of;
 use refusal::Refusal;
 pub use writing::write;
 

@@ -4,17 +4,18 @@ use crate::FloorAnswer;
 use crate::Judged;
 use crate::judging::judge;
 use record::Found;
+use refusal::Verdict;
 ghost use mathlib.Core.Path.{_≡_};
 ghost use mathlib.Core.Bool.{false};
 ghost use Prim.Native.Nat.{_≤_};
-ghost use Rattle.floor.specs.Floor.{ending};
+ghost use Rattle.floor.specs.Floor.{atEnd, floorVerdict};
 ghost use Rattle.floor.specs.Promises.{FloorRead};
 ghost use Rattle.floor.specs.declared.Walked.the-variants.{At};
 
 // The answer at the end of the records.
 pub(crate) fn at_end(f: Floor, at: usize) -> FloorAnswer
     requires { ⌜ at ≤ 65536 ⌝ }
-    ensures { λ r. ⌜ r ≡ ending (At f at) false ⌝ }
+    ensures { λ r. ⌜ r ≡ atEnd (At f at) false ⌝ }
 {
     if f.places == 0 {
         return FloorAnswer::Refused(refusal::at_offset(7, at as u32));
@@ -56,5 +57,15 @@ pub fn read(s: &[u8]) -> FloorAnswer
                 }
             },
         }
+    }
+}
+
+// The answer as a verdict.
+pub fn verdict_of(a: FloorAnswer) -> Verdict
+    ensures { λ v. ⌜ v ≡ floorVerdict a ⌝ }
+{
+    match a {
+        FloorAnswer::Read(_) => Verdict::Accepted,
+        FloorAnswer::Refused(r) => Verdict::Floor(r),
     }
 }

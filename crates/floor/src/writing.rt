@@ -14,12 +14,12 @@ ghost use lib.ListN.{length};
 ghost use Rattle.refusal.specs.Outcome.{written, Gives};
 ghost use Rattle.refusal.specs.declared.Verdict.the-variants.{Floor as AboutFloor};
 ghost use Rattle.record.specs.Record.{layout};
-ghost use Rattle.record.specs.Found.{stored};
+ghost use Rattle.record.specs.Buffer.{stored};
 ghost use Rattle.record.specs.Parts.{parts, ofKind, laid};
-ghost use Rattle.record.specs.Laid.{partCount};
-ghost use Rattle.floor.specs.Floor.{walk, ending, nothing, readFloor};
+ghost use Rattle.record.specs.Parts.{partCount};
+ghost use Rattle.floor.specs.Floor.{walk, atEnd, emptyFloor, readFloor};
 ghost use Rattle.floor.specs.Promises.{FloorWritten};
-ghost use Rattle.floor.specs.Walk.{walkOn, UpTo};
+ghost use Rattle.floor.specs.Walked.{walkOn, UpTo};
 ghost use Rattle.floor.specs.Numbers.{placeRecord, floorBytes, numbers};
 
 // Judges records of one kind, so many bytes of the bodies to each, that are laid out from an offset on.
@@ -48,7 +48,7 @@ fn walk_parts(f: Floor, at: usize, kind: u16, size: usize, bodies: &[u8]) -> Wal
 
 // Judges place records laid out from the start on: nothing but their number can be wrong.
 fn walk_places(places: &[u32]) -> Walked
-    ensures { λ r. ⌜ r ≡ walk nothing 0 (map placeRecord (now (places .entry))) ⌝ }
+    ensures { λ r. ⌜ r ≡ walk emptyFloor 0 (map placeRecord (now (places .entry))) ⌝ }
 {
     let n = places.len();
     if 256 < n {
@@ -81,7 +81,7 @@ fn laid_size(places: usize, lanes: usize, carts: usize) -> usize
     if 65536 < n { 65537 } else { n }
 }
 
-// The same behind records already judged, if none of those was refused.
+// Judges records of one kind behind records already judged, unless one of those was refused.
 fn walk_on(w: Walked, kind: u16, size: usize, bodies: &[u8]) -> Walked
     requires { ⌜ (0 < size) × UpTo 65536 w (length (laid kind size (now bodies))) ⌝ }
     ensures { λ r. ⌜ r ≡ walkOn w (map (ofKind kind) (parts size (now (bodies .entry)))) ⌝ }
@@ -95,7 +95,7 @@ fn walk_on(w: Walked, kind: u16, size: usize, bodies: &[u8]) -> Walked
 // The answer behind the last record.
 fn answer(w: Walked) -> FloorAnswer
     requires { ⌜ UpTo 65536 w 0 ⌝ }
-    ensures { λ r. ⌜ r ≡ ending w false ⌝ }
+    ensures { λ r. ⌜ r ≡ atEnd w false ⌝ }
 {
     match w {
         Walked::At(f, at) => at_end(f, at),
@@ -147,7 +147,7 @@ fn put_numbers(places: &[u32], lanes: &[u8], carts: &[u8], out: &mut [u8]) -> Ve
 {
     let n = laid_size(places.len(), lanes.len(), carts.len());
     if out.len() < n {
-        return Verdict::Floor(refusal::at_offset(18, n as u32));
+        return Verdict::Floor(refusal::refuse(18, n as u32, 0));
     }
     let lanes_at = put_places(out, places);
     let carts_at = record::put_parts(out, lanes_at, 2, 3, lanes);

@@ -5,15 +5,16 @@ use mathlib.Core.Path.{_≡_, refl, sym, ap, ap₂, _∙_}
 use mathlib.Core.List.{List, [], _∷_, _++_}
 use lib.ListN.{length, take, drop, length-append}
 use borrow.Author.Tests.{lt-ltb, le-ltb}
-use Rattle.refusal.specs.Codes.{refused}
+use Rattle.refusal.specs.Codes.{atOffset}
 use Rattle.refusal.specs.declared.Refusal.{Refusal}
 use Rattle.refusal.specs.declared.Verdict.the-variants.{Accepted, Plan as AboutPlan}
-use Rattle.record.specs.Found.{foundAt, stored}
+use Rattle.record.specs.Found.{foundAt}
+use Rattle.record.specs.Buffer.{stored}
 use Rattle.record.specs.Opened.{opened}
 use Rattle.record.specs.declared.Found.the-variants.{End, Cut, Whole}
 use Rattle.floor.specs.declared.Floor.{Floor}
-use Rattle.plan.specs.Plan.{accepted, rejected, rowFault, zeros, blockFrom, refusedRead, planRead}
-use Rattle.plan.specs.Phases.{rowsFrom}
+use Rattle.plan.specs.Plan.{accepted, rejected, rowFault, zeros, blockOf, refusedRead, planRead}
+use Rattle.plan.specs.Plan.{rowsFrom}
 use Rattle.plan.specs.Passed.{RowPassed, row-passed}
 use Rattle.plan.specs.Block.{Short, short-more, blank, length-block, row-stored}
 use Rattle.plan.specs.declared.Head.{Head}
@@ -25,30 +26,30 @@ pub record Rowing (f : Floor) (h : Head) (s block : List ℕ) (n at : ℕ) : Typ
   pub count : n ≡ length rows
   pub few : n ≤ 32
   pub short : Short rows
-  pub holds : block ≡ blockFrom 32 rows
+  pub holds : block ≡ blockOf rows
   pub within : at ≤ length s
   pub same : rowsFrom f h rows at s ≡ rowsFrom f h [] 10 s
 
 module _ (f : Floor) (h : Head) (s : List ℕ) where
   pub begin : 10 ≤ length s → Rowing f h s (zeros 2048) 0 10
-  begin l = record { rows = []; count = refl; few = omega arith; short = tt; holds = sym (blank 32); within = l; same = refl }
+  begin l = record { rows = []; count = refl; few = omega arith; short = tt; holds = blank; within = l; same = refl }
 
   module _ (block : List ℕ) (n at : ℕ) (w : Rowing f h s block n at) where
     pub block-size : length block ≡ 2048
-    block-size = ap length (w .holds) ∙ length-block 32 (w .rows) (w .short) (omega (arith, w .count, w .few))
+    block-size = ap length (w .holds) ∙ length-block (w .rows) (w .short) (omega (arith, w .count, w .few))
 
     -- the result is the refusal at this offset, if reading from here on comes to that
     stop : (r : Refusal) → rowsFrom f h (w .rows) at s ≡ rejected r → refusedRead (AboutPlan r) ≡ planRead f (rowsFrom f h [] 10 s)
     stop r e = ap (planRead f) (sym e ∙ w .same)
 
-    pub stop-short : foundAt s at ≡ End → n < f .carts → refusedRead (AboutPlan (refused 7 at)) ≡ planRead f (rowsFrom f h [] 10 s)
+    pub stop-short : foundAt s at ≡ End → n < f .carts → refusedRead (AboutPlan (atOffset 7 at)) ≡ planRead f (rowsFrom f h [] 10 s)
     stop-short e l =
         let c = w .count in
         let m : length (w .rows) < f .carts = omega arith in
-        stop (refused 7 at) (rows-end f h (w .rows) s at e ∙ simp (lt-ltb _ _ m))
+        stop (atOffset 7 at) (rows-end f h (w .rows) s at e ∙ simp (lt-ltb _ _ m))
 
-    pub stop-cut : foundAt s at ≡ Cut → refusedRead (AboutPlan (refused 2 at)) ≡ planRead f (rowsFrom f h [] 10 s)
-    stop-cut e = stop (refused 2 at) (rows-cut f h (w .rows) s at e)
+    pub stop-cut : foundAt s at ≡ Cut → refusedRead (AboutPlan (atOffset 2 at)) ≡ planRead f (rowsFrom f h [] 10 s)
+    stop-cut e = stop (atOffset 2 at) (rows-cut f h (w .rows) s at e)
 
     -- the rows are complete
     pub done : foundAt s at ≡ End → f .carts ≤ n
@@ -67,17 +68,17 @@ module _ (f : Floor) (h : Head) (s : List ℕ) where
       counted : (m : ℕ) → m ≡ rowFault f h n k body → rowFault f h (length (w .rows)) k body ≡ m
       counted m q = ap (λ (x : ℕ). rowFault f h x k body) (sym (w .count)) ∙ sym q
 
-      pub stop-fault : (m : ℕ) → m ≡ rowFault f h n k body → (m ≡ 0 → ⊥) → refusedRead (AboutPlan (refused m at)) ≡ planRead f (rowsFrom f h [] 10 s)
-      stop-fault m q z = stop (refused m at) (rows-fault f h (w .rows) s at k a e found m (counted m q) z)
+      pub stop-fault : (m : ℕ) → m ≡ rowFault f h n k body → (m ≡ 0 → ⊥) → refusedRead (AboutPlan (atOffset m at)) ≡ planRead f (rowsFrom f h [] 10 s)
+      stop-fault m q z = stop (atOffset m at) (rows-fault f h (w .rows) s at k a e found m (counted m q) z)
 
-      module _ (m : ℕ) (q : m ≡ rowFault f h n k body) (z : m ≡ 0) (steps : h .steps ≤ 64) where
+      module _ (m : ℕ) (q : m ≡ rowFault f h n k body) (z : m ≡ 0) (steps : h .steps ≤ 64) (slots : f .carts ≤ 32) where
         pub passes : RowPassed f h n k body
         passes = row-passed f h n k body (sym q ∙ z)
 
         pub fits : n * 64 + length body ≤ length block
         fits =
             let p = passes in
-            omega (arith, block-size, p .size, p .slot)
+            omega (arith, block-size, p .size, p .room, slots)
 
         pub again : (block′ : List ℕ) → block′ ≡ stored block (n * 64) body → Rowing f h s block′ (n + 1) e
         again block′ r =
@@ -87,10 +88,10 @@ module _ (f : Floor) (h : Head) (s : List ℕ) where
             record {
               rows = w .rows ++ (body ∷ []);
               count = omega (arith, w .count, length-append (w .rows) (body ∷ []));
-              few = omega (arith, p .slot);
+              few = omega (arith, p .room, slots);
               short = short-more (w .rows) body (w .short) l;
               holds = r ∙ ap₂ (λ (x : List ℕ) (y : ℕ). stored x (y * 64) body) (w .holds) (w .count)
-                  ∙ row-stored 32 (w .rows) body (w .short) l (omega (arith, p .slot, w .count));
+                  ∙ row-stored (w .rows) body (w .short) l (omega (arith, p .room, slots, w .count));
               within = o .within;
               same = sym (rows-good f h (w .rows) s at k a e found (counted m q ∙ z)) ∙ w .same;
             }

@@ -6,7 +6,7 @@ use mathlib.Core.List.{List, _++_}
 use lib.ListN.{length, drop}
 use Rattle.record.specs.Record.{encoded, layout}
 use Rattle.record.specs.Parts.{ofKind, laid}
-use Rattle.record.specs.Found.{stored}
+use Rattle.record.specs.Buffer.{stored}
 use Rattle.record.specs.Stored.{stored-more, stored-front}
 use Rattle.record.specs.RoundTrip.{length-encoded}
 use Rattle.plan.specs.Numbers.{headBytes, planBytes}

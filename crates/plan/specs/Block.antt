@@ -3,43 +3,25 @@ use Prim.Native.Nat.{ℕ, zero, suc, _+_, _*_, _-_, _≤_, _<_}
 use native.Mathlib.Nat.{add-sub-of-le}
 use native.Mathlib.Omega.{arith}
 use mathlib.Core.Path.{_≡_, refl, sym, ap, ap₂, _∙_}
-use mathlib.Core.List.{List, [], _∷_, _++_, append-assoc}
-use lib.ListN.{length, take, drop, length-append, length-replicate, replicate-append-replicate}
-use lib.Seq.{take-append-add, drop-append-add, drop-append-le, drop-at}
-use Rattle.record.specs.Found.{stored}
-use Rattle.plan.specs.Plan.{zeros, padded, blockFrom}
+use mathlib.Core.List.{List, [], _∷_, _++_, map, flatten, append-assoc, append-nil}
+use lib.ListN.{length, take, drop, getD, length-append, length-replicate, replicate-append-replicate}
+use lib.Seq.{take-append-add, drop-append-add, take-at, drop-at}
+use Rattle.record.specs.Buffer.{stored}
+use Rattle.record.specs.Laid.{AllOf}
+use Rattle.plan.specs.Plan.{zeros, padded, blockOf}
 
 length-zeros : (n : ℕ) → length (zeros n) ≡ n
 unfolding zeros
 length-zeros n = length-replicate n 0
 
--- with no rows it is zeros
-pub blank : (k : ℕ) → blockFrom k [] ≡ zeros (64 * k)
-unfolding blockFrom zeros
-blank zero = refl
-blank (suc k) =
-    let n : 64 + 64 * k ≡ 64 * suc k = omega arith in
-    ap (λ (x : List ℕ). zeros 64 ++ x) (blank k) ∙ replicate-append-replicate 64 (64 * k) 0 ∙ ap zeros n
+zeros-append : (n m : ℕ) → zeros n ++ zeros m ≡ zeros (n + m)
+unfolding zeros
+zeros-append n m = replicate-append-replicate n m 0
 
 drop-zeros : (n m : ℕ) → m ≤ n → drop m (zeros n) ≡ zeros (n - m)
-unfolding zeros
 drop-zeros n m h =
     let e : m + (n - m) ≡ n = add-sub-of-le h in
-    ap (λ (k : ℕ). drop m (zeros k)) (sym e) ∙ ap (drop m) (sym (replicate-append-replicate m (n - m) 0)) ∙ drop-at (zeros m) (zeros (n - m)) m (length-zeros m)
-
--- a row with what fills it up is 64 bytes
-length-padded : (row : List ℕ) → length row ≤ 64 → length (padded row) ≡ 64
-length-padded row h =
-    let a = length-append row (zeros (64 - length row)) in
-    let b = length-zeros (64 - length row) in
-    omega arith
-
--- bytes stored behind a part
-stored-behind : (p q : List ℕ) (at : ℕ) (s : List ℕ) → stored (p ++ q) (length p + at) s ≡ p ++ stored q at s
-stored-behind p q at s =
-    let n : length p + at + length s ≡ length p + (at + length s) = omega arith in
-    ap₂ (λ (x y : List ℕ). x ++ (s ++ y)) (take-append-add p q at) (ap (λ (k : ℕ). drop k (p ++ q)) n ∙ drop-append-add p q (at + length s))
-    ∙ append-assoc p (take at q) (s ++ drop (at + length s) q)
+    ap (λ (k : ℕ). drop m (zeros k)) (sym e) ∙ ap (drop m) (sym (zeros-append m (n - m))) ∙ drop-at (zeros m) (zeros (n - m)) m (length-zeros m)
 
 -- all rows fit their 64 bytes
 abbrev pub Short : List (List ℕ) → Type 0
@@ -50,33 +32,81 @@ pub short-more : (rows : List (List ℕ)) (row : List ℕ) → Short rows → le
 short-more [] row s h = (h, tt)
 short-more (r ∷ rows) row s h = (s .0, short-more rows row (s .1) h)
 
-pub length-block : (k : ℕ) (rows : List (List ℕ)) → Short rows → length rows ≤ k → length (blockFrom k rows) ≡ 64 * k
-unfolding blockFrom
-length-block zero rows s h = refl
-length-block (suc k) [] s h =
-    let a = length-append (zeros 64) (blockFrom k []) in
-    let b = length-zeros 64 in
-    let c = length-block k [] tt (omega arith) in
-    omega arith
-length-block (suc k) (row ∷ rows) s h =
-    let a = length-append (padded row) (blockFrom k rows) in
-    let b = length-padded row (s .0) in
-    let c = length-block k rows (s .1) (omega arith) in
+-- a row with what fills it up is 64 bytes
+length-padded : (row : List ℕ) → length row ≤ 64 → length (padded row) ≡ 64
+length-padded row h =
+    let a = length-append row (zeros (64 - length row)) in
+    let b = length-zeros (64 - length row) in
     omega arith
 
+length-rows : (rows : List (List ℕ)) → Short rows → length (flatten (map padded rows)) ≡ 64 * length rows
+unfolding flatten
+length-rows [] s = refl
+length-rows (row ∷ rows) s =
+    let a = length-append (padded row) (flatten (map padded rows)) in
+    let b = length-padded row (s .0) in
+    let c = length-rows rows (s .1) in
+    omega arith
+
+rows-append : (rows : List (List ℕ)) (row : List ℕ) → flatten (map padded (rows ++ (row ∷ []))) ≡ flatten (map padded rows) ++ padded row
+unfolding flatten
+rows-append [] row = append-nil (padded row)
+rows-append (r ∷ rows) row = ap (λ (x : List ℕ). padded r ++ x) (rows-append rows row) ∙ sym (append-assoc (padded r) (flatten (map padded rows)) (padded row))
+
+-- with no rows it is zeros
+pub blank : zeros 2048 ≡ blockOf []
+unfolding blockOf flatten
+blank = refl
+
+pub length-block : (rows : List (List ℕ)) → Short rows → length rows ≤ 32 → length (blockOf rows) ≡ 2048
+unfolding blockOf
+length-block rows s h =
+    let a = length-append (flatten (map padded rows)) (zeros (64 * (32 - length rows))) in
+    let b = length-rows rows s in
+    let c = length-zeros (64 * (32 - length rows)) in
+    omega arith
+
+-- bytes stored behind a part
+stored-behind : (p q : List ℕ) (at : ℕ) (s : List ℕ) → stored (p ++ q) (length p + at) s ≡ p ++ stored q at s
+stored-behind p q at s =
+    let n : length p + at + length s ≡ length p + (at + length s) = omega arith in
+    ap₂ (λ (x y : List ℕ). x ++ (s ++ y)) (take-append-add p q at) (ap (λ (k : ℕ). drop k (p ++ q)) n ∙ drop-append-add p q (at + length s))
+    ∙ append-assoc p (take at q) (s ++ drop (at + length s) q)
+
 -- storing a row behind the others gives the block with it
-pub row-stored : (k : ℕ) (rows : List (List ℕ)) (row : List ℕ) → Short rows → length row ≤ 64 → length rows < k
-    → stored (blockFrom k rows) (length rows * 64) row ≡ blockFrom k (rows ++ (row ∷ []))
-unfolding blockFrom
-row-stored zero rows row s h l = absurd (omega arith)
-row-stored (suc k) [] row s h l =
-    let n : 0 + length row ≡ length row = omega arith in
-    let fits : length row ≤ length (zeros 64) = omega (arith, length-zeros 64) in
-    ap (λ (m : ℕ). row ++ drop m (zeros 64 ++ blockFrom k [])) n
-    ∙ ap (λ (x : List ℕ). row ++ x) (drop-append-le (length row) (zeros 64) (blockFrom k []) fits ∙ ap (λ (x : List ℕ). x ++ blockFrom k []) (drop-zeros 64 (length row) h))
-    ∙ sym (append-assoc row (zeros (64 - length row)) (blockFrom k []))
-row-stored (suc k) (r ∷ rows) row s h l =
-    let n : suc (length rows) * 64 ≡ length (padded r) + length rows * 64 = omega (arith, length-padded r (s .0)) in
-    ap (λ (at : ℕ). stored (padded r ++ blockFrom k rows) at row) n
-    ∙ stored-behind (padded r) (blockFrom k rows) (length rows * 64) row
-    ∙ ap (λ (x : List ℕ). padded r ++ x) (row-stored k rows row (s .1) h (omega arith))
+pub row-stored : (rows : List (List ℕ)) (row : List ℕ) → Short rows → length row ≤ 64 → length rows < 32
+    → stored (blockOf rows) (length rows * 64) row ≡ blockOf (rows ++ (row ∷ []))
+unfolding blockOf
+row-stored rows row s h l =
+    let front : List ℕ = flatten (map padded rows) in
+    let m = 64 * (32 - length rows) in
+    let rest = 64 * (32 - length (rows ++ (row ∷ []))) in
+    let a = length-append rows (row ∷ []) in
+    let at : length rows * 64 ≡ length front + 0 = omega (arith, length-rows rows s) in
+    let none : 0 + length row ≡ length row = omega arith in
+    let fill : m - length row ≡ 64 - length row + rest = omega arith in
+    ap (λ (k : ℕ). stored (front ++ zeros m) k row) at ∙ stored-behind front (zeros m) 0 row
+    ∙ ap (λ (x : List ℕ). front ++ (row ++ x)) (ap (λ (k : ℕ). drop k (zeros m)) none ∙ drop-zeros m (length row) (omega arith) ∙ ap zeros fill ∙ sym (zeros-append (64 - length row) rest))
+    ∙ ap (λ (x : List ℕ). front ++ x) (sym (append-assoc row (zeros (64 - length row)) (zeros rest)))
+    ∙ sym (append-assoc front (padded row) (zeros rest)) ∙ ap (λ (x : List ℕ). x ++ zeros rest) (sym (rows-append rows row))
+
+-- "cart n's row beginning at 64 times n"
+row-in : (k : ℕ) (rows : List (List ℕ)) (t : List ℕ) (n : ℕ) → Short rows → AllOf k rows → n < length rows → take k (drop (64 * n) (flatten (map padded rows) ++ t)) ≡ getD rows n []
+unfolding flatten
+row-in k [] t n s a l = absurd (omega arith)
+row-in k (row ∷ rows) t zero s a l =
+    let front = flatten (map padded rows) in
+    ap (take k) (append-assoc (padded row) front t ∙ append-assoc row (zeros (64 - length row)) (front ++ t)) ∙ take-at row (zeros (64 - length row) ++ (front ++ t)) k (a .0)
+row-in k (row ∷ rows) t (suc n) s a l =
+    let front = flatten (map padded rows) in
+    let m : 64 * suc n ≡ length (padded row) + 64 * n = omega (arith, length-padded row (s .0)) in
+    ap (take k) (ap₂ drop m (append-assoc (padded row) front t) ∙ drop-append-add (padded row) (front ++ t) (64 * n))
+    ∙ row-in k rows t n (s .1) (a .1) (omega arith)
+
+pub row-at : (k : ℕ) (rows : List (List ℕ)) (n : ℕ) → Short rows → AllOf k rows → n < length rows → take k (drop (64 * n) (blockOf rows)) ≡ getD rows n []
+unfolding blockOf
+row-at k rows n s a l = row-in k rows (zeros (64 * (32 - length rows))) n s a l
+
+pub short-all : (k : ℕ) (rows : List (List ℕ)) → k ≤ 64 → AllOf k rows → Short rows
+short-all k [] h a = tt
+short-all k (row ∷ rows) h a = (omega (arith, a .0), short-all k rows h (a .1))

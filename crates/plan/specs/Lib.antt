@@ -1,7 +1,10 @@
+-- definitions
 pub mod Plan
 pub mod Numbers
+pub mod Valid
+-- promises
 pub mod Promises
-pub mod Phases
+-- laws
 pub mod Block
 pub mod Passed
 pub mod RoundTrip

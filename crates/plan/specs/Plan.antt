@@ -1,126 +1,142 @@
--- Reading a plan for an accepted floor.
-use Prim.Native.Nat.{ℕ, zero, suc, _+_, _-_}
+-- Reading a plan: "the floor's, then 1, and in each record 2, 3, 4, 5, 8, 9; 7 at the end".
+use Prim.Native.Nat.{ℕ, zero, suc, _+_, _*_, _-_}
 use mathlib.Core.Bool.{Bool, true, false, cond, not, _||_}
-use mathlib.Core.List.{List, [], _∷_, _++_}
+use mathlib.Core.List.{List, [], _∷_, _++_, map, flatten}
 use lib.Dec.{eqb, leb, ltb}
 use lib.ListN.{length, take, drop, replicate}
 use Rattle.endian.specs.Little.{value}
-use Rattle.refusal.specs.Codes.{refused, firstOf}
+use Rattle.refusal.specs.Codes.{atOffset, firstFault}
 use Rattle.refusal.specs.declared.Refusal.{Refusal}
 use Rattle.refusal.specs.declared.Verdict.{Verdict}
 use Rattle.refusal.specs.declared.Verdict.the-variants.{Accepted, Floor as AboutFloor, Plan as AboutPlan}
-use Rattle.record.specs.Record.{Record, recordsIn}
-use Rattle.floor.specs.Floor.{nothing, readFloor}
+use Rattle.record.specs.Record.{Record, Split, recordsIn}
+use Rattle.floor.specs.Floor.{emptyFloor, readFloor}
 use Rattle.floor.specs.declared.Floor.{Floor}
 use Rattle.floor.specs.declared.FloorAnswer.{FloorAnswer}
-use Rattle.floor.specs.declared.FloorAnswer.the-variants.{Read as FloorRead, Refused as FloorRefused}
+use Rattle.floor.specs.declared.FloorAnswer.the-variants.{Read as FloorAccepted, Refused as FloorRefused}
 use Rattle.plan.specs.declared.Head.{Head}
 use Rattle.plan.specs.declared.HeadAnswer.{HeadAnswer}
 use Rattle.plan.specs.declared.HeadAnswer.the-variants.{Good, Refused}
 use Rattle.plan.specs.declared.RowAnswer.{RowAnswer}
-use Rattle.plan.specs.declared.RowAnswer.the-variants.{Fits, Length, Absent}
+use Rattle.plan.specs.declared.RowAnswer.the-variants.{Fits, WrongLength, Absent}
 use Rattle.plan.specs.declared.Plan.{Plan}
 use Rattle.plan.specs.declared.PlanRead.{PlanRead}
 
--- the numbers that a plan holds: its head, and a row of places for each cart
+-- the numbers that a plan holds: its head, and for each cart in file order a row of places
 pub record Numbers : Type 0 where
   pub head : Head
   pub rows : List (List ℕ)
 
 -- "head: h, l, d, two bytes each"
-abbrev pub headIn : List ℕ → Head
-headIn body = record { steps = value (take 2 body); lap = value (take 2 (drop 2 body)); drift = value (take 2 (drop 4 body)) }
+abbrev pub headFrom : List ℕ → Head
+headFrom body = record { steps = value (take 2 body); stem = value (take 2 (drop 2 body)); drift = value (take 2 (drop 4 body)) }
 
--- 8: "steps 1 to 64, first step of the lap (below h), drift 0 to 16"
+-- 8 "(h, l or d out of range)": "steps 1 to 64, first step of the lap (below h), drift 0 to 16"
 abbrev pub outOfRange : Head → Bool
-outOfRange h = eqb (h .steps) 0 || (ltb 64 (h .steps) || (leb (h .steps) (h .lap) || ltb 16 (h .drift)))
+outOfRange h = eqb (h .steps) 0 || (ltb 64 (h .steps) || (leb (h .steps) (h .stem) || ltb 16 (h .drift)))
 
--- the first record is the head: its refusal, 0 for none
+-- "A plan [holds] kind 4 and then 5"; "with no valid head first, a row is 3": the first record's refusal, 0 for none
 abbrev pub headFault : ℕ → List ℕ → ℕ
-headFault kind body = firstOf ((not (eqb kind 4), 3) ∷ (not (eqb (length body) 6), 4) ∷ (outOfRange (headIn body), 8) ∷ [])
+headFault kind body = firstFault ((not (eqb kind 4), 3) ∷ (not (eqb (length body) 6), 4) ∷ (outOfRange (headFrom body), 8) ∷ [])
 
 abbrev pub headBy : ℕ → Head → HeadAnswer
 headBy zero h = Good h
-headBy (suc n) h = Refused (refused (suc n) 0)
+headBy (suc n) h = Refused (atOffset (suc n) 0)
 
 unfoldable pub judgedHead : ℕ → List ℕ → HeadAnswer
-judgedHead kind body = headBy (headFault kind body) (headIn body)
+judgedHead kind body = headBy (headFault kind body) (headFrom body)
 
--- the lowest step of a row, from step i on, whose place is not on the floor
-unfoldable pub lowestAbsent : ℕ → ℕ → List ℕ → RowAnswer
-lowestAbsent places i [] = Fits
-lowestAbsent places i (p ∷ row) = cond (leb places p) (Absent i) (lowestAbsent places (suc i) row)
+-- the first record of a file: 2 "cut short", 7 "at the end for no head", or judged
+abbrev pub firstHead : List Record → Bool → HeadAnswer
+firstHead [] true = Refused (atOffset 2 0)
+firstHead [] false = Refused (atOffset 7 0)
+firstHead (r ∷ rs) cut = judgedHead (r .kind) (r .body)
 
--- a row judged on its body alone
+abbrev pub headIn : Split → HeadAnswer
+headIn s = firstHead (s .records) (s .cut)
+
+-- places from step i on: the lowest step whose place is not on the floor, places being numbered from 0
+unfoldable pub judgedPlaces : ℕ → ℕ → List ℕ → RowAnswer
+judgedPlaces places i [] = Fits
+judgedPlaces places i (p ∷ row) = cond (leb places p) (Absent i) (judgedPlaces places (suc i) row)
+
+-- "A row is judged on the record's body alone": "h bytes, one place a step"
 unfoldable pub judgedRow : List ℕ → ℕ → ℕ → RowAnswer
-judgedRow body steps places = cond (eqb (length body) steps) (lowestAbsent places 0 body) Length
+judgedRow body steps places = cond (eqb (length body) steps) (judgedPlaces places 0 body) WrongLength
 
--- 9: "place not on the floor"
-abbrev pub isAbsent : RowAnswer → Bool
-isAbsent (Absent i) = true
-isAbsent Fits = false
-isAbsent Length = false
+-- document 01's number of each answer: 4 "wrong body length", 9 "place not on the floor", 0 for none
+abbrev pub rowNumber : RowAnswer → ℕ
+rowNumber Fits = 0
+rowNumber WrongLength = 4
+rowNumber (Absent i) = 9
 
--- behind the head each record is a row: its refusal, 0 for none; 5: "more rows than carts", of which no floor has over 32
+-- behind the head every record is a row, and a second head is 3; 5 "more rows than carts": a record's refusal behind n rows, 0 for none
+abbrev pub rowFaultBy : RowAnswer → Floor → ℕ → ℕ → ℕ
+rowFaultBy a f n kind = firstFault ((not (eqb kind 5), 3) ∷ (eqb (rowNumber a) 4, 4) ∷ (leb (f .carts) n, 5) ∷ (eqb (rowNumber a) 9, 9) ∷ [])
+
 abbrev pub rowFault : Floor → Head → ℕ → ℕ → List ℕ → ℕ
-rowFault f h n kind body =
-    firstOf ((not (eqb kind 5), 3) ∷ (not (eqb (length body) (h .steps)), 4) ∷ (leb (f .carts) n || leb 32 n, 5)
-    ∷ (isAbsent (lowestAbsent (f .places) 0 body), 9) ∷ [])
+rowFault f h n kind body = rowFaultBy (judgedRow body (h .steps) (f .places)) f n kind
 
 -- the answer: the plan's numbers or its refusal
 pub data PlanAnswer : Type 0 where
   accepted : Numbers → PlanAnswer
   rejected : Refusal → PlanAnswer
 
--- rows in order, up to the first refusal; at the end 2 "cut short", or 7 "too few rows"
+-- behind the last whole record: 2 "cut short", or 7 "at the end for .. too few rows"
 abbrev pub rowsEnd : Floor → Head → List (List ℕ) → ℕ → Bool → PlanAnswer
-rowsEnd f h rows at true = rejected (refused 2 at)
-rowsEnd f h rows at false = cond (ltb (length rows) (f .carts)) (rejected (refused 7 at)) (accepted (record { head = h; rows = rows }))
+rowsEnd f h rows at true = rejected (atOffset 2 at)
+rowsEnd f h rows at false = cond (ltb (length rows) (f .carts)) (rejected (atOffset 7 at)) (accepted (record { head = h; rows = rows }))
 
+-- on with what follows a record, or a refusal at its offset
 abbrev pub onward : ℕ → ℕ → PlanAnswer → PlanAnswer
 onward zero at next = next
-onward (suc n) at next = rejected (refused (suc n) at)
+onward (suc n) at next = rejected (atOffset (suc n) at)
 
+-- "The lowest offset wins": records in order, with the rows and the offset so far, up to the first refusal
 unfoldable pub readRows : Floor → Head → List (List ℕ) → ℕ → List Record → Bool → PlanAnswer
 readRows f h rows at [] cut = rowsEnd f h rows at cut
 readRows f h rows at (r ∷ rs) cut =
     onward (rowFault f h (length rows) (r .kind) (r .body)) at (readRows f h (rows ++ (r .body ∷ [])) (at + 4 + length (r .body)) rs cut)
 
--- "With no valid head first, a row is 3"; 7 "no head"
+-- a file from an offset on, behind a head and rows
+abbrev pub rowsFrom : Floor → Head → List (List ℕ) → ℕ → List ℕ → PlanAnswer
+rowsFrom f h rows at s = readRows f h rows at (recordsIn (drop at s) .records) (recordsIn (drop at s) .cut)
+
+-- behind a head, whose record is ten bytes, come the rows
 abbrev pub behindHead : Floor → HeadAnswer → List Record → Bool → PlanAnswer
 behindHead f (Good h) rs cut = readRows f h [] 10 rs cut
 behindHead f (Refused r) rs cut = rejected r
 
+abbrev pub afterFirst : List Record → List Record
+afterFirst [] = []
+afterFirst (r ∷ rs) = rs
+
 abbrev pub readRecords : Floor → List Record → Bool → PlanAnswer
-readRecords f [] true = rejected (refused 2 0)
-readRecords f [] false = rejected (refused 7 0)
-readRecords f (r ∷ rs) cut = behindHead f (judgedHead (r .kind) (r .body)) rs cut
+readRecords f rs cut = behindHead f (firstHead rs cut) (afterFirst rs) cut
 
--- 1, and then record by record
+-- 1, and then record by record; "a file holds at most 65,536 bytes"
 unfoldable pub readPlan : Floor → List ℕ → PlanAnswer
-readPlan f s = cond (ltb 65536 (length s)) (rejected (refused 1 0)) (readRecords f (recordsIn s .records) (recordsIn s .cut))
+readPlan f s = cond (ltb 65536 (length s)) (rejected (atOffset 1 0)) (readRecords f (recordsIn s .records) (recordsIn s .cut))
 
--- "Rows are kept as 32 rows of 64 steps in one block": cart n's row begins at 64 times n; every other byte is 0
+-- "Rows are kept as 32 rows of 64 steps in one block", "cart n's row beginning at 64 times n"; every other byte is 0
 unfoldable pub zeros : ℕ → List ℕ
 zeros n = replicate n 0
 
 abbrev pub padded : List ℕ → List ℕ
 padded row = row ++ zeros (64 - length row)
 
-unfoldable pub blockFrom : ℕ → List (List ℕ) → List ℕ
-blockFrom zero rows = []
-blockFrom (suc k) [] = zeros 64 ++ blockFrom k []
-blockFrom (suc k) (row ∷ rows) = padded row ++ blockFrom k rows
+unfoldable pub blockOf : List (List ℕ) → List ℕ
+blockOf rows = flatten (map padded rows) ++ zeros (64 * (32 - length rows))
 
 abbrev pub planOf : Numbers → Plan
-planOf n = record { head = n .head; carts = length (n .rows); block = blockFrom 32 (n .rows) }
+planOf n = record { head = n .head; carts = length (n .rows); block = blockOf (n .rows) }
 
--- what reading gives: the verdict, and the floor and plan, or nothing where it refuses
-abbrev pub noNumbers : Numbers
-noNumbers = record { head = record { steps = 0; lap = 0; drift = 0 }; rows = [] }
+-- what reading gives: the verdict, and the floor and plan, or zeros where it refuses
+abbrev pub noPlan : Plan
+noPlan = record { head = record { steps = 0; stem = 0; drift = 0 }; carts = 0; block = zeros 2048 }
 
 abbrev pub refusedRead : Verdict → PlanRead
-refusedRead v = record { verdict = v; floor = nothing; plan = planOf noNumbers }
+refusedRead v = record { verdict = v; floor = emptyFloor; plan = noPlan }
 
 abbrev pub planRead : Floor → PlanAnswer → PlanRead
 planRead f (accepted n) = record { verdict = Accepted; floor = f; plan = planOf n }
@@ -128,7 +144,7 @@ planRead f (rejected r) = refusedRead (AboutPlan r)
 
 -- "Reading a plan: the floor's, then" its own
 abbrev pub onFloor : FloorAnswer → List ℕ → PlanRead
-onFloor (FloorRead f) s = planRead f (readPlan f s)
+onFloor (FloorAccepted f) s = planRead f (readPlan f s)
 onFloor (FloorRefused r) s = refusedRead (AboutFloor r)
 
 unfoldable pub readBoth : List ℕ → List ℕ → PlanRead

@@ -1,16 +1,16 @@
 -- What is written reads back as the same numbers, and what was read writes back as the same bytes.
-use Prim.Native.Nat.{ℕ, zero, suc, _+_, _≤_, _<_}
+use Prim.Native.Nat.{ℕ, zero, suc, _+_, _*_, _≤_, _<_}
 use native.Mathlib.Omega.{arith}
 use mathlib.Core.Path.{_≡_, refl, sym, ap, ap₂, subst, _∙_}
 use mathlib.Core.Bool.{Bool, true, false, cond}
 use mathlib.Core.List.{List, [], _∷_, _++_, map, flatten, append-nil, append-assoc}
 use lib.Dec.{ltb}
-use lib.ListN.{length, take, drop, length-append, length-drop, take-append-drop}
+use lib.ListN.{length, take, drop, getD, length-append, length-drop, take-append-drop}
 use lib.Seq.{take-all, length-take-le, drop-drop}
 use borrow.Author.Tests.{ltb-false}
 use Rattle.endian.specs.Little.{bytes, value, Bytes}
 use Rattle.endian.specs.RoundTrip.{value-bytes, bytes-value, bytes-take, bytes-drop}
-use Rattle.refusal.specs.Codes.{refused}
+use Rattle.refusal.specs.Codes.{atOffset}
 use Rattle.refusal.specs.declared.Refusal.{Refusal}
 use Rattle.record.specs.Record.{Record, Split, encoded, layout, recordsIn}
 use Rattle.record.specs.Parts.{parts, ofKind, laid}
@@ -22,32 +22,41 @@ use Rattle.refusal.specs.declared.Verdict.{Verdict}
 use Rattle.refusal.specs.declared.Verdict.the-variants.{Accepted, Written, Floor as AboutFloor, Plan as AboutPlan}
 use Rattle.floor.specs.Floor.{readFloor}
 use Rattle.floor.specs.declared.FloorAnswer.{FloorAnswer}
-use Rattle.floor.specs.declared.FloorAnswer.the-variants.{Read as FloorRead, Refused as FloorRefused}
+use Rattle.floor.specs.declared.FloorAnswer.the-variants.{Read as FloorAccepted, Refused as FloorRefused}
 use Rattle.floor.specs.declared.Floor.{Floor}
-use Rattle.plan.specs.Plan.{Numbers, PlanAnswer, accepted, rejected, headIn, judgedHead, rowFault, onward, readRows, behindHead, readRecords, readPlan, planRead, onFloor, readBoth}
-use Rattle.plan.specs.Numbers.{headBytes, rowsOf, planRecords, planBytes, byReading, byFloor, writePlan}
+use Rattle.plan.specs.Plan.{Numbers, PlanAnswer, accepted, rejected, headFrom, judgedPlaces, judgedHead, rowFault, onward, readRows, behindHead, readRecords, readPlan, blockOf, planRead, onFloor, readBoth}
+use Rattle.plan.specs.Numbers.{Narrow, headBytes, rowRecords, planRecords, planBytes, byReading, byFloor, writePlan}
 use Rattle.plan.specs.Promises.{Accepts}
 use Rattle.plan.specs.declared.PlanRead.{PlanRead}
-use Rattle.plan.specs.Passed.{InRange, head-passed, row-passed}
+use Rattle.plan.specs.Valid.{InRange, Valid}
+use Rattle.plan.specs.Block.{row-at, short-all}
+use Rattle.plan.specs.Passed.{all-on-floor, head-passed, row-passed}
 use Rattle.plan.specs.declared.Head.{Head}
+use Rattle.plan.specs.declared.RowAnswer.the-variants.{Fits}
 use Rattle.plan.specs.declared.HeadAnswer.{HeadAnswer}
 use Rattle.plan.specs.declared.HeadAnswer.the-variants.{Good, Refused}
+
+-- every place of every row is on the floor
+abbrev AllOn : ℕ → List (List ℕ) → Type 0
+AllOn places [] = Unit {0}
+AllOn places (row ∷ rows) = (judgedPlaces places 0 row ≡ Fits) × AllOn places rows
 
 -- the records behind an accepted head are rows, one for each cart, of the head's steps
 pub record Rows (f : Floor) (h : Head) (done : List (List ℕ)) (rs : List Record) (cut : Bool) (n : Numbers) : Type 0 where
   pub bodies : List (List ℕ)
   pub records : rs ≡ map (ofKind 5) bodies
   pub sizes : AllOf (h .steps) bodies
+  pub places : AllOn (f .places) bodies
   pub numbers : n ≡ record { head = h; rows = done ++ bodies }
   pub uncut : cut ≡ false
-  pub enough : f .carts ≤ length (done ++ bodies)
+  pub carts : length done ≤ f .carts → length (done ++ bodies) ≡ f .carts
 
 pub rows-read : (f : Floor) (h : Head) (rs : List Record) (done : List (List ℕ)) (at : ℕ) (cut : Bool) (n : Numbers) → readRows f h done at rs cut ≡ accepted n → Rows f h done rs cut n
 unfolding readRows
 rows-read f h [] done at true n e = let z : _≡_ {A = ℕ} 0 1 = cc in absurd (omega arith)
 rows-read f h [] done at false n e = go (ltb (length done) (f .carts)) refl e
   where
-    go : (b : Bool) → ltb (length done) (f .carts) ≡ b → cond b (rejected (refused 7 at)) (accepted (record { head = h; rows = done })) ≡ accepted n → Rows f h done [] false n
+    go : (b : Bool) → ltb (length done) (f .carts) ≡ b → cond b (rejected (atOffset 7 at)) (accepted (record { head = h; rows = done })) ≡ accepted n → Rows f h done [] false n
     go true p e = let z : _≡_ {A = ℕ} 0 1 = cc in absurd (omega arith)
     go false p e =
         let q : record { head = h; rows = done } ≡ n = cc in
@@ -56,9 +65,10 @@ rows-read f h [] done at false n e = go (ltb (length done) (f .carts)) refl e
           bodies = [];
           records = refl;
           sizes = tt;
+          places = tt;
           numbers = sym q ∙ ap (λ (x : List (List ℕ)). record { head = h; rows = x }) (sym a);
           uncut = refl;
-          enough = subst (λ (x : List (List ℕ)). f .carts ≤ length x) (sym a) (ltb-false _ _ p);
+          carts = λ m. let l : f .carts ≤ length done = ltb-false _ _ p in ap length a ∙ omega arith;
         }
 rows-read f h (r ∷ rs) done at cut n e = go (rowFault f h (length done) (r .kind) (r .body)) refl (rows-read f h rs (done ++ (r .body ∷ [])) (at + 4 + length (r .body)) cut n) e
   where
@@ -74,9 +84,10 @@ rows-read f h (r ∷ rs) done at cut n e = go (rowFault f h (length done) (r .ki
           bodies = r .body ∷ w .bodies;
           records = ap₂ (λ (k : ℕ) (t : List Record). ofKind k (r .body) ∷ t) (p .kind-is) (w .records);
           sizes = (p .size, w .sizes);
+          places = (p .there, w .places);
           numbers = w .numbers ∙ ap (λ (x : List (List ℕ)). record { head = h; rows = x }) a;
           uncut = w .uncut;
-          enough = subst (λ (x : List (List ℕ)). f .carts ≤ length x) a (w .enough);
+          carts = λ m. ap length (sym a) ∙ w .carts (omega (arith, p .room, length-append done (r .body ∷ [])));
         }
 
 -- an accepted plan is a head and rows
@@ -85,11 +96,12 @@ pub record Whole (f : Floor) (s : List ℕ) (n : Numbers) : Type 0 where
   pub body : List ℕ
   pub size : length body ≡ 6
   pub range : InRange (n .head)
-  pub head-is : n .head ≡ headIn body
+  pub head-is : n .head ≡ headFrom body
   pub records : recordsIn s .records ≡ ofKind 4 body ∷ map (ofKind 5) (n .rows)
   pub sizes : AllOf (n .head .steps) (n .rows)
+  pub places : AllOn (f .places) (n .rows)
   pub uncut : recordsIn s .cut ≡ false
-  pub enough : f .carts ≤ length (n .rows)
+  pub carts : length (n .rows) ≡ f .carts
 
 from-records : (f : Floor) (s : List ℕ) (n : Numbers) (rs : List Record) (cut : Bool) → length s ≤ 65536 → recordsIn s .records ≡ rs → recordsIn s .cut ≡ cut
     → readRecords f rs cut ≡ accepted n → Whole f s n
@@ -113,14 +125,15 @@ from-records f s n (r ∷ rs) cut l p q e = go (judgedHead (r .kind) (r .body)) 
           records = p ∙ ap₂ (λ (k : ℕ) (t : List Record). ofKind k (r .body) ∷ t) (g .kind-is) (w .records ∙ ap (map (ofKind 5)) rows);
           sizes = subst (λ (x : Head). AllOf (x .steps) (n .rows)) head (subst (AllOf (h .steps)) rows (w .sizes));
           uncut = q ∙ w .uncut;
-          enough = subst (λ (x : List (List ℕ)). f .carts ≤ length x) rows (w .enough);
+          places = subst (AllOn (f .places)) rows (w .places);
+          carts = ap length (sym rows) ∙ w .carts (omega arith);
         }
 
 pub whole : (f : Floor) (s : List ℕ) (n : Numbers) → readPlan f s ≡ accepted n → Whole f s n
 unfolding readPlan
 whole f s n e = go (ltb 65536 (length s)) refl e
   where
-    go : (b : Bool) → ltb 65536 (length s) ≡ b → cond b (rejected (refused 1 0)) (readRecords f (recordsIn s .records) (recordsIn s .cut)) ≡ accepted n → Whole f s n
+    go : (b : Bool) → ltb 65536 (length s) ≡ b → cond b (rejected (atOffset 1 0)) (readRecords f (recordsIn s .records) (recordsIn s .cut)) ≡ accepted n → Whole f s n
     go true p e = let z : _≡_ {A = ℕ} 0 1 = cc in absurd (omega arith)
     go false p e = from-records f s n (recordsIn s .records) (recordsIn s .cut) (ltb-false _ _ p) refl refl e
 
@@ -130,7 +143,7 @@ two-back b k h l =
     let n : length (take 2 (drop k b)) ≡ 2 = length-take-le 2 (drop k b) (omega (arith, length-drop k b)) in
     ap (λ (m : ℕ). bytes m (value (take 2 (drop k b)))) (sym n) ∙ bytes-value (take 2 (drop k b)) (bytes-take 2 (drop k b) (bytes-drop k b h))
 
-head-back : (b : List ℕ) → Bytes b → length b ≡ 6 → headBytes (headIn b) ≡ b
+head-back : (b : List ℕ) → Bytes b → length b ≡ 6 → headBytes (headFrom b) ≡ b
 head-back b h e =
     let last : take 2 (drop 4 b) ≡ drop 2 (drop 2 b) = take-all 2 (drop 4 b) (omega (arith, length-drop 4 b)) ∙ sym (drop-drop 2 2 b) in
     ap₂ _++_ (two-back b 0 h (omega arith)) (ap₂ _++_ (two-back b 2 h (omega arith)) (two-back b 4 h (omega arith) ∙ last) ∙ take-append-drop 2 (drop 2 b))
@@ -145,15 +158,9 @@ bytes-back f s n b e =
     (parts-flatten (n .head .steps) (n .rows) (w .range .some) (w .sizes)) ∙ sym (w .records))
     ∙ layout-records s b (w .uncut)
 
--- numbers as wide as the file's
-pub record Narrow (h : Head) : Type 0 where
-  pub steps : h .steps < 65536
-  pub lap : h .lap < 65536
-  pub drift : h .drift < 65536
-
-pub head-read : (h : Head) → Narrow h → headIn (headBytes h) ≡ h
+pub head-read : (h : Head) → Narrow h → headFrom (headBytes h) ≡ h
 unfolding bytes
-head-read h w = rw (value-bytes 2 (h .steps) (w .steps), value-bytes 2 (h .lap) (w .lap), value-bytes 2 (h .drift) (w .drift))
+head-read h w = rw (value-bytes 2 (h .steps) (w .steps), value-bytes 2 (h .stem) (w .stem), value-bytes 2 (h .drift) (w .drift))
 
 pub length-head : (h : Head) → length (headBytes h) ≡ 6
 unfolding bytes
@@ -181,12 +188,12 @@ bodies-of k xs ys e = sym (only xs) ∙ ap (map (λ (r : Record). r .body)) e �
 pub numbers-back : (f : Floor) (h : Head) (rows : List ℕ) (n : Numbers) → Narrow h → readPlan f (planBytes h rows) ≡ accepted n → (n .head ≡ h) × (flatten (n .rows) ≡ rows)
 numbers-back f h rows n w e =
     let g = whole f (planBytes h rows) n e in
-    let r : ofKind 4 (headBytes h) ∷ rowsOf h rows ≡ ofKind 4 (g .body) ∷ map (ofKind 5) (n .rows) =
+    let r : ofKind 4 (headBytes h) ∷ rowRecords h rows ≡ ofKind 4 (g .body) ∷ map (ofKind 5) (n .rows) =
     sym (ap (λ (x : Split). x .records) (records-layout (planRecords h rows) (plan-encodable h rows (g .short)))) ∙ g .records in
     let q : ofKind 4 (headBytes h) ≡ ofKind 4 (g .body) = cc in
     let b : headBytes h ≡ g .body = ap (λ (x : Record). x .body) q in
-    let t : rowsOf h rows ≡ map (ofKind 5) (n .rows) = cc in
-    let head : n .head ≡ h = g .head-is ∙ ap headIn (sym b) ∙ head-read h w in
+    let t : rowRecords h rows ≡ map (ofKind 5) (n .rows) = cc in
+    let head : n .head ≡ h = g .head-is ∙ ap headFrom (sym b) ∙ head-read h w in
     let some : 0 < h .steps = subst (λ (x : Head). 0 < x .steps) head (g .range .some) in
     (head, ap flatten (sym (bodies-of 5 (parts (h .steps) rows) (n .rows) t)) ∙ flatten-parts (h .steps) rows some)
 
@@ -199,9 +206,9 @@ about-plan r k e = let z : _≡_ {A = ℕ} 0 1 = cc in omega arith
 
 module _ (floor : List ℕ) (h : Head) (rows before : List ℕ) (v : Verdict) (after : List ℕ) (w : Narrow h) (k : ℕ) (e : v ≡ Written k) where
   abbrev Back : Type 0
-  Back = (f : Floor) × (n : Numbers) × (readFloor floor ≡ FloorRead f) × (readPlan f (take k after) ≡ accepted n) × (n .head ≡ h) × (flatten (n .rows) ≡ rows)
+  Back = (f : Floor) × (n : Numbers) × (readFloor floor ≡ FloorAccepted f) × (readPlan f (take k after) ≡ accepted n) × (n .head ≡ h) × (flatten (n .rows) ≡ rows)
 
-  by-plan : (f : Floor) → readFloor floor ≡ FloorRead f → (a : PlanAnswer) → readPlan f (planBytes h rows) ≡ a → Gives (byReading a (planBytes h rows) before) v after → Back
+  by-plan : (f : Floor) → readFloor floor ≡ FloorAccepted f → (a : PlanAnswer) → readPlan f (planBytes h rows) ≡ a → Gives (byReading a (planBytes h rows) before) v after → Back
   by-plan f p (rejected r) q g = absurd (about-plan r k (sym (g .answer) ∙ e))
   by-plan f p (accepted n) q g =
       let t : take k after ≡ planBytes h rows = written-front AboutPlan about-plan (planBytes h rows) before v after k g e in
@@ -210,29 +217,59 @@ module _ (floor : List ℕ) (h : Head) (rows before : List ℕ) (v : Verdict) (a
 
   by-floor : (a : FloorAnswer) → readFloor floor ≡ a → Gives (byFloor a h rows before) v after → Back
   by-floor (FloorRefused r) p g = absurd (about-floor r k (sym (g .answer) ∙ e))
-  by-floor (FloorRead f) p g = by-plan f p (readPlan f (planBytes h rows)) refl g
+  by-floor (FloorAccepted f) p g = by-plan f p (readPlan f (planBytes h rows)) refl g
 
   pub reads-back : Gives (writePlan floor h rows before) v after → Back
   unfolding writePlan
   reads-back g = by-floor (readFloor floor) refl g
 
+-- what holds of every row holds of cart c's
+each-size : (k : ℕ) (rows : List (List ℕ)) (c : ℕ) → AllOf k rows → c < length rows → length (getD rows c []) ≡ k
+each-size k [] c h l = absurd (omega arith)
+each-size k (row ∷ rows) zero h l = h .0
+each-size k (row ∷ rows) (suc c) h l = each-size k rows c (h .1) (omega arith)
+
+each-on : (places : ℕ) (rows : List (List ℕ)) (c : ℕ) → AllOn places rows → c < length rows → judgedPlaces places 0 (getD rows c []) ≡ Fits
+each-on places [] c h l = absurd (omega arith)
+each-on places (row ∷ rows) zero h l = h .0
+each-on places (row ∷ rows) (suc c) h l = each-on places rows c (h .1) (omega arith)
+
+pub valid : (f : Floor) (s : List ℕ) (n : Numbers) → readPlan f s ≡ accepted n → Valid n f
+valid f s n e =
+    let w = whole f s n e in
+    let size : (c : ℕ) → c < f .carts → length (getD (n .rows) c []) ≡ n .head .steps = λ c l. each-size (n .head .steps) (n .rows) c (w .sizes) (omega (arith, w .carts)) in
+    record {
+      head = w .range;
+      carts = w .carts;
+      steps = size;
+      places = λ c t l m. all-on-floor (f .places) 0 (getD (n .rows) c []) (each-on (f .places) (n .rows) c (w .places) (omega (arith, w .carts))) t (omega (arith, size c l));
+    }
+
+pub row-located : (f : Floor) (s : List ℕ) (n : Numbers) → readPlan f s ≡ accepted n → (c : ℕ) → c < f .carts
+    → take (n .head .steps) (drop (64 * c) (blockOf (n .rows))) ≡ getD (n .rows) c []
+row-located f s n e c l =
+    let w = whole f s n e in
+    row-at (n .head .steps) (n .rows) c (short-all (n .head .steps) (n .rows) (w .range .steps) (w .sizes)) (w .sizes) (omega (arith, w .carts))
+
 -- an accepted plan writes back as the same bytes
 module _ (floor s : List ℕ) (r : PlanRead) (b : Bytes s) (v : r .verdict ≡ Accepted) where
-  on-plan : (f : Floor) → readFloor floor ≡ FloorRead f → (a : PlanAnswer) → readPlan f s ≡ a → r ≡ planRead f a → Accepts floor s r
+  on-plan : (f : Floor) → readFloor floor ≡ FloorAccepted f → (a : PlanAnswer) → readPlan f s ≡ a → r ≡ planRead f a → Accepts floor s r
   on-plan f p (rejected x) q e = let z : AboutPlan x ≡ Accepted = sym (ap (λ (y : PlanRead). y .verdict) e) ∙ v in let y : _≡_ {A = ℕ} 0 1 = cc in absurd (omega arith)
   on-plan f p (accepted n) q e =
       let g : f ≡ r .floor = sym (ap (λ (y : PlanRead). y .floor) e) in
       record {
         numbers = n;
-        floor-read = p ∙ ap FloorRead g;
+        floor-read = p ∙ ap FloorAccepted g;
         plan-read = subst (λ (x : Floor). readPlan x s ≡ accepted n) g q;
         held = ap (λ (y : PlanRead). y .plan) e;
+        valid = subst (Valid n) g (valid f s n q);
         writes-back = bytes-back f s n b q;
+        row = λ c l. ap (λ (y : PlanRead). take (n .head .steps) (drop (64 * c) (y .plan .block))) e ∙ row-located f s n q c (subst (λ (x : Floor). c < x .carts) (sym g) l);
       }
 
   on-floor : (a : FloorAnswer) → readFloor floor ≡ a → r ≡ onFloor a s → Accepts floor s r
   on-floor (FloorRefused x) p e = let z : AboutFloor x ≡ Accepted = sym (ap (λ (y : PlanRead). y .verdict) e) ∙ v in let y : _≡_ {A = ℕ} 0 1 = cc in absurd (omega arith)
-  on-floor (FloorRead f) p e = on-plan f p (readPlan f s) refl e
+  on-floor (FloorAccepted f) p e = on-plan f p (readPlan f s) refl e
 
   pub accepts : r ≡ readBoth floor s → Accepts floor s r
   unfolding readBoth

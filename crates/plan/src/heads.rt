@@ -15,7 +15,7 @@ pub(crate) fn out_of_range(h: Head) -> bool
     if 64 < h.steps {
         return true;
     }
-    if h.steps <= h.lap {
+    if h.steps <= h.stem {
         return true;
     }
     16 < h.drift
@@ -28,7 +28,7 @@ fn number(low: u8, high: u8) -> usize
 }
 
 // Judges the first record by its kind and body.
-pub fn judge_head(kind: u16, body: &[u8]) -> HeadAnswer
+pub(crate) fn judge_head(kind: u16, body: &[u8]) -> HeadAnswer
     ensures { λ r. ⌜ r ≡ judgedHead kind (now (body .entry)) ⌝ }
 {
     if kind != 4 {
@@ -39,7 +39,7 @@ pub fn judge_head(kind: u16, body: &[u8]) -> HeadAnswer
     }
     let h = Head {
         steps: number(body[0], body[1]),
-        lap: number(body[2], body[3]),
+        stem: number(body[2], body[3]),
         drift: number(body[4], body[5]),
     };
     if out_of_range(h) {

@@ -5,18 +5,16 @@ mod rows;
 mod writing;
 
 use floor::Floor;
-pub use heads::judge_head;
 pub use reading::read;
-pub use reading::read_for;
 use refusal::Refusal;
 use refusal::Verdict;
 pub use rows::judge_row;
 pub use writing::write;
 
-// A plan's steps, the first step of its lap, and its drift.
+// Document 01's h, l and d: the steps, those of the run-in (the lap begins at step `stem`), and the drift.
 pub struct Head {
     pub steps: usize,
-    pub lap: usize,
+    pub stem: usize,
     pub drift: usize,
 }
 
@@ -29,7 +27,7 @@ pub enum HeadAnswer {
 // A row judged on its body: every place is on the floor, or its length is wrong, or the lowest step whose place is absent.
 pub enum RowAnswer {
     Fits,
-    Length,
+    WrongLength,
     Absent(usize),
 }
 

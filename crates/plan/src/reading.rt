@@ -13,12 +13,11 @@ ghost use mathlib.Core.Path.{_≡_};
 ghost use Prim.Native.Nat.{_≤_};
 ghost use mathlib.Core.List.{[]};
 ghost use lib.ListN.{length};
-ghost use Rattle.refusal.specs.Codes.{refused};
+ghost use Rattle.refusal.specs.Codes.{atOffset};
 ghost use Rattle.refusal.specs.declared.Verdict.the-variants.{Plan as AboutPlan};
 ghost use Rattle.record.specs.Record.{recordsIn};
-ghost use Rattle.plan.specs.Plan.{refusedRead, planRead, readPlan};
+ghost use Rattle.plan.specs.Plan.{refusedRead, planRead, headIn, rowsFrom, readPlan};
 ghost use Rattle.plan.specs.Promises.{PlanReads};
-ghost use Rattle.plan.specs.Phases.{rowsFrom, headOf};
 
 // A refusal, with no floor and no plan.
 fn refuse(verdict: Verdict) -> PlanRead
@@ -34,7 +33,7 @@ fn refuse(verdict: Verdict) -> PlanRead
         plan: Plan {
             head: Head {
                 steps: 0,
-                lap: 0,
+                stem: 0,
                 drift: 0,
             },
             carts: 0,
@@ -46,14 +45,14 @@ fn refuse(verdict: Verdict) -> PlanRead
 // A plan's refusal at an offset.
 fn refuse_at(number: u32, at: usize) -> PlanRead
     requires { ⌜ at ≤ 65536 ⌝ }
-    ensures { λ r. ⌜ r ≡ refusedRead (AboutPlan (refused number at)) ⌝ }
+    ensures { λ r. ⌜ r ≡ refusedRead (AboutPlan (atOffset number at)) ⌝ }
 {
     refuse(Verdict::Plan(refusal::at_offset(number, at as u32)))
 }
 
 // The rows behind a head. The head's record is ten bytes.
 fn read_rows(f: Floor, h: Head, s: &[u8]) -> PlanRead
-    requires { ⌜ (h .steps ≤ 64) × (10 ≤ length (now s)) × (length (now s) ≤ 65536) ⌝ }
+    requires { ⌜ (f .carts ≤ 32) × (h .steps ≤ 64) × (10 ≤ length (now s)) × (length (now s) ≤ 65536) ⌝ }
     ensures { λ r. ⌜ r ≡ planRead f (rowsFrom f h [] 10 (now (s .entry))) ⌝ }
 {
     let mut block = [0u8; 2048];
@@ -94,7 +93,7 @@ fn read_rows(f: Floor, h: Head, s: &[u8]) -> PlanRead
 
 // The head's record.
 fn read_head(s: &[u8]) -> HeadAnswer
-    ensures { λ r. ⌜ r ≡ headOf (recordsIn (now (s .entry))) ⌝ }
+    ensures { λ r. ⌜ r ≡ headIn (recordsIn (now (s .entry))) ⌝ }
 {
     match record::find(s, 0) {
         Found::End => HeadAnswer::Refused(refusal::at_offset(7, 0)),
@@ -104,7 +103,8 @@ fn read_head(s: &[u8]) -> HeadAnswer
 }
 
 // Reads a plan for a floor that is read already.
-pub fn read_for(f: Floor, s: &[u8]) -> PlanRead
+fn read_for(f: Floor, s: &[u8]) -> PlanRead
+    requires { ⌜ f .carts ≤ 32 ⌝ }
     ensures { λ r. ⌜ r ≡ planRead f (readPlan f (now (s .entry))) ⌝ }
 {
     if 65536 < s.len() {

@@ -3,7 +3,7 @@ use crate::Head;
 use crate::RowAnswer;
 use floor::Floor;
 ghost use mathlib.Core.Path.{_≡_};
-ghost use mathlib.Core.Bool.{cond, _||_};
+ghost use mathlib.Core.Bool.{cond};
 ghost use lib.Dec.{leb};
 ghost use Rattle.plan.specs.Plan.{judgedRow, rowFault};
 
@@ -18,7 +18,7 @@ pub fn judge_row(body: &[u8], steps: usize, places: usize) -> RowAnswer
     ensures { λ r. ⌜ r ≡ judgedRow (now (body .entry)) steps places ⌝ }
 {
     if body.len() != steps {
-        return RowAnswer::Length;
+        return RowAnswer::WrongLength;
     }
     let mut i: usize = 0;
     while i < body.len() {
@@ -32,12 +32,9 @@ pub fn judge_row(body: &[u8], steps: usize, places: usize) -> RowAnswer
 
 // 5 if no cart is left for another row behind n, else the number given.
 fn if_room(f: Floor, n: usize, otherwise: u32) -> u32
-    ensures { λ r. ⌜ r ≡ cond (leb (f .carts) n || leb 32 n) 5 otherwise ⌝ }
+    ensures { λ r. ⌜ r ≡ cond (leb (f .carts) n) 5 otherwise ⌝ }
 {
-    if f.carts <= n {
-        return 5;
-    }
-    if 32 <= n { 5 } else { otherwise }
+    if f.carts <= n { 5 } else { otherwise }
 }
 
 // The refusal of a record behind n rows, 0 for none.
@@ -48,7 +45,7 @@ pub(crate) fn row_fault(f: Floor, h: Head, n: usize, kind: u16, body: &[u8]) -> 
         return 3;
     }
     match judge_row(body, h.steps, f.places) {
-        RowAnswer::Length => 4,
+        RowAnswer::WrongLength => 4,
         RowAnswer::Absent(_) => if_room(f, n, 9),
         RowAnswer::Fits => if_room(f, n, 0),
     }

@@ -6,7 +6,7 @@ use mathlib.Core.List.{List, [], _++_, append-assoc, append-nil}
 use lib.ListN.{length, take, drop, length-append, drop-of-length-le}
 use Rattle.record.specs.Record.{encoded}
 use Rattle.record.specs.Parts.{ofKind, laid}
-use Rattle.record.specs.Found.{stored}
+use Rattle.record.specs.Buffer.{stored}
 use Rattle.record.specs.Stored.{stored-nothing, stored-more, length-stored}
 use Rattle.record.specs.RoundTrip.{length-encoded}
 use Rattle.record.specs.Laid.{PartAt, laid-step, length-step, laid-none}

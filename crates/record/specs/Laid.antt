@@ -10,7 +10,7 @@ use mathlib.Core.List.{List, [], _∷_, _++_, map, append-assoc, flatten}
 use lib.ListN.{length, take, drop, length-append, length-drop, take-append-drop, drop-of-length-le}
 use lib.Seq.{take-all, take-length, drop-length, drop-drop, take-at, drop-at, length-take-le}
 use Rattle.record.specs.Record.{Record, encoded, layout}
-use Rattle.record.specs.Parts.{partsIn, parts, ofKind, laid}
+use Rattle.record.specs.Parts.{partsIn, parts, partCount, ofKind, laid}
 use Rattle.record.specs.Fuel.{parts-none, parts-open}
 use Rattle.record.specs.RoundTrip.{AllEncodable, length-encoded}
 
@@ -78,10 +78,6 @@ module _ (k size : ℕ) (l : List ℕ) (i end : ℕ) (at : PartAt size l i end) 
 pub laid-none : (k size : ℕ) → laid k size [] ≡ []
 unfolding layout
 laid-none k size = ap (λ (x : List (List ℕ)). layout (map (ofKind k) x)) (parts-none size)
-
--- how many parts of a size n bytes make
-abbrev pub partCount : ℕ → ℕ → ℕ
-partCount size n = (n + (size - 1)) / size
 
 count-step : (size n : ℕ) → 0 < size → 0 < n → partCount size n ≡ partCount size (n - min size n) + 1
 count-step size n p h = go (leb size n) refl

@@ -1,6 +1,9 @@
+-- definitions
 pub mod Record
 pub mod Parts
 pub mod Found
+pub mod Buffer
+-- laws
 pub mod Stored
 pub mod Fuel
 pub mod Opened

@@ -10,7 +10,7 @@ use lib.ListN.{length, take, drop, length-drop, drop-of-length-le}
 use lib.Seq.{length-take-le, drop-drop}
 use borrow.Author.Tests.{leb-true, leb-false}
 use Rattle.record.specs.Record.{Record, Split, ended, cutShort, joined, whole, front, behind, sizeIn, kindIn, recordsIn}
-use Rattle.record.specs.Found.{firstOf, foundIn, foundAt}
+use Rattle.record.specs.Found.{foundFirst, foundIn, foundAt}
 use Rattle.record.specs.Fuel.{records-none, records-open}
 use Rattle.record.specs.declared.Found.the-variants.{End, Cut, Whole}
 
@@ -43,7 +43,7 @@ body-size l e =
 pub found-end : (at : ℕ) (x : Split) → foundIn at x ≡ End → x ≡ ended
 found-end at x e = go (x .records) (x .cut) e
   where
-    go : (rs : List Record) (c : Bool) → firstOf at rs c ≡ End → _≡_ {A = Split} (record { records = rs; cut = c }) ended
+    go : (rs : List Record) (c : Bool) → foundFirst at rs c ≡ End → _≡_ {A = Split} (record { records = rs; cut = c }) ended
     go [] false e = refl
     go [] true e = let z : _≡_ {A = ℕ} 0 1 = cc in absurd (omega arith)
     go (r ∷ rs) c e = let z : _≡_ {A = ℕ} 0 1 = cc in absurd (omega arith)
@@ -51,7 +51,7 @@ found-end at x e = go (x .records) (x .cut) e
 pub found-cut : (at : ℕ) (x : Split) → foundIn at x ≡ Cut → x ≡ cutShort
 found-cut at x e = go (x .records) (x .cut) e
   where
-    go : (rs : List Record) (c : Bool) → firstOf at rs c ≡ Cut → _≡_ {A = Split} (record { records = rs; cut = c }) cutShort
+    go : (rs : List Record) (c : Bool) → foundFirst at rs c ≡ Cut → _≡_ {A = Split} (record { records = rs; cut = c }) cutShort
     go [] true e = refl
     go [] false e = let z : _≡_ {A = ℕ} 0 1 = cc in absurd (omega arith)
     go (r ∷ rs) c e = let z : _≡_ {A = ℕ} 0 1 = cc in absurd (omega arith)

@@ -6,7 +6,7 @@ use mathlib.Core.Path.{_≡_, sym, ap, ap₂, _∙_}
 use mathlib.Core.List.{List, [], _++_, append-assoc, append-nil}
 use lib.ListN.{length, take, drop, length-append, length-take, length-drop, take-append-drop, drop-of-length-le}
 use lib.Seq.{take-all, take-length, drop-drop, take-at, drop-append-add}
-use Rattle.record.specs.Found.{stored}
+use Rattle.record.specs.Buffer.{stored}
 
 -- nothing stored changes nothing
 pub stored-nothing : (out : List ℕ) (at : ℕ) → stored out at [] ≡ out

@@ -4,7 +4,8 @@ ghost use Prim.Native.Nat.{_+_, _-_, _≤_, _<_, min};
 ghost use lib.ListN.{length};
 ghost use Rattle.record.specs.Record.{encoded};
 ghost use Rattle.record.specs.Parts.{ofKind, laid};
-ghost use Rattle.record.specs.Found.{foundAt, stored};
+ghost use Rattle.record.specs.Found.{foundAt};
+ghost use Rattle.record.specs.Buffer.{stored};
 
 // What stands at an offset of a file: nothing more, less than a record, or a record and where its body lies.
 pub enum Found {
@@ -64,9 +65,11 @@ pub fn put(out: &mut [u8], at: usize, kind: u16, body: &[u8])
 
 // Where the part of so many bytes that begins at an offset ends: the last part is shorter where bytes are left over.
 pub fn part_end(from: usize, size: usize, len: usize) -> usize
-    requires { ⌜ from ≤ len ⌝ }
     ensures { λ r. ⌜ r ≡ from + min size (len - from) ⌝ }
 {
+    if len <= from {
+        return from;
+    }
     if len - from < size { len } else { from + size }
 }
 

@@ -1,4 +1,4 @@
--- Document 01's numbers of each verdict.
+-- Document 01's numbers of each refusal, and the four numbers of a verdict.
 use Prim.Native.Nat.{ℕ}
 use mathlib.Core.Bool.{Bool, cond}
 use mathlib.Core.List.{List, [], _∷_, _++_}
@@ -8,16 +8,20 @@ use Rattle.refusal.specs.declared.Code.{Code}
 use Rattle.refusal.specs.declared.Verdict.{Verdict}
 use Rattle.refusal.specs.declared.Verdict.the-variants.{Accepted, Written, Floor, Plan, Rules}
 
--- "Every refusal carries its number and two further numbers; for files and sheets these are a byte offset and 0."
-abbrev pub refused : ℕ → ℕ → Refusal
-refused number at = record { number = number; first = at; second = 0 }
+-- "Every refusal carries its number and two further numbers"
+abbrev pub refused : ℕ → ℕ → ℕ → Refusal
+refused number first second = record { number = number; first = first; second = second }
+
+-- "for files and sheets these are a byte offset and 0"
+abbrev pub atOffset : ℕ → ℕ → Refusal
+atOffset number at = refused number at 0
 
 -- "At one offset of a file, the refusal named first": the number of the first test that holds, 0 if none does.
-abbrev pub firstOf : List (Bool × ℕ) → ℕ
-firstOf [] = 0
-firstOf (t ∷ ts) = cond (t .0) (t .1) (firstOf ts)
+abbrev pub firstFault : List (Bool × ℕ) → ℕ
+firstFault [] = 0
+firstFault (t ∷ ts) = cond (t .0) (t .1) (firstFault ts)
 
--- the refusal's numbers, and the file that it is about: 1 floor, 2 plan, 3 rules
+-- "A verdict says which file it is about and holds that file's own refusal": 1 floor, 2 plan, 3 rules
 abbrev pub codeAbout : ℕ → Refusal → Code
 codeAbout file r = record { about = file; number = r .number; first = r .first; second = r .second }
 

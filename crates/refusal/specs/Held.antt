@@ -13,7 +13,7 @@ use Rattle.refusal.specs.declared.Refusal.{Refusal}
 use Rattle.refusal.specs.declared.Verdict.{Verdict}
 use Rattle.refusal.specs.declared.Verdict.the-variants.{Written}
 
-pub gives-short : (about : Refusal → Verdict) (bytes before : List ℕ) (v : Verdict) → length before < length bytes → v ≡ about (refused 18 (length bytes))
+pub gives-short : (about : Refusal → Verdict) (bytes before : List ℕ) (v : Verdict) → length before < length bytes → v ≡ about (refused 18 (length bytes) 0)
     → Gives (written about bytes before) v before
 gives-short about bytes before v h e =
     let t = lt-ltb (length before) (length bytes) h in
@@ -30,10 +30,10 @@ module _ (about : Refusal → Verdict) (apart : (r : Refusal) (k : ℕ) → abou
   written-front g e = go (ltb (length before) (length bytes)) (g .answer) (g .out)
     where
       go : (b : Bool)
-          → v ≡ (cond b (unchanged (about (refused 18 (length bytes))) before) (record { answer = Written (length bytes); out = bytes ++ drop (length bytes) before })) .answer
-          → after ≡ (cond b (unchanged (about (refused 18 (length bytes))) before) (record { answer = Written (length bytes); out = bytes ++ drop (length bytes) before })) .out
+          → v ≡ (cond b (unchanged (about (refused 18 (length bytes) 0)) before) (record { answer = Written (length bytes); out = bytes ++ drop (length bytes) before })) .answer
+          → after ≡ (cond b (unchanged (about (refused 18 (length bytes) 0)) before) (record { answer = Written (length bytes); out = bytes ++ drop (length bytes) before })) .out
           → take k after ≡ bytes
-      go true p q = absurd (apart (refused 18 (length bytes)) k (sym p ∙ e))
+      go true p q = absurd (apart (refused 18 (length bytes) 0) k (sym p ∙ e))
       go false p q =
           let n : k ≡ length bytes = cc in
           ap₂ take n q ∙ take-append-seam bytes (drop (length bytes) before)

@@ -10,6 +10,7 @@ use Rattle.refusal.specs.declared.Refusal.{Refusal}
 use Rattle.refusal.specs.declared.Verdict.{Verdict}
 use Rattle.refusal.specs.declared.Verdict.the-variants.{Written}
 
+-- the answer, and every byte of the buffer
 pub record Outcome : Type 0 where
   pub answer : Verdict
   pub out : List ℕ
@@ -20,10 +21,10 @@ unchanged v out = record { answer = v; out = out }
 
 -- "18 if the lent buffer is shorter than the result (needed length, 0)", about the file being written; "bytes past the result stay"
 abbrev pub written : (Refusal → Verdict) → List ℕ → List ℕ → Outcome
-written about bytes out =
-    cond (ltb (length out) (length bytes))
-    (unchanged (about (refused 18 (length bytes))) out)
-    (record { answer = Written (length bytes); out = bytes ++ drop (length bytes) out })
+written about file out =
+    cond (ltb (length out) (length file))
+    (unchanged (about (refused 18 (length file) 0)) out)
+    (record { answer = Written (length file); out = file ++ drop (length file) out })
 
 -- an answer and a buffer afterwards that are those of a definition
 pub record Gives (o : Outcome) (v : Verdict) (after : List ℕ) : Type 0 where

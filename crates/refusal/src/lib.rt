@@ -1,6 +1,6 @@
 // Refusals and verdicts, and document 01's numbers of each.
 ghost use mathlib.Core.Path.{_≡_};
-ghost use Rattle.refusal.specs.Codes.{refused, codeAbout, codeOf, bytesOf};
+ghost use Rattle.refusal.specs.Codes.{refused, atOffset, codeAbout, codeOf, bytesOf};
 
 // A refusal's number and its two further numbers.
 pub struct Refusal {
@@ -27,9 +27,20 @@ pub struct Code {
     pub second: u32,
 }
 
+// A refusal with its number and two further numbers.
+pub fn refuse(number: u32, first: u32, second: u32) -> Refusal
+    ensures { λ r. ⌜ r ≡ refused number first second ⌝ }
+{
+    Refusal {
+        number,
+        first,
+        second,
+    }
+}
+
 // The refusal of a file or sheet at a byte offset.
 pub fn at_offset(number: u32, at: u32) -> Refusal
-    ensures { λ r. ⌜ r ≡ refused number at ⌝ }
+    ensures { λ r. ⌜ r ≡ atOffset number at ⌝ }
 {
     Refusal {
         number,

@@ -1,6 +1,6 @@
 use mathlib.Core.Path.{ap, _∙_}
 use Rattle.refusal.specs.Codes.{codeOf}
-use Rattle.controller.specs.Edge.{floorVerdict}
+use Rattle.floor.specs.Floor.{floorVerdict}
 use borrow.Author.Needs.{needs}
 use Rattle.controller.proofs.cartplan_read_floor.Statement.{statement}
 use Rattle.controller.proofs.cartplan_read_floor.Tie as tie
@@ -8,15 +8,15 @@ use Rattle.controller.proofs.cartplan_read_floor.Tie as tie
 read-requires : tie.Need-read-requires
 read-requires c κs = search needs
 
-floor-verdict-requires : tie.Need-floor-verdict-requires
-floor-verdict-requires c κs = search needs
+verdict-of-requires : tie.Need-verdict-of-requires
+verdict-of-requires c κs = search needs
 
 code-of-requires : tie.Need-code-of-requires
 code-of-requires c κs = search needs
 
 returns : tie.Need-returns
-returns c = c .code-of .ensures ∙ ap codeOf (c .before .floor-verdict .ensures ∙ ap floorVerdict (c .before .before .read .ensures .answer))
+returns c = c .code-of .ensures ∙ ap codeOf (c .before .verdict-of .ensures ∙ ap floorVerdict (c .before .before .read .ensures .answer))
 
 pub cartplan-read-floor-spec : {M : Type 1} → statement M
 cartplan-read-floor-spec =
-    tie.close (tie.spec read-requires floor-verdict-requires code-of-requires returns)
+    tie.close (tie.spec read-requires verdict-of-requires code-of-requires returns)

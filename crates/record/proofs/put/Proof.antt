@@ -6,7 +6,7 @@ use Prim.Native.Nat.{ℕ, _+_, _≤_}
 use Rattle.endian.specs.Little.{bytes}
 use Rattle.record.specs.Record.{encoded}
 use Rattle.record.specs.Parts.{ofKind}
-use Rattle.record.specs.Found.{stored}
+use Rattle.record.specs.Buffer.{stored}
 use Rattle.record.specs.Stored.{stored-more}
 use borrow.Author.Needs.{needs}
 use Rattle.record.proofs.put.Statement.{statement}

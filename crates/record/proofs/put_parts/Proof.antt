@@ -23,7 +23,7 @@ loop-holds c =
     (omega arith, begin (a .out .now) (a .at) (a .kind) (a .size) (a .bodies .now) (c .before .before .pre .2))
 
 part-end-requires : tie.Need-part-end-requires Inv-loop μ-loop
-part-end-requires c κs = c .before .loop .inv .1 .within
+part-end-requires c κs = tt
 
 sub-put : tie.Need-sub-put Inv-loop μ-loop
 sub-put c =

@@ -4,9 +4,10 @@ use mathlib.Core.Path.{sym, ap, subst, _∙_}
 use mathlib.Core.Bool.{false}
 use lib.ListN.{length}
 use Rattle.record.specs.Parts.{laid}
-use Rattle.floor.specs.Floor.{ending}
-use Rattle.floor.specs.Numbers.{Numbers, numbers, lanesOf, cartsOf, floorBytes}
-use Rattle.floor.specs.Walk.{walkOn, UpTo, length-floor, read-numbers, up-to-lanes, up-to-carts, up-to-end}
+use Rattle.floor.specs.Floor.{atEnd}
+use Rattle.floor.specs.Numbers.{Numbers, numbers, laneRecords, cartRecords, floorBytes}
+use Rattle.floor.specs.Walked.{walkOn, UpTo}
+use Rattle.floor.specs.Walk.{length-floor, read-numbers, up-to-lanes, up-to-carts, up-to-end}
 use Rattle.floor.specs.declared.Walked.{Walked}
 use Rattle.floor.specs.declared.FloorAnswer.the-variants.{Refused}
 use Rattle.floor.proofs.Steps.{too-long}
@@ -44,20 +45,20 @@ walk-on-requires c κs =
 walk-on-requires-2 : tie.Need-walk-on-requires-2
 walk-on-requires-2 c κs =
     let n = held (c .before .before) in
-    let e = c .walk-on .ensures ∙ ap (λ (w : Walked). walkOn w (lanesOf n)) (c .before .walk-places .ensures) in
+    let e = c .walk-on .ensures ∙ ap (λ (w : Walked). walkOn w (laneRecords n)) (c .before .walk-places .ensures) in
     (omega arith, subst (λ (w : Walked). UpTo 65536 w (length (laid 3 2 (n .carts)))) (sym e) (up-to-carts n (short (c .before .before))))
 
 answer-requires : tie.Need-answer-requires
 answer-requires c κs =
     let n = held (c .before .before .before) in
-    subst (λ (w : Walked). UpTo 65536 w 0) (sym (c .walk-on2 .ensures ∙ ap (λ (w : Walked). walkOn w (cartsOf n)) (c .before .walk-on .ensures ∙ ap (λ (w : Walked). walkOn w (lanesOf n)) (c .before .before .walk-places .ensures))))
+    subst (λ (w : Walked). UpTo 65536 w 0) (sym (c .walk-on2 .ensures ∙ ap (λ (w : Walked). walkOn w (cartRecords n)) (c .before .walk-on .ensures ∙ ap (λ (w : Walked). walkOn w (laneRecords n)) (c .before .before .walk-places .ensures))))
     (up-to-end n (short (c .before .before .before)))
 
 returns-2 : tie.Need-returns-2
 returns-2 c =
     let n = held (c .before .before .before .before) in
     c .answer .ensures
-    ∙ ap (λ (w : Walked). ending w false) (c .before .walk-on2 .ensures ∙ ap (λ (w : Walked). walkOn w (cartsOf n)) (c .before .before .walk-on .ensures ∙ ap (λ (w : Walked). walkOn w (lanesOf n)) (c .before .before .before .walk-places .ensures)))
+    ∙ ap (λ (w : Walked). atEnd w false) (c .before .walk-on2 .ensures ∙ ap (λ (w : Walked). walkOn w (cartRecords n)) (c .before .before .walk-on .ensures ∙ ap (λ (w : Walked). walkOn w (laneRecords n)) (c .before .before .before .walk-places .ensures)))
     ∙ sym (read-numbers n (short (c .before .before .before .before)))
 
 pub judge-numbers-spec : {M : Type 1} → statement M

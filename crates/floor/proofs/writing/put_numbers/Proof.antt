@@ -1,3 +1,4 @@
+use Prim.Native.Nat.{ℕ}
 use native.Mathlib.Omega.{arith}
 use mathlib.Core.Path.{_≡_, ap, _∙_}
 use lib.ListN.{length}
@@ -21,17 +22,17 @@ size c = omega (arith, length-floor (held (c .before .before .before .before .be
 laid-size-requires : tie.Need-laid-size-requires
 laid-size-requires c κs = search needs
 
-cast-at-offset : tie.Need-cast-at-offset
-cast-at-offset c = search needs
+cast-refuse : tie.Need-cast-refuse
+cast-refuse c = search needs
 
-at-offset-requires : tie.Need-at-offset-requires
-at-offset-requires c κs = search needs
+refuse-requires : tie.Need-refuse-requires
+refuse-requires c κs = search needs
 
 returns : tie.Need-returns
 returns c =
     let n = held (c .before .before .before .before .before .before .before) in
     let s = size (c .before .before) in
-    gives-short AboutFloor (floorBytes n) (c .before .before .before .before .before .before .before .args .out .now) _ (omega arith) (ap AboutFloor (c .at-offset .ensures ∙ ap (refused 18) s))
+    gives-short AboutFloor (floorBytes n) (c .before .before .before .before .before .before .before .args .out .now) _ (omega arith) (ap AboutFloor (c .refuse .ensures ∙ ap (λ (k : ℕ). refused 18 k 0) s))
 
 put-places-requires : tie.Need-put-places-requires
 put-places-requires c κs =
@@ -70,8 +71,8 @@ put-numbers-spec =
     tie.close
     (tie.spec
     laid-size-requires
-    cast-at-offset
-    at-offset-requires
+    cast-refuse
+    refuse-requires
     returns
     put-places-requires
     put-parts-requires

@@ -8,7 +8,7 @@ use lib.Seq.{take-length}
 use Rattle.endian.specs.RoundTrip.{length-bytes}
 use Rattle.record.specs.Record.{encoded, layout}
 use Rattle.record.specs.Parts.{ofKind}
-use Rattle.record.specs.Found.{stored}
+use Rattle.record.specs.Buffer.{stored}
 use Rattle.record.specs.Stored.{stored-nothing}
 use Rattle.floor.specs.Numbers.{placeRecord}
 use Rattle.floor.specs.Walk.{length-places}

@@ -2,7 +2,7 @@ use mathlib.Core.Path.{sym, ap, subst, _∙_}
 use mathlib.Core.List.{map}
 use lib.ListN.{length}
 use Rattle.record.specs.Parts.{parts, ofKind, laid}
-use Rattle.floor.specs.Walk.{walkOn, UpTo}
+use Rattle.floor.specs.Walked.{walkOn, UpTo}
 use Rattle.floor.specs.declared.Walked.{Walked}
 use borrow.Author.Needs.{needs}
 use Rattle.floor.proofs.writing.walk_on.Statement.{statement}

@@ -24,7 +24,7 @@ loop-holds : tie.Need-loop-holds Inv-loop μ-loop
 loop-holds c = (omega arith, c .before .pre .1, refl)
 
 part-end-requires : tie.Need-part-end-requires Inv-loop μ-loop
-part-end-requires c κs = c .before .loop .inv .0
+part-end-requires c κs = tt
 
 sub-judge : tie.Need-sub-judge Inv-loop μ-loop
 sub-judge c =

@@ -5,9 +5,9 @@ use mathlib.Core.List.{List}
 use Rattle.refusal.specs.Outcome.{Gives}
 use Rattle.refusal.specs.declared.Verdict.{Verdict}
 use Rattle.floor.specs.Floor.{readFloor}
-use Rattle.floor.specs.Numbers.{Numbers, numbers, floorBytes, byReading, writeFloor}
+use Rattle.floor.specs.Numbers.{Numbers, Words, numbers, floorBytes, byReading, writeFloor}
 use Rattle.floor.specs.Promises.{FloorWritten}
-use Rattle.floor.specs.RoundTrip.{Words, whole, reads-back}
+use Rattle.floor.specs.RoundTrip.{whole, reads-back}
 use Rattle.floor.specs.declared.FloorAnswer.{FloorAnswer}
 use borrow.Author.Needs.{needs}
 use Rattle.floor.proofs.writing.write.Statement.{statement}

@@ -7,7 +7,7 @@ use mathlib.Core.Bool.{true, false}
 use lib.ListN.{length, take, drop, getD}
 use borrow.Author.Tests.{eq-eqb, ne-eqb}
 use Rattle.endian.specs.Little.{value}
-use Rattle.plan.specs.Plan.{headIn, outOfRange, judgedHead}
+use Rattle.plan.specs.Plan.{headFrom, outOfRange, judgedHead}
 use Rattle.plan.specs.declared.Head.{Head}
 use Rattle.plan.specs.declared.HeadAnswer.the-variants.{Good, Refused}
 use borrow.Author.Needs.{needs}
@@ -16,10 +16,10 @@ use Rattle.plan.proofs.heads.judge_head.Tie as tie
 
 -- a head's numbers, byte by byte
 read : (b : List ℕ) (x y z : ℕ) → length b ≡ 6 → x ≡ value (getD b 0 0 ∷ getD b 1 0 ∷ []) → y ≡ value (getD b 2 0 ∷ getD b 3 0 ∷ []) → z ≡ value (getD b 4 0 ∷ getD b 5 0 ∷ [])
-    → _≡_ {A = Head} (record { steps = x; lap = y; drift = z }) (headIn b)
+    → _≡_ {A = Head} (record { steps = x; stem = y; drift = z }) (headFrom b)
 read b x y z e p q r =
-    ap₂ (λ (u v : ℕ). record { steps = u; lap = v; drift = z }) (p ∙ ap value (sym (two-at b 0 (omega arith)))) (q ∙ ap value (sym (two-at b 2 (omega arith))))
-    ∙ ap (λ (w : ℕ). record { steps = value (take 2 b); lap = value (take 2 (drop 2 b)); drift = w }) (r ∙ ap value (sym (two-at b 4 (omega arith))))
+    ap₂ (λ (u v : ℕ). record { steps = u; stem = v; drift = z }) (p ∙ ap value (sym (two-at b 0 (omega arith)))) (q ∙ ap value (sym (two-at b 2 (omega arith))))
+    ∙ ap (λ (w : ℕ). record { steps = value (take 2 b); stem = value (take 2 (drop 2 b)); drift = w }) (r ∙ ap value (sym (two-at b 4 (omega arith))))
 
 at-offset-requires : tie.Need-at-offset-requires
 at-offset-requires c κs = search needs
@@ -72,14 +72,14 @@ returns-3 : tie.Need-returns-3
 unfolding judgedHead
 returns-3 c =
     let e = read (c .before .before .before .before .before .before .before .before .before .before .before .before .before .before .before .args .body .now) _ _ _ (c .before .before .before .before .before .before .before .before .before .before .before .before .if2 .left) (c .before .before .before .before .before .before .before .before .before .number .ensures) (c .before .before .before .before .before .before .number2 .ensures) (c .before .before .before .number3 .ensures) in
-    let o : outOfRange (headIn (c .before .before .before .before .before .before .before .before .before .before .before .before .before .before .before .args .body .now)) ≡ true = sym (ap outOfRange e) ∙ sym (c .before .before .out-of-range .ensures) ∙ c .before .if3 .taken in
+    let o : outOfRange (headFrom (c .before .before .before .before .before .before .before .before .before .before .before .before .before .before .before .args .body .now)) ≡ true = sym (ap outOfRange e) ∙ sym (c .before .before .out-of-range .ensures) ∙ c .before .if3 .taken in
     ap Refused (c .at-offset3 .ensures) ∙ simp (eq-eqb _ _ (c .before .before .before .before .before .before .before .before .before .before .before .before .before .if1 .left), eq-eqb _ _ (c .before .before .before .before .before .before .before .before .before .before .before .before .if2 .left), o)
 
 returns-4 : tie.Need-returns-4
 unfolding judgedHead
 returns-4 c =
     let e = read (c .before .before .before .before .before .before .before .before .before .before .before .before .before .before .args .body .now) _ _ _ (c .before .before .before .before .before .before .before .before .before .before .before .if2 .left) (c .before .before .before .before .before .before .before .before .number .ensures) (c .before .before .before .before .before .number2 .ensures) (c .before .before .number3 .ensures) in
-    let o : outOfRange (headIn (c .before .before .before .before .before .before .before .before .before .before .before .before .before .before .args .body .now)) ≡ false = sym (ap outOfRange e) ∙ sym (c .before .out-of-range .ensures) ∙ c .if3 .left in
+    let o : outOfRange (headFrom (c .before .before .before .before .before .before .before .before .before .before .before .before .before .before .args .body .now)) ≡ false = sym (ap outOfRange e) ∙ sym (c .before .out-of-range .ensures) ∙ c .if3 .left in
     ap Good e ∙ simp (eq-eqb _ _ (c .before .before .before .before .before .before .before .before .before .before .before .before .if1 .left), eq-eqb _ _ (c .before .before .before .before .before .before .before .before .before .before .before .if2 .left), o)
 
 pub judge-head-spec : {M : Type 1} → statement M

@@ -15,7 +15,7 @@ use Rattle.plan.proofs.reading.read.Tie as tie
 
 -- the promise, from its first part
 promise : (floor s : List ℕ) (r : PlanRead) → Bytes s → r ≡ readBoth floor s → PlanReads floor s r
-promise floor s r b e = record { answer = e; writes-back = λ v. accepts floor s r b v e }
+promise floor s r b e = record { answer = e; accepted = λ v. accepts floor s r b v e }
 
 read-requires : tie.Need-read-requires
 read-requires c κs = search needs
@@ -30,7 +30,7 @@ enum-known-f : tie.Need-enum-known-f
 enum-known-f c = search needs
 
 read-for-requires : tie.Need-read-for-requires
-read-for-requires c κs = search needs
+read-for-requires c κs = c .before .before .before .read .ensures .accepted _ (c .before .f .given .1) .valid .few-carts
 
 returns : tie.Need-returns
 unfolding readBoth

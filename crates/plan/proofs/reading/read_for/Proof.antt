@@ -28,7 +28,7 @@ enum-known-h c = search needs
 read-rows-requires : tie.Need-read-rows-requires
 read-rows-requires c κs =
     let g = headed (c .before .before .before .before .before .before .args .s .now) _ (sym (c .before .before .before .read-head .ensures) ∙ c .before .h .given .1) in
-    (g .range .steps, g .room, c .before .before .before .before .if1 .left)
+    (c .before .before .before .before .before .before .pre, g .range .steps, g .room, c .before .before .before .before .if1 .left)
 
 returns-2 : tie.Need-returns-2
 returns-2 c =

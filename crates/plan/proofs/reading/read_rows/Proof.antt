@@ -27,7 +27,7 @@ opens c = opened (c .before .before .before .before .before .before .args .s .no
 
 loop-holds : tie.Need-loop-holds Inv-loop μ-loop
 unfolding zeros
-loop-holds c = begin (c .before .args .f) (c .before .args .h) (c .before .args .s .now) (c .before .pre .1)
+loop-holds c = begin (c .before .args .f) (c .before .args .h) (c .before .args .s .now) (c .before .pre .2)
 
 find-requires : tie.Need-find-requires Inv-loop μ-loop
 find-requires c κs = search needs
@@ -36,7 +36,7 @@ enum-told : tie.Need-enum-told Inv-loop μ-loop
 enum-told c = search needs
 
 refuse-at-requires : tie.Need-refuse-at-requires Inv-loop μ-loop
-refuse-at-requires c κs = omega (arith, c .before .before .before .before .before .loop .inv .within, c .before .before .before .before .before .before .before .pre .2)
+refuse-at-requires c κs = omega (arith, c .before .before .before .before .before .loop .inv .within, c .before .before .before .before .before .before .before .pre .3)
 
 returns : tie.Need-returns Inv-loop μ-loop
 returns c =
@@ -52,7 +52,7 @@ enum-told-2 : tie.Need-enum-told-2 Inv-loop μ-loop
 enum-told-2 c = search needs
 
 refuse-at-requires-2 : tie.Need-refuse-at-requires-2 Inv-loop μ-loop
-refuse-at-requires-2 c κs = omega (arith, c .before .before .before .loop .inv .within, c .before .before .before .before .before .pre .2)
+refuse-at-requires-2 c κs = omega (arith, c .before .before .before .loop .inv .within, c .before .before .before .before .before .pre .3)
 
 returns-3 : tie.Need-returns-3 Inv-loop μ-loop
 returns-3 c =
@@ -79,7 +79,7 @@ row-fault-requires : tie.Need-row-fault-requires Inv-loop μ-loop
 row-fault-requires c κs = search needs
 
 refuse-at-requires-3 : tie.Need-refuse-at-requires-3 Inv-loop μ-loop
-refuse-at-requires-3 c κs = omega (arith, c .before .before .before .before .before .before .before .loop .inv .within, c .before .before .before .before .before .before .before .before .before .pre .2)
+refuse-at-requires-3 c κs = omega (arith, c .before .before .before .before .before .before .before .loop .inv .within, c .before .before .before .before .before .before .before .before .before .pre .3)
 
 returns-4 : tie.Need-returns-4 Inv-loop μ-loop
 returns-4 c =
@@ -97,7 +97,7 @@ mul-copy-at c = omega (arith, c .before .before .before .before .before .before 
 copy-at-requires : tie.Need-copy-at-requires Inv-loop μ-loop
 copy-at-requires c κs =
     let a = c .before .before .before .before .before .before .before .before .before .before .args in
-    fits (a .f) (a .h) (a .s .now) _ _ _ (c .before .before .before .before .before .before .before .before .loop .inv) _ _ _ (found (c .before .before .before .before)) _ (c .before .before .row-fault .ensures) (c .before .if2 .left) (c .before .before .before .before .before .before .before .before .before .before .pre .0)
+    fits (a .f) (a .h) (a .s .now) _ _ _ (c .before .before .before .before .before .before .before .before .loop .inv) _ _ _ (found (c .before .before .before .before)) _ (c .before .before .row-fault .ensures) (c .before .if2 .left) (c .before .before .before .before .before .before .before .before .before .before .pre .1) (c .before .before .before .before .before .before .before .before .before .before .pre .0)
 
 add-n : tie.Need-add-n Inv-loop μ-loop
 add-n c = omega (arith, c .before .before .before .before .before .before .before .before .before .before .loop .inv .few)
@@ -110,7 +110,7 @@ loop-less c =
 loop-again : tie.Need-loop-again Inv-loop μ-loop
 loop-again c =
     let a = c .before .before .before .before .before .before .before .before .before .before .before .before .args in
-    again (a .f) (a .h) (a .s .now) _ _ _ (c .before .before .before .before .before .before .before .before .before .before .loop .inv) _ _ _ (found (c .before .before .before .before .before .before)) _ (c .before .before .before .before .row-fault .ensures) (c .before .before .before .if2 .left) (c .before .before .before .before .before .before .before .before .before .before .before .before .pre .0) _ (c .before .copy-at .ensures)
+    again (a .f) (a .h) (a .s .now) _ _ _ (c .before .before .before .before .before .before .before .before .before .before .loop .inv) _ _ _ (found (c .before .before .before .before .before .before)) _ (c .before .before .before .before .row-fault .ensures) (c .before .before .before .if2 .left) (c .before .before .before .before .before .before .before .before .before .before .before .before .pre .1) (c .before .before .before .before .before .before .before .before .before .before .before .before .pre .0) _ (c .before .copy-at .ensures)
 
 pub read-rows-spec : {M : Type 1} → statement M
 read-rows-spec =

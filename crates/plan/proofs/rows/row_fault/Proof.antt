@@ -1,8 +1,8 @@
-use Prim.Native.Nat.{ℕ}
-use native.Mathlib.Omega.{arith}
+use mathlib.Core.Path.{_≡_, sym, ap, _∙_}
 use borrow.Author.Tests.{eq-eqb, ne-eqb}
-use mathlib.Core.Path.{_≡_, sym, _∙_}
-use Rattle.plan.proofs.RowTests.{wrong-length, right-length}
+use Rattle.plan.specs.Plan.{rowFaultBy}
+use Rattle.plan.specs.declared.RowAnswer.{RowAnswer}
+use Rattle.plan.specs.declared.RowAnswer.the-variants.{Fits, WrongLength, Absent}
 use borrow.Author.Needs.{needs}
 use Rattle.plan.proofs.rows.row_fault.Statement.{statement}
 use Rattle.plan.proofs.rows.row_fault.Tie as tie
@@ -31,20 +31,21 @@ if-room-requires-2 c κs = search needs
 returns-2 : tie.Need-returns-2
 returns-2 c =
     let a = c .before .before .before .before .before .args in
-    let l = wrong-length (a .body .now) (a .h .steps) (a .f .places) (sym (c .before .before .judge-row .ensures) ∙ c .enum-told .given .1) in
-    simp (eq-eqb _ _ (c .before .before .before .if1 .left), l)
+    let e : rowFaultBy WrongLength (a .f) (a .n) (a .kind) ≡ 4 = simp (eq-eqb _ _ (c .before .before .before .if1 .left)) in
+    sym e ∙ ap (λ (x : RowAnswer). rowFaultBy x (a .f) (a .n) (a .kind)) (sym (c .enum-told .given .1) ∙ c .before .before .judge-row .ensures)
 
 returns-3 : tie.Need-returns-3
 returns-3 c =
     let a = c .before .before .before .before .before .before .args in
-    let l = right-length (a .body .now) (a .h .steps) (a .f .places) _ (λ e. let z : _≡_ {A = ℕ} 0 1 = cc in omega arith) (sym (c .before .before .before .judge-row .ensures) ∙ c .before .enum-told2 .given .1) in
-    c .if-room .ensures ∙ simp (eq-eqb _ _ (c .before .before .before .before .if1 .left), l .0, l .1)
+    let i = c .before .enum-told2 .given .0 .0 in
+    let e : rowFaultBy (Absent i) (a .f) (a .n) (a .kind) ≡ c .if-room .result = simp (eq-eqb _ _ (c .before .before .before .before .if1 .left)) (sym (c .if-room .ensures)) in
+    sym e ∙ ap (λ (x : RowAnswer). rowFaultBy x (a .f) (a .n) (a .kind)) (sym (c .before .enum-told2 .given .1) ∙ c .before .before .before .judge-row .ensures)
 
 returns-4 : tie.Need-returns-4
 returns-4 c =
     let a = c .before .before .before .before .before .before .args in
-    let l = right-length (a .body .now) (a .h .steps) (a .f .places) _ (λ e. let z : _≡_ {A = ℕ} 0 1 = cc in omega arith) (sym (c .before .before .before .judge-row .ensures) ∙ c .before .enum-told3 .given .1) in
-    c .if-room2 .ensures ∙ simp (eq-eqb _ _ (c .before .before .before .before .if1 .left), l .0, l .1)
+    let e : rowFaultBy Fits (a .f) (a .n) (a .kind) ≡ c .if-room2 .result = simp (eq-eqb _ _ (c .before .before .before .before .if1 .left)) (sym (c .if-room2 .ensures)) in
+    sym e ∙ ap (λ (x : RowAnswer). rowFaultBy x (a .f) (a .n) (a .kind)) (sym (c .before .enum-told3 .given .1) ∙ c .before .before .before .judge-row .ensures)
 
 pub row-fault-spec : {M : Type 1} → statement M
 row-fault-spec =

@@ -43,7 +43,7 @@ array-read-t25 c = search needs
 returns : tie.Need-returns
 returns c =
     let a = c .before .before .before .args in
-    three (a .steps) (a .lap) (a .drift) _ _ _ (c .before .before .bytes16 .ensures) (c .before .bytes162 .ensures) (c .bytes163 .ensures)
+    three (a .steps) (a .stem) (a .drift) _ _ _ (c .before .before .bytes16 .ensures) (c .before .bytes162 .ensures) (c .bytes163 .ensures)
 
 pub head-bytes-spec : {M : Type 1} → statement M
 head-bytes-spec =

@@ -1,7 +1,7 @@
 use native.Mathlib.Omega.{arith}
 use mathlib.Core.Path.{sym, ap, _∙_}
 use Rattle.plan.specs.Numbers.{planBytes}
-use Rattle.plan.specs.Phases.{judgedNumbers}
+use Rattle.plan.specs.Numbers.{judgedNumbers}
 use Rattle.plan.specs.Passed.{in-range}
 use Rattle.plan.specs.RoundTrip.{length-plan}
 use Rattle.plan.specs.Judged.{wide-head, good-head}

@@ -24,7 +24,7 @@ loop-holds : tie.Need-loop-holds Inv-loop μ-loop
 loop-holds c = (refl, record { within = omega arith; done = []; count = refl; few = omega arith; room = c .before .pre .1; same = refl })
 
 part-end-requires : tie.Need-part-end-requires Inv-loop μ-loop
-part-end-requires c κs = c .before .loop .inv .1 .within
+part-end-requires c κs = tt
 
 sub-row-fault : tie.Need-sub-row-fault Inv-loop μ-loop
 sub-row-fault c =

@@ -17,35 +17,35 @@ returns c = omega (arith, length-empty (c .before .before .args .h) (c .before .
 returns-2 : tie.Need-returns-2
 returns-2 c = omega (arith, length-over (c .before .before .before .args .h) (c .before .before .before .args .rows .now))
 
-add-shorter : tie.Need-add-shorter
-add-shorter c = search needs
+add-capped : tie.Need-add-capped
+add-capped c = search needs
 
-shorter-requires : tie.Need-shorter-requires
-shorter-requires c κs = search needs
+capped-requires : tie.Need-capped-requires
+capped-requires c κs = search needs
 
 returns-3 : tie.Need-returns-3
 returns-3 c = omega (arith, length-zero (c .before .before .before .before .before .args .h) (c .before .before .before .before .before .args .rows .now) (c .before .if3 .taken) (omega arith))
 
-sub-shorter : tie.Need-sub-shorter
-sub-shorter c = omega arith
+sub-capped : tie.Need-sub-capped
+sub-capped c = omega arith
 
-add-shorter-2 : tie.Need-add-shorter-2
-add-shorter-2 c = omega (arith, c .before .before .before .before .pre)
+add-capped-2 : tie.Need-add-capped-2
+add-capped-2 c = omega (arith, c .before .before .before .before .pre)
 
-div-shorter : tie.Need-div-shorter
-div-shorter c = omega arith
+div-capped : tie.Need-div-capped
+div-capped c = omega arith
 
-mul-shorter : tie.Need-mul-shorter
-mul-shorter c = omega (arith, c .before .before .before .before .pre, few c)
+mul-capped : tie.Need-mul-capped
+mul-capped c = omega (arith, c .before .before .before .before .pre, few c)
 
-add-shorter-3 : tie.Need-add-shorter-3
-add-shorter-3 c = omega (arith, c .before .before .before .before .pre, few c)
+add-capped-3 : tie.Need-add-capped-3
+add-capped-3 c = omega (arith, c .before .before .before .before .pre, few c)
 
-add-shorter-4 : tie.Need-add-shorter-4
-add-shorter-4 c = omega (arith, c .before .before .before .before .pre, few c)
+add-capped-4 : tie.Need-add-capped-4
+add-capped-4 c = omega (arith, c .before .before .before .before .pre, few c)
 
-shorter-requires-2 : tie.Need-shorter-requires-2
-shorter-requires-2 c κs = search needs
+capped-requires-2 : tie.Need-capped-requires-2
+capped-requires-2 c κs = search needs
 
 returns-4 : tie.Need-returns-4
 returns-4 c = omega (arith, length-some (c .before .before .before .before .before .args .h) (c .before .before .before .before .before .args .rows .now) (omega arith))
@@ -56,14 +56,14 @@ laid-size-spec =
     (tie.spec
     returns
     returns-2
-    add-shorter
-    shorter-requires
+    add-capped
+    capped-requires
     returns-3
-    sub-shorter
-    add-shorter-2
-    div-shorter
-    mul-shorter
-    add-shorter-3
-    add-shorter-4
-    shorter-requires-2
+    sub-capped
+    add-capped-2
+    div-capped
+    mul-capped
+    add-capped-3
+    add-capped-4
+    capped-requires-2
     returns-4)

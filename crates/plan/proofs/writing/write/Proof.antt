@@ -8,17 +8,18 @@ use Rattle.floor.specs.Floor.{readFloor}
 use Rattle.floor.specs.declared.FloorAnswer.{FloorAnswer}
 use Rattle.plan.specs.Numbers.{headOf, byFloor, writePlan}
 use Rattle.plan.specs.Promises.{PlanWritten}
-use Rattle.plan.specs.RoundTrip.{Narrow, reads-back}
+use Rattle.plan.specs.Numbers.{Narrow}
+use Rattle.plan.specs.RoundTrip.{reads-back}
 use Rattle.plan.specs.declared.Head.{Head}
 use borrow.Author.Needs.{needs}
 use Rattle.plan.proofs.writing.write.Statement.{statement}
 use Rattle.plan.proofs.writing.write.Tie as tie
 
 abbrev head : tie.Start → Head
-head c = headOf (c .args .steps) (c .args .lap) (c .args .drift)
+head c = headOf (c .args .steps) (c .args .stem) (c .args .drift)
 
 narrow : (c : tie.Start) → Narrow (head c)
-narrow c = record { steps = omega (arith, c .fits .steps); lap = omega (arith, c .fits .lap); drift = omega (arith, c .fits .drift) }
+narrow c = record { steps = omega (arith, c .fits .steps); stem = omega (arith, c .fits .stem); drift = omega (arith, c .fits .drift) }
 
 promise : (floor : List ℕ) (h : Head) (rows before : List ℕ) (v : Verdict) (after : List ℕ) → Narrow h → (a : FloorAnswer) → readFloor floor ≡ a
     → Gives (byFloor a h rows before) v after → PlanWritten floor h rows before v after

@@ -6,8 +6,8 @@ use mathlib.Core.Path.{_≡_, refl, sym, ap, subst, _∙_}
 use Rattle.refusal.specs.Outcome.{Gives}
 use Rattle.plan.specs.Plan.{PlanAnswer, readPlan}
 use Rattle.plan.specs.Numbers.{headOf, planBytes, byReading}
-use Rattle.plan.specs.Phases.{judgedNumbers}
-use Rattle.plan.specs.RoundTrip.{Narrow}
+use Rattle.plan.specs.Numbers.{judgedNumbers}
+use Rattle.plan.specs.Numbers.{Narrow}
 use Rattle.plan.specs.Judged.{good, refusal-of}
 use Rattle.plan.specs.declared.Head.{Head}
 use borrow.Author.Needs.{needs}
@@ -16,10 +16,10 @@ use Rattle.plan.proofs.writing.write_for.Tie as tie
 use Rattle.plan.proofs.writing.write_for.Reads as reads
 
 abbrev head : tie.Start → Head
-head c = headOf (c .args .steps) (c .args .lap) (c .args .drift)
+head c = headOf (c .args .steps) (c .args .stem) (c .args .drift)
 
 narrow : (c : tie.Start) → Narrow (head c)
-narrow c = record { steps = omega (arith, c .fits .steps); lap = omega (arith, c .fits .lap); drift = omega (arith, c .fits .drift) }
+narrow c = record { steps = omega (arith, c .fits .steps); stem = omega (arith, c .fits .stem); drift = omega (arith, c .fits .drift) }
 
 by-answer : (a x : PlanAnswer) (bytes before : List ℕ) (v : Verdict) (after : List ℕ) → a ≡ x → Gives (byReading x bytes before) v after → Gives (byReading a bytes before) v after
 by-answer a x bytes before v after e g = subst (λ (y : PlanAnswer). Gives (byReading y bytes before) v after) (sym e) g

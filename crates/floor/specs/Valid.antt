@@ -1,0 +1,23 @@
+-- The numbers of a readable floor: the table of 'Files' in document 01.
+use Prim.Native.Nat.{ℕ, _+_, _*_, _≤_, _<_}
+use mathlib.Core.Path.{_≡_}
+use lib.ListN.{length, getD}
+use Rattle.floor.specs.Numbers.{Numbers}
+use Rattle.floor.specs.declared.Floor.{Floor}
+
+pub record Valid (n : Numbers) (f : Floor) : Type 0 where
+  -- "1 to 256" places, "0 to 1,024" lanes of three bytes, "1 to 32" carts of two
+  pub places : length (n .places) ≡ f .places
+  pub lanes : length (n .lanes) ≡ 3 * f .lanes
+  pub carts : length (n .carts) ≡ 2 * f .carts
+  pub some-place : 0 < f .places
+  pub some-cart : 0 < f .carts
+  pub few-places : f .places ≤ 256
+  pub few-lanes : f .lanes ≤ 1024
+  pub few-carts : f .carts ≤ 32
+  -- a lane is between places of the floor
+  pub lane-from : (j : ℕ) → j < f .lanes → getD (n .lanes) (3 * j) 0 < f .places
+  pub lane-to : (j : ℕ) → j < f .lanes → getD (n .lanes) (3 * j + 1) 0 < f .places
+  -- "class 0 to 7, start place"
+  pub cart-class : (c : ℕ) → c < f .carts → getD (n .carts) (2 * c) 0 < 8
+  pub cart-start : (c : ℕ) → c < f .carts → getD (n .carts) (2 * c + 1) 0 < f .places

@@ -1,0 +1,22 @@
+-- The numbers of a readable plan for a floor: the table of 'Files' in document 01.
+use Prim.Native.Nat.{ℕ, _≤_, _<_}
+use mathlib.Core.Path.{_≡_}
+use mathlib.Core.List.{[]}
+use lib.ListN.{length, getD}
+use Rattle.floor.specs.declared.Floor.{Floor}
+use Rattle.plan.specs.Plan.{Numbers}
+use Rattle.plan.specs.declared.Head.{Head}
+
+-- "steps 1 to 64, first step of the lap (below h), drift 0 to 16"
+pub record InRange (h : Head) : Type 0 where
+  pub some : 0 < h .steps
+  pub steps : h .steps ≤ 64
+  pub stem : h .stem < h .steps
+  pub drift : h .drift ≤ 16
+
+pub record Valid (n : Numbers) (f : Floor) : Type 0 where
+  pub head : InRange (n .head)
+  -- rows: "one a cart", "h bytes, one place a step"
+  pub carts : length (n .rows) ≡ f .carts
+  pub steps : (c : ℕ) → c < f .carts → length (getD (n .rows) c []) ≡ n .head .steps
+  pub places : (c s : ℕ) → c < f .carts → s < n .head .steps → getD (getD (n .rows) c []) s 0 < f .places
