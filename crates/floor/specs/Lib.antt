@@ -10,3 +10,4 @@ pub mod Sorted
 pub mod RoundTrip
 pub mod Walk
 pub mod Located
+pub mod Complete

@@ -5,15 +5,16 @@ use native.Mathlib.Omega.{arith}
 use mathlib.Core.Path.{_≡_, sym, ap, ap₂, subst, _∙_}
 use mathlib.Core.List.{List, [], _∷_, _++_, map, flatten, append-assoc, append-nil}
 use lib.ListN.{length, take, drop, getD, length-append, length-map, List·getD-map}
-use lib.Seq.{take-at, drop-append-add, getD-drop, getD-take}
+use lib.Seq.{take-at, drop-append-add}
 use Rattle.endian.specs.Little.{bytes, value, Bytes}
 use Rattle.record.specs.Record.{encoded, layout, recordsIn}
 use Rattle.record.specs.Parts.{ofKind}
-use Rattle.record.specs.Laid.{AllOf, layout-append, length-flatten}
+use Rattle.record.specs.All.{AllOf, each}
+use Rattle.record.specs.Laid.{layout-append, length-flatten, field-of}
 use Rattle.record.specs.RoundTrip.{length-encoded, layout-records}
 use Rattle.floor.specs.Floor.{readFloor}
 use Rattle.floor.specs.Numbers.{bodiesOf, numbersOf, placeAt, laneAt, cartAt, bodyAt}
-use Rattle.floor.specs.Sorted.{Sorted, LaneOk, CartOk, All}
+use Rattle.floor.specs.Sorted.{Sorted, LaneOk, CartOk}
 use Rattle.floor.specs.Valid.{Valid}
 use Rattle.floor.specs.RoundTrip.{whole, accepted-sorted, accepted-within, bytes-back}
 use Rattle.floor.specs.Promises.{Accepts}
@@ -111,16 +112,10 @@ module _ (s : List ℕ) (f : Floor) (b : Bytes s) (e : readFloor s ≡ Read f) w
       ∙ ap (drop (6 * n + 4)) (sym (append-nil (layout (map (ofKind 3) carts)))))
       ∙ row-at 3 2 carts [] n (ordered .cart-sizes) m ∙ sym (flat-at 2 carts n (ordered .cart-sizes) m)
 
-  -- one number of a body, and what holds of all bodies
+  -- one number of a body
   one-of : (size : ℕ) (xs : List (List ℕ)) (i k : ℕ) → AllOf size xs → i < length xs → k < size → getD (flatten xs) (size * i + k) 0 ≡ getD (getD xs i []) k 0
   one-of size xs i k h l m =
-      sym (getD-drop (size * i) (flatten xs) k 0) ∙ sym (getD-take size (drop (size * i) (flatten xs)) k 0 m)
-      ∙ ap (λ (x : List ℕ). getD x k 0) (flat-at size xs i h l)
-
-  each : (P : List ℕ → Type 0) (xs : List (List ℕ)) (i : ℕ) → All P xs → i < length xs → P (getD xs i [])
-  each P [] i h l = absurd (omega arith)
-  each P (x ∷ xs) zero h l = h .0
-  each P (x ∷ xs) (suc i) h l = each P xs i (h .1) (omega arith)
+      sym (field-of size (flatten xs) i k m) ∙ ap (λ (x : List ℕ). getD x k 0) (flat-at size xs i h l)
 
   lane-is : (j k : ℕ) → j < f .lanes → k < 3 → getD (numbersOf s .lanes) (3 * j + k) 0 ≡ getD (getD lanes j []) k 0
   lane-is j k l m = one-of 3 lanes j k (ordered .lane-sizes) (omega (arith, ordered .lanes)) m

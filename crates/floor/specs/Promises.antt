@@ -4,9 +4,9 @@ use mathlib.Core.Path.{_≡_}
 use mathlib.Core.List.{List}
 use lib.ListN.{take, drop, getD}
 use Rattle.endian.specs.Little.{value}
-use Rattle.refusal.specs.Outcome.{Gives}
+use Rattle.refusal.specs.Outcome.{Gives, written}
 use Rattle.refusal.specs.declared.Verdict.{Verdict}
-use Rattle.refusal.specs.declared.Verdict.the-variants.{Written}
+use Rattle.refusal.specs.declared.Verdict.the-variants.{Written, Floor as AboutFloor}
 use Rattle.floor.specs.Floor.{readFloor}
 use Rattle.floor.specs.Numbers.{Numbers, floorBytes, numbersOf, placeAt, laneAt, cartAt, bodyAt, writeFloor}
 use Rattle.floor.specs.Valid.{Valid}
@@ -31,5 +31,7 @@ pub record FloorRead (s : List ℕ) (r : FloorAnswer) : Type 0 where
 pub record FloorWritten (n : Numbers) (before : List ℕ) (v : Verdict) (after : List ℕ) : Type 0 where
   -- the answer and every byte of the buffer, for all numbers
   pub outcome : Gives (writeFloor n before) v after
+  -- numbers of the table are refused only for want of room
+  pub complete : (f : Floor) → Valid n f → Gives (written AboutFloor (floorBytes n) before) v after
   -- "What is written reads back as the same numbers."
   pub reads-back : (k : ℕ) → v ≡ Written k → (f : Floor) × (readFloor (take k after) ≡ Read f) × (numbersOf (take k after) ≡ n)

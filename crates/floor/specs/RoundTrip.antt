@@ -11,7 +11,8 @@ use Rattle.endian.specs.Little.{bytes, value, Bytes}
 use Rattle.endian.specs.RoundTrip.{length-bytes, value-bytes, bytes-value}
 use Rattle.record.specs.Record.{Record, Split, layout, recordsIn}
 use Rattle.record.specs.Parts.{parts, ofKind}
-use Rattle.record.specs.Laid.{AllOf, parts-encodable, flatten-parts, parts-flatten}
+use Rattle.record.specs.All.{AllOf}
+use Rattle.record.specs.Laid.{parts-encodable, flatten-parts, parts-flatten}
 use Rattle.record.specs.RoundTrip.{AllEncodable, encodable-append, records-layout, layout-records, AllBytes, records-bytes}
 use Rattle.refusal.specs.Codes.{atOffset}
 use Rattle.refusal.specs.Outcome.{Gives}

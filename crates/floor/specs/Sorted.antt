@@ -10,7 +10,7 @@ use borrow.Author.Tests.{eqb-true, ltb-false, leb-false}
 use Rattle.refusal.specs.Faults.{none-holds, not-not, either-false}
 use Rattle.record.specs.Record.{Record}
 use Rattle.record.specs.Parts.{ofKind}
-use Rattle.record.specs.Laid.{AllOf}
+use Rattle.record.specs.All.{All, AllOf}
 use Rattle.floor.specs.Floor.{Kind, place, lane, cart, unknown, kindOf, outOfPlace, sizeOf, full, badField, faultOf, counted, judgedBy, judged, onward, walk}
 use Rattle.floor.specs.Numbers.{bodiesOf}
 use Rattle.floor.specs.declared.Floor.{Floor}
@@ -56,10 +56,6 @@ LaneOk places body = (getD body 0 0 < places) × (getD body 1 0 < places)
 
 abbrev pub CartOk : ℕ → List ℕ → Type 0
 CartOk places body = (getD body 0 0 < 8) × (getD body 1 0 < places)
-
-abbrev pub All : (List ℕ → Type 0) → List (List ℕ) → Type 0
-All P [] = Unit {0}
-All P (x ∷ xs) = P x × All P xs
 
 -- records judged from f on without a refusal, up to g
 pub record Sorted (f g : Floor) (rs : List Record) : Type 0 where

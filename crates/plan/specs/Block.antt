@@ -7,7 +7,7 @@ use mathlib.Core.List.{List, [], _∷_, _++_, map, flatten, append-assoc, append
 use lib.ListN.{length, take, drop, getD, length-append, length-replicate, replicate-append-replicate}
 use lib.Seq.{take-append-add, drop-append-add, take-at, drop-at}
 use Rattle.record.specs.Buffer.{stored}
-use Rattle.record.specs.Laid.{AllOf}
+use Rattle.record.specs.All.{All, AllOf}
 use Rattle.plan.specs.Plan.{zeros, padded, blockOf}
 
 length-zeros : (n : ℕ) → length (zeros n) ≡ n
@@ -25,8 +25,7 @@ drop-zeros n m h =
 
 -- all rows fit their 64 bytes
 abbrev pub Short : List (List ℕ) → Type 0
-Short [] = Unit {0}
-Short (row ∷ rows) = (length row ≤ 64) × Short rows
+Short rows = All (λ (row : List ℕ). length row ≤ 64) rows
 
 pub short-more : (rows : List (List ℕ)) (row : List ℕ) → Short rows → length row ≤ 64 → Short (rows ++ (row ∷ []))
 short-more [] row s h = (h, tt)

@@ -9,3 +9,4 @@ pub mod Block
 pub mod Passed
 pub mod RoundTrip
 pub mod Judged
+pub mod Complete

@@ -3,9 +3,10 @@ use Prim.Native.Nat.{ℕ, _*_, _<_}
 use mathlib.Core.Path.{_≡_}
 use mathlib.Core.List.{List, [], flatten}
 use lib.ListN.{take, drop, getD}
-use Rattle.refusal.specs.Outcome.{Gives}
+use Rattle.refusal.specs.Outcome.{Gives, written}
 use Rattle.refusal.specs.declared.Verdict.{Verdict}
-use Rattle.refusal.specs.declared.Verdict.the-variants.{Accepted, Written}
+use Rattle.refusal.specs.declared.Verdict.the-variants.{Accepted, Written, Plan as AboutPlan}
+use Rattle.record.specs.Parts.{parts}
 use Rattle.floor.specs.Floor.{readFloor}
 use Rattle.floor.specs.declared.Floor.{Floor}
 use Rattle.floor.specs.declared.FloorAnswer.the-variants.{Read as FloorAccepted}
@@ -34,6 +35,9 @@ pub record PlanReads (floor s : List ℕ) (r : PlanRead) : Type 0 where
 pub record PlanWritten (floor : List ℕ) (h : Head) (rows before : List ℕ) (v : Verdict) (after : List ℕ) : Type 0 where
   -- the answer and every byte of the buffer, for all numbers
   pub outcome : Gives (writePlan floor h rows before) v after
+  -- numbers of the table are refused only for want of room
+  pub complete : (f : Floor) → readFloor floor ≡ FloorAccepted f → Valid (record { head = h; rows = parts (h .steps) rows }) f
+      → Gives (written AboutPlan (planBytes h rows) before) v after
   -- "What is written reads back as the same numbers."
   pub reads-back : (k : ℕ) → v ≡ Written k
       → (f : Floor) × (n : Numbers) × (readFloor floor ≡ FloorAccepted f) × (readPlan f (take k after) ≡ acceptedNumbers n) × (n .head ≡ h) × (flatten (n .rows) ≡ rows)

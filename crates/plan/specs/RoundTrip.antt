@@ -14,7 +14,8 @@ use Rattle.refusal.specs.Codes.{atOffset}
 use Rattle.refusal.specs.declared.Refusal.{Refusal}
 use Rattle.record.specs.Record.{Record, Split, encoded, layout, recordsIn}
 use Rattle.record.specs.Parts.{parts, ofKind, laid}
-use Rattle.record.specs.Laid.{AllOf, parts-flatten, flatten-parts, short-encodable}
+use Rattle.record.specs.All.{All, AllOf, each}
+use Rattle.record.specs.Laid.{parts-flatten, flatten-parts, short-encodable}
 use Rattle.record.specs.RoundTrip.{AllEncodable, length-encoded, records-layout, layout-records, AllBytes, records-bytes}
 use Rattle.refusal.specs.Outcome.{Gives}
 use Rattle.refusal.specs.Held.{written-front}
@@ -38,8 +39,7 @@ use Rattle.plan.specs.declared.HeadAnswer.the-variants.{Good, Refused}
 
 -- every place of every row is on the floor
 abbrev AllOn : ℕ → List (List ℕ) → Type 0
-AllOn places [] = Unit {0}
-AllOn places (row ∷ rows) = (judgedPlaces places 0 row ≡ Fits) × AllOn places rows
+AllOn places rows = All (λ (row : List ℕ). judgedPlaces places 0 row ≡ Fits) rows
 
 -- the records behind an accepted head are rows, one for each cart, of the head's steps
 pub record Rows (f : Floor) (h : Head) (done : List (List ℕ)) (rs : List Record) (cut : Bool) (n : Numbers) : Type 0 where
@@ -223,26 +223,15 @@ module _ (floor : List ℕ) (h : Head) (rows before : List ℕ) (v : Verdict) (a
   unfolding writePlan
   reads-back g = by-floor (readFloor floor) refl g
 
--- what holds of every row holds of cart c's
-each-size : (k : ℕ) (rows : List (List ℕ)) (c : ℕ) → AllOf k rows → c < length rows → length (getD rows c []) ≡ k
-each-size k [] c h l = absurd (omega arith)
-each-size k (row ∷ rows) zero h l = h .0
-each-size k (row ∷ rows) (suc c) h l = each-size k rows c (h .1) (omega arith)
-
-each-on : (places : ℕ) (rows : List (List ℕ)) (c : ℕ) → AllOn places rows → c < length rows → judgedPlaces places 0 (getD rows c []) ≡ Fits
-each-on places [] c h l = absurd (omega arith)
-each-on places (row ∷ rows) zero h l = h .0
-each-on places (row ∷ rows) (suc c) h l = each-on places rows c (h .1) (omega arith)
-
 pub valid : (f : Floor) (s : List ℕ) (n : Numbers) → readPlan f s ≡ accepted n → Valid n f
 valid f s n e =
     let w = whole f s n e in
-    let size : (c : ℕ) → c < f .carts → length (getD (n .rows) c []) ≡ n .head .steps = λ c l. each-size (n .head .steps) (n .rows) c (w .sizes) (omega (arith, w .carts)) in
+    let size : (c : ℕ) → c < f .carts → length (getD (n .rows) c []) ≡ n .head .steps = λ c l. each (λ (row : List ℕ). length row ≡ n .head .steps) (n .rows) c (w .sizes) (omega (arith, w .carts)) in
     record {
       head = w .range;
       carts = w .carts;
       steps = size;
-      places = λ c t l m. all-on-floor (f .places) 0 (getD (n .rows) c []) (each-on (f .places) (n .rows) c (w .places) (omega (arith, w .carts))) t (omega (arith, size c l));
+      places = λ c t l m. all-on-floor (f .places) 0 (getD (n .rows) c []) (each (λ (row : List ℕ). judgedPlaces (f .places) 0 row ≡ Fits) (n .rows) c (w .places) (omega (arith, w .carts))) t (omega (arith, size c l));
     }
 
 pub row-located : (f : Floor) (s : List ℕ) (n : Numbers) → readPlan f s ≡ accepted n → (c : ℕ) → c < f .carts

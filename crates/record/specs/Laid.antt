@@ -7,10 +7,11 @@ use mathlib.Core.Bool.{Bool, true, false}
 use lib.Dec.{leb}
 use borrow.Author.Tests.{leb-true, leb-false}
 use mathlib.Core.List.{List, [], _∷_, _++_, map, append-assoc, flatten}
-use lib.ListN.{length, take, drop, length-append, length-drop, take-append-drop, drop-of-length-le}
-use lib.Seq.{take-all, take-length, drop-length, drop-drop, take-at, drop-at, length-take-le}
+use lib.ListN.{length, take, drop, length-append, length-drop, take-append-drop, drop-of-length-le, getD}
+use lib.Seq.{take-all, take-length, drop-length, drop-drop, take-at, drop-at, length-take-le, getD-take, getD-drop}
 use Rattle.record.specs.Record.{Record, encoded, layout}
 use Rattle.record.specs.Parts.{partsIn, parts, partCount, ofKind, laid}
+use Rattle.record.specs.All.{All, AllOf}
 use Rattle.record.specs.Fuel.{parts-none, parts-open}
 use Rattle.record.specs.RoundTrip.{AllEncodable, length-encoded}
 
@@ -178,11 +179,6 @@ flatten-parts size l p = parts-ind size p (λ l. flatten (parts size l) ≡ l) (
         let m = min size (length l) in
         ap flatten (parts-step size l p b) ∙ ap (λ (x : List ℕ). take m l ++ x) r ∙ take-append-drop m l
 
--- bodies of one length
-abbrev pub AllOf : ℕ → List (List ℕ) → Type 0
-AllOf size [] = Unit {0}
-AllOf size (x ∷ xs) = (length x ≡ size) × AllOf size xs
-
 -- joined and cut again they are what they were
 pub parts-flatten : (size : ℕ) (bodies : List (List ℕ)) → 0 < size → AllOf size bodies → parts size (flatten bodies) ≡ bodies
 unfolding flatten
@@ -201,3 +197,23 @@ unfolding flatten
 length-flatten size [] h = sym (mul-zero size)
 length-flatten size (x ∷ xs) h =
     length-append x (flatten xs) ∙ ap₂ _+_ (h .0) (length-flatten size xs (h .1)) ∙ add-comm size (size * length xs) ∙ sym (mul-suc size (length xs))
+
+-- numbers that make whole parts: so many of them, each of the size, and what holds of each holds of all
+module _ (size : ℕ) (some : 0 < size) (P : List ℕ → Type 0) where
+  pub whole-parts : (k : ℕ) (l : List ℕ) → length l ≡ size * k → ((j : ℕ) → j < k → P (take size (drop (size * j) l)))
+      → (length (parts size l) ≡ k) × AllOf size (parts size l) × All P (parts size l)
+  whole-parts zero [] e f = rw (parts-none size) (refl, tt, tt)
+  whole-parts zero (b ∷ l) e f = absurd (omega (arith, mul-zero size))
+  whole-parts (suc k) l e f =
+      let m = mul-suc size k in
+      let full : min size (length l) ≡ size = omega arith in
+      let first : P (take size l) = subst (λ (n : ℕ). P (take size (drop n l))) (mul-zero size) (f 0 (omega arith)) in
+      let shift : (j : ℕ) → size + size * j ≡ size * suc j = λ j. omega (arith, mul-suc size j) in
+      let rest : (j : ℕ) → j < k → P (take size (drop (size * j) (drop size l))) =
+      λ j h. subst (λ (x : List ℕ). P (take size x)) (sym (drop-drop (size * j) size l ∙ ap (λ (n : ℕ). drop n l) (shift j))) (f (suc j) (omega arith)) in
+      let r = whole-parts k (drop size l) (omega (arith, length-drop size l)) rest in
+      rw (parts-step size l some (omega arith), full) (ap suc (r .0), (length-take-le size l (omega arith), r .1), (first, r .2))
+
+-- the k-th number of the j-th part
+pub field-of : (size : ℕ) (l : List ℕ) (j k : ℕ) → k < size → getD (take size (drop (size * j) l)) k 0 ≡ getD l (size * j + k) 0
+field-of size l j k h = getD-take size (drop (size * j) l) k 0 h ∙ getD-drop (size * j) l k 0

@@ -3,6 +3,7 @@ pub mod Record
 pub mod Parts
 pub mod Found
 pub mod Buffer
+pub mod All
 -- laws
 pub mod Stored
 pub mod Fuel

@@ -6,6 +6,7 @@ use Rattle.refusal.specs.Outcome.{Gives}
 use Rattle.refusal.specs.declared.Verdict.{Verdict}
 use Rattle.floor.specs.Floor.{readFloor}
 use Rattle.floor.specs.Numbers.{Numbers, Words, numbers, floorBytes, byReading, writeFloor}
+use Rattle.floor.specs.Complete.{complete}
 use Rattle.floor.specs.Promises.{FloorWritten}
 use Rattle.floor.specs.RoundTrip.{whole, reads-back}
 use Rattle.floor.specs.declared.FloorAnswer.{FloorAnswer}
@@ -21,7 +22,11 @@ promise : (n : Numbers) (before : List ℕ) (v : Verdict) (after : List ℕ) →
 unfolding writeFloor
 promise n before v after w a e g =
     let o : Gives (writeFloor n before) v after = subst (λ (x : FloorAnswer). Gives (byReading x (floorBytes n) before) v after) (sym e) g in
-    record { outcome = o; reads-back = reads-back n before v after w o }
+    record {
+      outcome = o;
+      complete = λ f q. subst (λ (x : FloorAnswer). Gives (byReading x (floorBytes n) before) v after) (complete n f q) o;
+      reads-back = reads-back n before v after w o;
+    }
 
 judge-numbers-requires : tie.Need-judge-numbers-requires
 judge-numbers-requires c κs = search needs

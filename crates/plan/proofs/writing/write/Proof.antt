@@ -1,3 +1,13 @@
+use Rattle.refusal.specs.Outcome.{written}
+use Rattle.refusal.specs.declared.Verdict.the-variants.{Plan as AboutPlan}
+use Rattle.record.specs.Parts.{parts}
+use Rattle.floor.specs.RoundTrip.{accepted-within}
+use Rattle.floor.specs.declared.Floor.{Floor}
+use Rattle.floor.specs.declared.FloorAnswer.the-variants.{Read as FloorAccepted}
+use Rattle.plan.specs.Plan.{PlanAnswer}
+use Rattle.plan.specs.Valid.{Valid}
+use Rattle.plan.specs.Complete.{complete}
+use Rattle.plan.specs.Numbers.{planBytes, byReading}
 use Prim.Native.Nat.{ℕ}
 use native.Mathlib.Omega.{arith}
 use mathlib.Core.Path.{_≡_, refl, sym, subst, _∙_}
@@ -21,12 +31,25 @@ head c = headOf (c .args .steps) (c .args .stem) (c .args .drift)
 narrow : (c : tie.Start) → Narrow (head c)
 narrow c = record { steps = omega (arith, c .fits .steps); stem = omega (arith, c .fits .stem); drift = omega (arith, c .fits .drift) }
 
+-- a valid plan for an accepted floor is written, if there is room
+completes : (floor : List ℕ) (h : Head) (rows before : List ℕ) (v : Verdict) (after : List ℕ) → Gives (writePlan floor h rows before) v after
+    → (f : Floor) → readFloor floor ≡ FloorAccepted f → Valid (record { head = h; rows = parts (h .steps) rows }) f
+    → Gives (written AboutPlan (planBytes h rows) before) v after
+unfolding writePlan
+completes floor h rows before v after g f e w =
+    subst (λ (x : PlanAnswer). Gives (byReading x (planBytes h rows) before) v after) (complete f h rows (accepted-within floor f e .carts) w)
+    (subst (λ (x : FloorAnswer). Gives (byFloor x h rows before) v after) e g)
+
 promise : (floor : List ℕ) (h : Head) (rows before : List ℕ) (v : Verdict) (after : List ℕ) → Narrow h → (a : FloorAnswer) → readFloor floor ≡ a
     → Gives (byFloor a h rows before) v after → PlanWritten floor h rows before v after
 unfolding writePlan
 promise floor h rows before v after w a e g =
     let o : Gives (writePlan floor h rows before) v after = subst (λ (x : FloorAnswer). Gives (byFloor x h rows before) v after) (sym e) g in
-    record { outcome = o; reads-back = λ k q. reads-back floor h rows before v after w k q o }
+    record {
+      outcome = o;
+      complete = completes floor h rows before v after o;
+      reads-back = λ k q. reads-back floor h rows before v after w k q o;
+    }
 
 read-requires : tie.Need-read-requires
 read-requires c κs = search needs

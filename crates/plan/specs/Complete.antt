@@ -1,0 +1,77 @@
+-- Numbers of the table are accepted: what reading accepts is exactly what is valid.
+use Prim.Native.Nat.{ℕ, suc, _+_, _*_, _≤_, _<_}
+use native.Mathlib.Omega.{arith}
+use mathlib.Core.Path.{_≡_, refl, sym, ap, _∙_}
+use mathlib.Core.Bool.{Bool, false, cond}
+use mathlib.Core.List.{List, [], _∷_, _++_, map, append-assoc, append-nil}
+use lib.ListN.{length, getD, length-append}
+use borrow.Author.Tests.{lt-leb, le-ltb, eq-eqb, ne-eqb}
+use Rattle.record.specs.Record.{encoded, layout}
+use Rattle.record.specs.Parts.{parts, ofKind}
+use Rattle.record.specs.All.{All, AllOf, all-of}
+use Rattle.record.specs.RoundTrip.{length-encoded}
+use Rattle.floor.specs.declared.Floor.{Floor}
+use Rattle.plan.specs.Plan.{Numbers, accepted, outOfRange, judgedPlaces, judgedRow, rowFaultBy, rowFault, onward, readRows, readPlan}
+use Rattle.plan.specs.Numbers.{Narrow, planBytes}
+use Rattle.plan.specs.Valid.{InRange, Valid}
+use Rattle.plan.specs.RoundTrip.{length-plan}
+use Rattle.plan.specs.Judged.{good-head}
+use Rattle.plan.specs.declared.Head.{Head}
+use Rattle.plan.specs.declared.RowAnswer.{RowAnswer}
+use Rattle.plan.specs.declared.RowAnswer.the-variants.{Fits, WrongLength, Absent}
+
+fits-all : (places i : ℕ) (row : List ℕ) → ((s : ℕ) → s < length row → getD row s 0 < places) → judgedPlaces places i row ≡ Fits
+unfolding judgedPlaces
+fits-all places i [] h = refl
+fits-all places i (p ∷ row) h =
+    ap (λ (b : Bool). cond b (Absent i) (judgedPlaces places (suc i) row)) (lt-leb places p (h 0 (omega arith)))
+    ∙ fits-all places (suc i) row (λ s l. h (suc s) (omega arith))
+
+in-range : (h : Head) → InRange h → outOfRange h ≡ false
+in-range h r =
+    let z : (h .steps ≡ 0 → ⊥) = λ e. omega (arith, r .some) in
+    simp (ne-eqb _ _ z, le-ltb 64 (h .steps) (r .steps), lt-leb (h .steps) (h .stem) (r .stem), le-ltb 16 (h .drift) (r .drift))
+
+-- a row of the head's steps on the floor, while a cart is left
+one-row : (f : Floor) (h : Head) (n : ℕ) (row : List ℕ) → length row ≡ h .steps → judgedPlaces (f .places) 0 row ≡ Fits → n < f .carts → rowFault f h n 5 row ≡ 0
+unfolding judgedRow
+one-row f h n row s p l =
+    ap (λ (x : RowAnswer). rowFaultBy x f n 5) (ap (λ (b : Bool). cond b (judgedPlaces (f .places) 0 row) WrongLength) (eq-eqb _ _ s) ∙ p)
+    ∙ simp (lt-leb (f .carts) n l)
+
+rows-fit : (f : Floor) (h : Head) (xs done : List (List ℕ)) (at : ℕ) → AllOf (h .steps) xs → All (λ (row : List ℕ). judgedPlaces (f .places) 0 row ≡ Fits) xs
+    → length done + length xs ≡ f .carts → readRows f h done at (map (ofKind 5) xs) false ≡ accepted (record { head = h; rows = done ++ xs })
+unfolding readRows
+rows-fit f h [] done at s p l =
+    let e : f .carts ≤ length done = omega arith in
+    let a : accepted (record { head = h; rows = done }) ≡ accepted (record { head = h; rows = done ++ [] }) =
+    ap (λ (x : List (List ℕ)). accepted (record { head = h; rows = x })) (sym (append-nil done)) in
+    simp (le-ltb (length done) (f .carts) e) a
+rows-fit f h (x ∷ xs) done at s p l =
+    let n = length-append done (x ∷ []) in
+    ap (λ (m : ℕ). onward m at (readRows f h (done ++ (x ∷ [])) (at + 4 + length x) (map (ofKind 5) xs) false)) (one-row f h (length done) x (s .0) (p .0) (omega arith))
+    ∙ rows-fit f h xs (done ++ (x ∷ [])) (at + 4 + length x) (s .1) (p .1) (omega arith)
+    ∙ ap (λ (y : List (List ℕ)). accepted (record { head = h; rows = y })) (append-assoc done (x ∷ []) xs)
+
+-- rows of so many steps, laid out
+length-rows : (k : ℕ) (xs : List (List ℕ)) → k ≤ 64 → AllOf k xs → length (layout (map (ofKind 5) xs)) ≤ 68 * length xs
+unfolding layout
+length-rows k [] h s = omega arith
+length-rows k (x ∷ xs) h s =
+    let a = length-append (encoded (ofKind 5 x)) (layout (map (ofKind 5) xs)) in
+    let b = length-encoded (ofKind 5 x) in
+    let c = length-rows k xs h (s .1) in
+    omega (arith, s .0)
+
+pub complete : (f : Floor) (h : Head) (rows : List ℕ) → f .carts ≤ 32 → Valid (record { head = h; rows = parts (h .steps) rows }) f
+    → readPlan f (planBytes h rows) ≡ accepted (record { head = h; rows = parts (h .steps) rows })
+complete f h rows m v =
+    let xs = parts (h .steps) rows in
+    let r = v .head in
+    let sizes : AllOf (h .steps) xs = all-of (λ (x : List ℕ). length x ≡ h .steps) xs (λ i l. v .steps i (omega (arith, v .carts))) in
+    let places : All (λ (row : List ℕ). judgedPlaces (f .places) 0 row ≡ Fits) xs =
+    all-of (λ (row : List ℕ). judgedPlaces (f .places) 0 row ≡ Fits) xs
+    (λ i l. fits-all (f .places) 0 (getD xs i []) (λ s k. v .places i s (omega (arith, v .carts)) (omega (arith, v .steps i (omega (arith, v .carts)))))) in
+    let short : length (planBytes h rows) ≤ 65536 = omega (arith, length-plan h rows, length-rows (h .steps) xs (r .steps) sizes, v .carts) in
+    let narrow : Narrow h = record { steps = omega (arith, r .steps); stem = omega (arith, r .steps, r .stem); drift = omega (arith, r .drift) } in
+    good-head f h rows narrow short (in-range h r) ∙ rows-fit f h xs [] 10 sizes places (omega (arith, v .carts))
