@@ -2,6 +2,9 @@
  *
  * A buffer is lent as a pointer and a length; a null pointer with length 0 is an empty buffer. Nothing is kept after a call
  * returns, nothing is allocated, and no call needs an earlier one. A refusal changes no byte of any buffer.
+ *
+ * What the caller answers for, since nothing can check it: each pointer is valid for its length, `places` is aligned as a
+ * uint32_t, nothing else writes to the buffers during a call, and `out` overlaps no other buffer of the call.
  */
 #ifndef CARTPLAN_H
 #define CARTPLAN_H
@@ -28,14 +31,16 @@ struct cartplan_verdict cartplan_read_plan(const uint8_t *floor, size_t floor_le
                                            const uint8_t *plan, size_t plan_len);
 
 /* Writes a floor to out: a place for each number of places (its 32 marks, m0 lowest), a lane for each three bytes of lanes
- * (from, to, classes), a cart for each two bytes of carts (class, start). Bytes of out past the result stay. */
+ * (from, to, classes), a cart for each two bytes of carts (class, start). Bytes of out past the result stay. Numbers that no
+ * floor can hold are refused as reading them would be, at the offset that they would have in the file; bytes left over in
+ * lanes or carts are a record of wrong body length (4). Then 18 with the length needed, if out is shorter. */
 struct cartplan_verdict cartplan_write_floor(const uint32_t *places, size_t place_count,
                                              const uint8_t *lanes, size_t lanes_len,
                                              const uint8_t *carts, size_t carts_len,
                                              uint8_t *out, size_t out_len);
 
 /* Writes a plan for a floor to out: its head (h steps, first step l of the lap, drift d) and a row for each h bytes of rows.
- * Bytes of out past the result stay. */
+ * Bytes of out past the result stay. Refusals as for a floor, the floor's own first. With h = 0 all bytes of rows are left over. */
 struct cartplan_verdict cartplan_write_plan(const uint8_t *floor, size_t floor_len,
                                             uint16_t h, uint16_t l, uint16_t d,
                                             const uint8_t *rows, size_t rows_len,
