@@ -21,7 +21,8 @@ walkFrom k size l g next i = walk g next (map (ofKind k) (parts size (drop i l))
 
 pub all-walked : (k size : ℕ) (l : List ℕ) (g : Floor) (next i : ℕ) → length l ≤ i → walkFrom k size l g next i ≡ At g next
 unfolding walk
-all-walked k size l g next i h = ap (λ (x : List (List ℕ)). walk g next (map (ofKind k) x)) (ap (parts size) (drop-of-length-le l h) ∙ parts-none size)
+all-walked k size l g next i h =
+    ap (λ (x : List (List ℕ)). walk g next (map (ofKind k) x)) (ap (parts size) (drop-of-length-le l h) ∙ parts-none size)
 
 module _ (k size : ℕ) (l : List ℕ) (g : Floor) (next i end : ℕ) (p : PartAt size l i end) where
   by : (j : Judged) → judged g (kindOf k) (take (end - i) (drop i l)) ≡ j
@@ -32,7 +33,8 @@ module _ (k size : ℕ) (l : List ℕ) (g : Floor) (next i end : ℕ) (p : PartA
       ∙ ap (λ (n : ℕ). onward (judged g (kindOf k) (take (end - i) (drop i l))) next (λ h. walkFrom k size l h (next + 4 + n) end)) (p .size-is)
       ∙ ap (λ (j : Judged). onward j next (λ h. walkFrom k size l h (next + 4 + (end - i)) end)) q
 
-  pub walk-good : (h : Floor) → judged g (kindOf k) (take (end - i) (drop i l)) ≡ Good h → walkFrom k size l g next i ≡ walkFrom k size l h (next + 4 + (end - i)) end
+  pub walk-good : (h : Floor) → judged g (kindOf k) (take (end - i) (drop i l)) ≡ Good h
+      → walkFrom k size l g next i ≡ walkFrom k size l h (next + 4 + (end - i)) end
   walk-good h q = by (Good h) q
 
   pub walk-fault : (n : ℕ) → judged g (kindOf k) (take (end - i) (drop i l)) ≡ Fault n → walkFrom k size l g next i ≡ Stopped (atOffset n next)

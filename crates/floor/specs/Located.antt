@@ -34,7 +34,8 @@ module _ (k size : ℕ) where
       let e = mul-suc (4 + size) (length xs) in
       omega arith
 
-  row-at : (xs : List (List ℕ)) (t : List ℕ) (i : ℕ) → AllOf size xs → i < length xs → bodyAt size ((4 + size) * i) (layout (map (ofKind k) xs) ++ t) ≡ getD xs i []
+  row-at : (xs : List (List ℕ)) (t : List ℕ) (i : ℕ) → AllOf size xs → i < length xs
+      → bodyAt size ((4 + size) * i) (layout (map (ofKind k) xs) ++ t) ≡ getD xs i []
   unfolding layout encoded bytes
   row-at [] t i h l = absurd (omega arith)
   row-at (x ∷ xs) t zero h l =
@@ -113,7 +114,8 @@ module _ (s : List ℕ) (f : Floor) (b : Bytes s) (e : readFloor s ≡ Read f) w
       ∙ row-at 3 2 carts [] n (ordered .cart-sizes) m ∙ sym (flat-at 2 carts n (ordered .cart-sizes) m)
 
   -- one number of a body
-  one-of : (size : ℕ) (xs : List (List ℕ)) (i k : ℕ) → AllOf size xs → i < length xs → k < size → getD (flatten xs) (size * i + k) 0 ≡ getD (getD xs i []) k 0
+  one-of : (size : ℕ) (xs : List (List ℕ)) (i k : ℕ) → AllOf size xs → i < length xs → k < size
+      → getD (flatten xs) (size * i + k) 0 ≡ getD (getD xs i []) k 0
   one-of size xs i k h l m =
       sym (field-of size (flatten xs) i k m) ∙ ap (λ (x : List ℕ). getD x k 0) (flat-at size xs i h l)
 
@@ -142,9 +144,11 @@ module _ (s : List ℕ) (f : Floor) (b : Bytes s) (e : readFloor s ≡ Read f) w
         few-places = m .places;
         few-lanes = m .lanes;
         few-carts = m .carts;
-        lane-from = λ j l. subst (λ (k : ℕ). getD (numbersOf s .lanes) k 0 < f .places) (add-zero (3 * j)) (rw (lane-is j 0 l (omega arith)) (lane-ok j l .0));
+        lane-from =
+            λ j l. subst (λ (k : ℕ). getD (numbersOf s .lanes) k 0 < f .places) (add-zero (3 * j)) (rw (lane-is j 0 l (omega arith)) (lane-ok j l .0));
         lane-to = λ j l. rw (lane-is j 1 l (omega arith)) (lane-ok j l .1);
-        cart-class = λ n l. subst (λ (k : ℕ). getD (numbersOf s .carts) k 0 < 8) (add-zero (2 * n)) (rw (cart-is n 0 l (omega arith)) (cart-ok n l .0));
+        cart-class =
+            λ n l. subst (λ (k : ℕ). getD (numbersOf s .carts) k 0 < 8) (add-zero (2 * n)) (rw (cart-is n 0 l (omega arith)) (cart-ok n l .0));
         cart-start = λ n l. rw (cart-is n 1 l (omega arith)) (cart-ok n l .1);
       }
 

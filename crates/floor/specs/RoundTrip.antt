@@ -69,7 +69,8 @@ abbrev three : List (List ℕ) → List (List ℕ) → List (List ℕ) → List 
 three a b c = map (ofKind 1) a ++ (map (ofKind 2) b ++ map (ofKind 3) c)
 
 module _ (a b c : List (List ℕ)) where
-  of-three : (k : ℕ) (x y z : List (List ℕ)) → bodiesOf k (map (ofKind 1) a) ≡ x → bodiesOf k (map (ofKind 2) b) ≡ y → bodiesOf k (map (ofKind 3) c) ≡ z
+  of-three : (k : ℕ) (x y z : List (List ℕ)) → bodiesOf k (map (ofKind 1) a) ≡ x → bodiesOf k (map (ofKind 2) b) ≡ y
+      → bodiesOf k (map (ofKind 3) c) ≡ z
       → bodiesOf k (three a b c) ≡ x ++ (y ++ z)
   of-three k x y z p q r =
       bodies-append k (map (ofKind 1) a) (map (ofKind 2) b ++ map (ofKind 3) c)
@@ -84,7 +85,8 @@ module _ (a b c : List (List ℕ)) where
   third : bodiesOf 3 (three a b c) ≡ c
   third = of-three 3 [] [] c (bodies-other 3 1 a refl) (bodies-other 3 2 b refl) (bodies-own 3 c)
 
-same : {a b c x y z : List ℕ} → a ≡ x → b ≡ y → c ≡ z → _≡_ {A = Numbers} (record { places = a; lanes = b; carts = c }) (record { places = x; lanes = y; carts = z })
+same : {a b c x y z : List ℕ} → a ≡ x → b ≡ y → c ≡ z
+    → _≡_ {A = Numbers} (record { places = a; lanes = b; carts = c }) (record { places = x; lanes = y; carts = z })
 same {c = c} {x = x} {y = y} p q r =
     ap₂ (λ (a b : List ℕ). record { places = a; lanes = b; carts = c }) p q ∙ ap (λ (c : List ℕ). record { places = x; lanes = y; carts = c }) r
 

@@ -142,7 +142,8 @@ module _ (body : List ℕ) (rs : List Record) (f h g : Floor) (s : Sorted h g rs
       let class : getD body 0 0 ≤ 7 = ltb-false _ _ (r .0) in
       let start : getD body 1 0 < f .places = leb-false _ _ (r .1) in
       record {
-        in-order = ap (λ (x : List Record). ofKind 3 body ∷ x) (s .in-order ∙ ap₂ (λ (x y : List (List ℕ)). map (ofKind 1) x ++ (map (ofKind 2) y ++ rest)) none none′)
+        in-order =
+            ap (λ (x : List Record). ofKind 3 body ∷ x) (s .in-order ∙ ap₂ (λ (x y : List (List ℕ)). map (ofKind 1) x ++ (map (ofKind 2) y ++ rest)) none none′)
             ∙ sym (ap₂ (λ (x y : List (List ℕ)). map (ofKind 1) x ++ (map (ofKind 2) y ++ (ofKind 3 body ∷ rest))) none none′);
         no-places = λ q. none;
         no-lanes = λ q. none′;

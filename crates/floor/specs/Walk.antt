@@ -51,7 +51,8 @@ full-place : (n m : ℕ) → 256 ≤ n → judged (onlyPlaces n) place (bytes 4 
 unfolding judged bytes
 full-place n m h = simp (le-leb 256 n h)
 
-place-next : (m : ℕ) (ms : List ℕ) (n at : ℕ) → n < 256 → walk (onlyPlaces n) at (map placeRecord (m ∷ ms)) ≡ walk (onlyPlaces (n + 1)) (at + 8) (map placeRecord ms)
+place-next : (m : ℕ) (ms : List ℕ) (n at : ℕ) → n < 256
+    → walk (onlyPlaces n) at (map placeRecord (m ∷ ms)) ≡ walk (onlyPlaces (n + 1)) (at + 8) (map placeRecord ms)
 unfolding walk
 place-next m ms n at h =
     let far : at + 4 + length (bytes 4 m) ≡ at + 8 = omega (arith, length-bytes 4 m) in
@@ -59,7 +60,8 @@ place-next m ms n at h =
     ∙ ap (λ (x : ℕ). walk (onlyPlaces (n + 1)) x (map placeRecord ms)) far
 
 -- up to 256 of them are counted; the next is one too many
-pub places-fit : (ms : List ℕ) (n at : ℕ) → n + length ms ≤ 256 → walk (onlyPlaces n) at (map placeRecord ms) ≡ At (onlyPlaces (n + length ms)) (at + 8 * length ms)
+pub places-fit : (ms : List ℕ) (n at : ℕ) → n + length ms ≤ 256
+    → walk (onlyPlaces n) at (map placeRecord ms) ≡ At (onlyPlaces (n + length ms)) (at + 8 * length ms)
 unfolding walk
 places-fit [] n at h =
     let a : n ≡ n + 0 = omega arith in
@@ -70,17 +72,20 @@ places-fit (m ∷ ms) n at h =
     let b : at + 8 + 8 * length ms ≡ at + 8 * length (m ∷ ms) = omega arith in
     place-next m ms n at (omega arith) ∙ places-fit ms (n + 1) (at + 8) (omega arith) ∙ ap₂ (λ (x y : ℕ). At (onlyPlaces x) y) a b
 
-pub places-over : (ms : List ℕ) (n at : ℕ) → n ≤ 256 → 256 < n + length ms → walk (onlyPlaces n) at (map placeRecord ms) ≡ Stopped (atOffset 5 (at + 8 * (256 - n)))
+pub places-over : (ms : List ℕ) (n at : ℕ) → n ≤ 256 → 256 < n + length ms
+    → walk (onlyPlaces n) at (map placeRecord ms) ≡ Stopped (atOffset 5 (at + 8 * (256 - n)))
 unfolding walk
 places-over [] n at h k = absurd (omega arith)
 places-over (m ∷ ms) n at h k = go (leb 256 n) refl (places-over ms (n + 1) (at + 8))
   where
-    go : (b : Bool) → leb 256 n ≡ b → (n + 1 ≤ 256 → 256 < n + 1 + length ms → walk (onlyPlaces (n + 1)) (at + 8) (map placeRecord ms) ≡ Stopped (atOffset 5 (at + 8 + 8 * (256 - (n + 1)))))
+    go : (b : Bool) → leb 256 n ≡ b
+        → (n + 1 ≤ 256 → 256 < n + 1 + length ms → walk (onlyPlaces (n + 1)) (at + 8) (map placeRecord ms) ≡ Stopped (atOffset 5 (at + 8 + 8 * (256 - (n + 1)))))
         → walk (onlyPlaces n) at (map placeRecord (m ∷ ms)) ≡ Stopped (atOffset 5 (at + 8 * (256 - n)))
     go true e f =
         let l = leb-true 256 n e in
         let a : at ≡ at + 8 * (256 - n) = omega arith in
-        ap (λ (j : Judged). onward j at (λ g. walk g (at + 4 + length (bytes 4 m)) (map placeRecord ms))) (full-place n m l) ∙ ap (λ (x : ℕ). Stopped (atOffset 5 x)) a
+        ap (λ (j : Judged). onward j at (λ g. walk g (at + 4 + length (bytes 4 m)) (map placeRecord ms))) (full-place n m l)
+        ∙ ap (λ (x : ℕ). Stopped (atOffset 5 x)) a
     go false e f =
         let l : n < 256 = leb-false 256 n e in
         let a : at + 8 + 8 * (256 - (n + 1)) ≡ at + 8 * (256 - n) = omega arith in
@@ -141,7 +146,8 @@ module _ (n : Numbers) where
       length-three ∙ ap₂ _+_ a (ap₂ _+_ b c)
 
   -- reading it judges places, lanes and carts in turn
-  pub read-numbers : length (floorBytes n) ≤ 65536 → readFloor (floorBytes n) ≡ atEnd (walkOn (walkOn (walk emptyFloor 0 (placeRecords n)) (laneRecords n)) (cartRecords n)) false
+  pub read-numbers : length (floorBytes n) ≤ 65536
+      → readFloor (floorBytes n) ≡ atEnd (walkOn (walkOn (walk emptyFloor 0 (placeRecords n)) (laneRecords n)) (cartRecords n)) false
   unfolding readFloor
   read-numbers h =
       ap (λ (b : Bool). cond b (Refused (atOffset 1 0)) (readOn emptyFloor 0 (recordsIn (floorBytes n)))) (le-ltb 65536 (length (floorBytes n)) h)
@@ -151,7 +157,8 @@ module _ (n : Numbers) where
   -- within a file's length throughout
   module _ (h : length (floorBytes n) ≤ 65536) where
     up-to-places : UpTo 65536 (walk emptyFloor 0 (placeRecords n)) (length (layout (laneRecords n)) + (length (layout (cartRecords n)) + 0))
-    up-to-places = walk-up-to 65536 emptyFloor 0 (placeRecords n) (length (layout (laneRecords n)) + (length (layout (cartRecords n)) + 0)) (omega (arith, length-three))
+    up-to-places =
+        walk-up-to 65536 emptyFloor 0 (placeRecords n) (length (layout (laneRecords n)) + (length (layout (cartRecords n)) + 0)) (omega (arith, length-three))
 
     pub up-to-lanes : UpTo 65536 (walk emptyFloor 0 (placeRecords n)) (length (layout (laneRecords n)))
     up-to-lanes = walk-up-to 65536 emptyFloor 0 (placeRecords n) (length (layout (laneRecords n))) (omega (arith, length-three))

@@ -29,7 +29,8 @@ module _ (f : Floor) (h : Head) (rows : List ℕ) (n at i : ℕ) (w : Judging f 
   pub all-judged : length rows ≤ i → f .carts ≤ n → Good ≡ judgedNumbers (readRows f h [] 10 (rowRecords h rows) false)
   all-judged l c =
       let m : f .carts ≤ length (w .done) = omega (arith, w .count) in
-      let e : rowsOn f h rows (w .done) at i ≡ accepted (record { head = h; rows = w .done }) = rows-out f h rows (w .done) at i l ∙ simp (le-ltb _ _ m) in
+      let e : rowsOn f h rows (w .done) at i ≡ accepted (record { head = h; rows = w .done }) = rows-out f h rows (w .done) at i l
+      ∙ simp (le-ltb _ _ m) in
       ap judgedNumbers (sym e ∙ w .same)
 
   pub too-few : length rows ≤ i → n < f .carts → Refused (atOffset 7 at) ≡ judgedNumbers (readRows f h [] 10 (rowRecords h rows) false)

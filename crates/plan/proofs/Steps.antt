@@ -29,7 +29,8 @@ too-long f s h = simp (lt-ltb _ _ h)
 
 in-records : (f : Floor) (s : List ℕ) → length s ≤ 65536 → readPlan f s ≡ readRecords f (recordsIn s .records) (recordsIn s .cut)
 unfolding readPlan
-in-records f s h = ap (λ (b : Bool). cond b (rejected (atOffset 1 0)) (readRecords f (recordsIn s .records) (recordsIn s .cut))) (le-ltb 65536 (length s) h)
+in-records f s h =
+    ap (λ (b : Bool). cond b (rejected (atOffset 1 0)) (readRecords f (recordsIn s .records) (recordsIn s .cut))) (le-ltb 65536 (length s) h)
 
 -- the head
 pub head-end : (s : List ℕ) → foundAt s 0 ≡ End → Refused (atOffset 7 0) ≡ headIn (recordsIn s)

@@ -13,7 +13,8 @@ use Rattle.plan.specs.Numbers.{headBytes, planBytes}
 use Rattle.plan.specs.RoundTrip.{length-head, length-plan}
 use Rattle.plan.specs.declared.Head.{Head}
 
-pub plan-stored : (h : Head) (rows out body x y : List ℕ) → length (planBytes h rows) ≤ length out → body ≡ headBytes h → x ≡ stored out 0 (encoded (ofKind 4 body)) → y ≡ stored x 10 (laid 5 (h .steps) rows)
+pub plan-stored : (h : Head) (rows out body x y : List ℕ) → length (planBytes h rows) ≤ length out → body ≡ headBytes h
+    → x ≡ stored out 0 (encoded (ofKind 4 body)) → y ≡ stored x 10 (laid 5 (h .steps) rows)
     → y ≡ planBytes h rows ++ drop (length (planBytes h rows)) out
 unfolding layout
 plan-stored h rows out body x y room b p q =

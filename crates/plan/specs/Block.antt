@@ -50,7 +50,8 @@ length-rows (row ∷ rows) s =
 rows-append : (rows : List (List ℕ)) (row : List ℕ) → flatten (map padded (rows ++ (row ∷ []))) ≡ flatten (map padded rows) ++ padded row
 unfolding flatten
 rows-append [] row = append-nil (padded row)
-rows-append (r ∷ rows) row = ap (λ (x : List ℕ). padded r ++ x) (rows-append rows row) ∙ sym (append-assoc (padded r) (flatten (map padded rows)) (padded row))
+rows-append (r ∷ rows) row =
+    ap (λ (x : List ℕ). padded r ++ x) (rows-append rows row) ∙ sym (append-assoc (padded r) (flatten (map padded rows)) (padded row))
 
 -- with no rows it is zeros
 pub blank : zeros 2048 ≡ blockOf []
@@ -90,19 +91,22 @@ row-stored rows row s h l =
     ∙ sym (append-assoc front (padded row) (zeros rest)) ∙ ap (λ (x : List ℕ). x ++ zeros rest) (sym (rows-append rows row))
 
 -- "cart n's row beginning at 64 times n"
-row-in : (k : ℕ) (rows : List (List ℕ)) (t : List ℕ) (n : ℕ) → Short rows → AllOf k rows → n < length rows → take k (drop (64 * n) (flatten (map padded rows) ++ t)) ≡ getD rows n []
+row-in : (k : ℕ) (rows : List (List ℕ)) (t : List ℕ) (n : ℕ) → Short rows → AllOf k rows → n < length rows
+    → take k (drop (64 * n) (flatten (map padded rows) ++ t)) ≡ getD rows n []
 unfolding flatten
 row-in k [] t n s a l = absurd (omega arith)
 row-in k (row ∷ rows) t zero s a l =
     let front = flatten (map padded rows) in
-    ap (take k) (append-assoc (padded row) front t ∙ append-assoc row (zeros (64 - length row)) (front ++ t)) ∙ take-at row (zeros (64 - length row) ++ (front ++ t)) k (a .0)
+    ap (take k) (append-assoc (padded row) front t ∙ append-assoc row (zeros (64 - length row)) (front ++ t))
+    ∙ take-at row (zeros (64 - length row) ++ (front ++ t)) k (a .0)
 row-in k (row ∷ rows) t (suc n) s a l =
     let front = flatten (map padded rows) in
     let m : 64 * suc n ≡ length (padded row) + 64 * n = omega (arith, length-padded row (s .0)) in
     ap (take k) (ap₂ drop m (append-assoc (padded row) front t) ∙ drop-append-add (padded row) (front ++ t) (64 * n))
     ∙ row-in k rows t n (s .1) (a .1) (omega arith)
 
-pub row-at : (k : ℕ) (rows : List (List ℕ)) (n : ℕ) → Short rows → AllOf k rows → n < length rows → take k (drop (64 * n) (blockOf rows)) ≡ getD rows n []
+pub row-at : (k : ℕ) (rows : List (List ℕ)) (n : ℕ) → Short rows → AllOf k rows → n < length rows
+    → take k (drop (64 * n) (blockOf rows)) ≡ getD rows n []
 unfolding blockOf
 row-at k rows n s a l = row-in k rows (zeros (64 * (32 - length rows))) n s a l
 

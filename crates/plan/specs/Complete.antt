@@ -33,13 +33,15 @@ in-range h r =
     simp (ne-eqb _ _ z, le-ltb 64 (h .steps) (r .steps), lt-leb (h .steps) (h .stem) (r .stem), le-ltb 16 (h .drift) (r .drift))
 
 -- a row of the head's steps on the floor, while a cart is left
-one-row : (f : Floor) (h : Head) (n : ℕ) (row : List ℕ) → length row ≡ h .steps → judgedPlaces (f .places) 0 row ≡ Fits → n < f .carts → rowFault f h n 5 row ≡ 0
+one-row : (f : Floor) (h : Head) (n : ℕ) (row : List ℕ) → length row ≡ h .steps → judgedPlaces (f .places) 0 row ≡ Fits → n < f .carts
+    → rowFault f h n 5 row ≡ 0
 unfolding judgedRow
 one-row f h n row s p l =
     ap (λ (x : RowAnswer). rowFaultBy x f n 5) (ap (λ (b : Bool). cond b (judgedPlaces (f .places) 0 row) WrongLength) (eq-eqb _ _ s) ∙ p)
     ∙ simp (lt-leb (f .carts) n l)
 
-rows-fit : (f : Floor) (h : Head) (xs done : List (List ℕ)) (at : ℕ) → AllOf (h .steps) xs → All (λ (row : List ℕ). judgedPlaces (f .places) 0 row ≡ Fits) xs
+rows-fit : (f : Floor) (h : Head) (xs done : List (List ℕ)) (at : ℕ) → AllOf (h .steps) xs
+    → All (λ (row : List ℕ). judgedPlaces (f .places) 0 row ≡ Fits) xs
     → length done + length xs ≡ f .carts → readRows f h done at (map (ofKind 5) xs) false ≡ accepted (record { head = h; rows = done ++ xs })
 unfolding readRows
 rows-fit f h [] done at s p l =

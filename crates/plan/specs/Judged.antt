@@ -82,7 +82,8 @@ module _ (f : Floor) (h : Head) (rows : List ℕ) where
 
   pub rows-out : (done : List (List ℕ)) (at i : ℕ) → length rows ≤ i → rowsOn done at i ≡ rowsEnd f h done at false
   unfolding readRows
-  rows-out done at i l = ap (λ (x : List (List ℕ)). readRows f h done at (map (ofKind 5) x) false) (ap (parts (h .steps)) (drop-of-length-le rows l) ∙ parts-none (h .steps))
+  rows-out done at i l =
+      ap (λ (x : List (List ℕ)). readRows f h done at (map (ofKind 5) x) false) (ap (parts (h .steps)) (drop-of-length-le rows l) ∙ parts-none (h .steps))
 
   module _ (done : List (List ℕ)) (at i end : ℕ) (p : PartAt (h .steps) rows i end) where
     abbrev part : List ℕ

@@ -65,7 +65,8 @@ never-length places i (p ∷ row) e = go (leb places p) (never-length places (su
     go false f e = f e
 
 -- an answer that is neither 4 nor 9
-fits : (body : List ℕ) (steps places : ℕ) → eqb (rowNumber (judgedRow body steps places)) 4 ≡ false → eqb (rowNumber (judgedRow body steps places)) 9 ≡ false
+fits : (body : List ℕ) (steps places : ℕ) → eqb (rowNumber (judgedRow body steps places)) 4 ≡ false
+    → eqb (rowNumber (judgedRow body steps places)) 9 ≡ false
     → (length body ≡ steps) × (judgedPlaces places 0 body ≡ Fits)
 unfolding judgedRow
 fits body steps places p q = go (eqb (length body) steps) refl (judgedPlaces places 0 body) refl p q

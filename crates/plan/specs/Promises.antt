@@ -40,4 +40,5 @@ pub record PlanWritten (floor : List ℕ) (h : Head) (rows before : List ℕ) (v
       → Gives (written AboutPlan (planBytes h rows) before) v after
   -- "What is written reads back as the same numbers."
   pub reads-back : (k : ℕ) → v ≡ Written k
-      → (f : Floor) × (n : Numbers) × (readFloor floor ≡ FloorAccepted f) × (readPlan f (take k after) ≡ acceptedNumbers n) × (n .head ≡ h) × (flatten (n .rows) ≡ rows)
+      → (f : Floor) × (n : Numbers) × (readFloor floor ≡ FloorAccepted f) × (readPlan f (take k after) ≡ acceptedNumbers n)
+      × (n .head ≡ h) × (flatten (n .rows) ≡ rows)

@@ -51,12 +51,14 @@ pub record Rows (f : Floor) (h : Head) (done : List (List ℕ)) (rs : List Recor
   pub uncut : cut ≡ false
   pub carts : length done ≤ f .carts → length (done ++ bodies) ≡ f .carts
 
-pub rows-read : (f : Floor) (h : Head) (rs : List Record) (done : List (List ℕ)) (at : ℕ) (cut : Bool) (n : Numbers) → readRows f h done at rs cut ≡ accepted n → Rows f h done rs cut n
+pub rows-read : (f : Floor) (h : Head) (rs : List Record) (done : List (List ℕ)) (at : ℕ) (cut : Bool) (n : Numbers)
+    → readRows f h done at rs cut ≡ accepted n → Rows f h done rs cut n
 unfolding readRows
 rows-read f h [] done at true n e = let z : _≡_ {A = ℕ} 0 1 = cc in absurd (omega arith)
 rows-read f h [] done at false n e = go (ltb (length done) (f .carts)) refl e
   where
-    go : (b : Bool) → ltb (length done) (f .carts) ≡ b → cond b (rejected (atOffset 7 at)) (accepted (record { head = h; rows = done })) ≡ accepted n → Rows f h done [] false n
+    go : (b : Bool) → ltb (length done) (f .carts) ≡ b
+        → cond b (rejected (atOffset 7 at)) (accepted (record { head = h; rows = done })) ≡ accepted n → Rows f h done [] false n
     go true p e = let z : _≡_ {A = ℕ} 0 1 = cc in absurd (omega arith)
     go false p e =
         let q : record { head = h; rows = done } ≡ n = cc in
@@ -70,7 +72,8 @@ rows-read f h [] done at false n e = go (ltb (length done) (f .carts)) refl e
           uncut = refl;
           carts = λ m. let l : f .carts ≤ length done = ltb-false _ _ p in ap length a ∙ omega arith;
         }
-rows-read f h (r ∷ rs) done at cut n e = go (rowFault f h (length done) (r .kind) (r .body)) refl (rows-read f h rs (done ++ (r .body ∷ [])) (at + 4 + length (r .body)) cut n) e
+rows-read f h (r ∷ rs) done at cut n e =
+    go (rowFault f h (length done) (r .kind) (r .body)) refl (rows-read f h rs (done ++ (r .body ∷ [])) (at + 4 + length (r .body)) cut n) e
   where
     go : (m : ℕ) → rowFault f h (length done) (r .kind) (r .body) ≡ m
         → (readRows f h (done ++ (r .body ∷ [])) (at + 4 + length (r .body)) rs cut ≡ accepted n → Rows f h (done ++ (r .body ∷ [])) rs cut n)
@@ -103,7 +106,8 @@ pub record Whole (f : Floor) (s : List ℕ) (n : Numbers) : Type 0 where
   pub uncut : recordsIn s .cut ≡ false
   pub carts : length (n .rows) ≡ f .carts
 
-from-records : (f : Floor) (s : List ℕ) (n : Numbers) (rs : List Record) (cut : Bool) → length s ≤ 65536 → recordsIn s .records ≡ rs → recordsIn s .cut ≡ cut
+from-records : (f : Floor) (s : List ℕ) (n : Numbers) (rs : List Record) (cut : Bool) → length s ≤ 65536 → recordsIn s .records ≡ rs
+    → recordsIn s .cut ≡ cut
     → readRecords f rs cut ≡ accepted n → Whole f s n
 from-records f s n [] true l p q e = let z : _≡_ {A = ℕ} 0 1 = cc in absurd (omega arith)
 from-records f s n [] false l p q e = let z : _≡_ {A = ℕ} 0 1 = cc in absurd (omega arith)
@@ -133,7 +137,8 @@ pub whole : (f : Floor) (s : List ℕ) (n : Numbers) → readPlan f s ≡ accept
 unfolding readPlan
 whole f s n e = go (ltb 65536 (length s)) refl e
   where
-    go : (b : Bool) → ltb 65536 (length s) ≡ b → cond b (rejected (atOffset 1 0)) (readRecords f (recordsIn s .records) (recordsIn s .cut)) ≡ accepted n → Whole f s n
+    go : (b : Bool) → ltb 65536 (length s) ≡ b
+        → cond b (rejected (atOffset 1 0)) (readRecords f (recordsIn s .records) (recordsIn s .cut)) ≡ accepted n → Whole f s n
     go true p e = let z : _≡_ {A = ℕ} 0 1 = cc in absurd (omega arith)
     go false p e = from-records f s n (recordsIn s .records) (recordsIn s .cut) (ltb-false _ _ p) refl refl e
 
@@ -185,7 +190,8 @@ bodies-of k xs ys e = sym (only xs) ∙ ap (map (λ (r : Record). r .body)) e �
     only = elim [ [] ↦ refl | z ∷ (zs → ih) ↦ ap (λ (t : List (List ℕ)). z ∷ t) ih ]
 
 -- what is laid out and accepted holds the same numbers
-pub numbers-back : (f : Floor) (h : Head) (rows : List ℕ) (n : Numbers) → Narrow h → readPlan f (planBytes h rows) ≡ accepted n → (n .head ≡ h) × (flatten (n .rows) ≡ rows)
+pub numbers-back : (f : Floor) (h : Head) (rows : List ℕ) (n : Numbers) → Narrow h → readPlan f (planBytes h rows) ≡ accepted n
+    → (n .head ≡ h) × (flatten (n .rows) ≡ rows)
 numbers-back f h rows n w e =
     let g = whole f (planBytes h rows) n e in
     let r : ofKind 4 (headBytes h) ∷ rowRecords h rows ≡ ofKind 4 (g .body) ∷ map (ofKind 5) (n .rows) =
@@ -206,9 +212,11 @@ about-plan r k e = let z : _≡_ {A = ℕ} 0 1 = cc in omega arith
 
 module _ (floor : List ℕ) (h : Head) (rows before : List ℕ) (v : Verdict) (after : List ℕ) (w : Narrow h) (k : ℕ) (e : v ≡ Written k) where
   abbrev Back : Type 0
-  Back = (f : Floor) × (n : Numbers) × (readFloor floor ≡ FloorAccepted f) × (readPlan f (take k after) ≡ accepted n) × (n .head ≡ h) × (flatten (n .rows) ≡ rows)
+  Back =
+      (f : Floor) × (n : Numbers) × (readFloor floor ≡ FloorAccepted f) × (readPlan f (take k after) ≡ accepted n) × (n .head ≡ h) × (flatten (n .rows) ≡ rows)
 
-  by-plan : (f : Floor) → readFloor floor ≡ FloorAccepted f → (a : PlanAnswer) → readPlan f (planBytes h rows) ≡ a → Gives (byReading a (planBytes h rows) before) v after → Back
+  by-plan : (f : Floor) → readFloor floor ≡ FloorAccepted f → (a : PlanAnswer) → readPlan f (planBytes h rows) ≡ a
+      → Gives (byReading a (planBytes h rows) before) v after → Back
   by-plan f p (rejected r) q g = absurd (about-plan r k (sym (g .answer) ∙ e))
   by-plan f p (accepted n) q g =
       let t : take k after ≡ planBytes h rows = written-front AboutPlan about-plan (planBytes h rows) before v after k g e in
@@ -231,7 +239,8 @@ valid f s n e =
       head = w .range;
       carts = w .carts;
       steps = size;
-      places = λ c t l m. all-on-floor (f .places) 0 (getD (n .rows) c []) (each (λ (row : List ℕ). judgedPlaces (f .places) 0 row ≡ Fits) (n .rows) c (w .places) (omega (arith, w .carts))) t (omega (arith, size c l));
+      places =
+          λ c t l m. all-on-floor (f .places) 0 (getD (n .rows) c []) (each (λ (row : List ℕ). judgedPlaces (f .places) 0 row ≡ Fits) (n .rows) c (w .places) (omega (arith, w .carts))) t (omega (arith, size c l));
     }
 
 pub row-located : (f : Floor) (s : List ℕ) (n : Numbers) → readPlan f s ≡ accepted n → (c : ℕ) → c < f .carts
@@ -243,7 +252,8 @@ row-located f s n e c l =
 -- an accepted plan writes back as the same bytes
 module _ (floor s : List ℕ) (r : PlanRead) (b : Bytes s) (v : r .verdict ≡ Accepted) where
   on-plan : (f : Floor) → readFloor floor ≡ FloorAccepted f → (a : PlanAnswer) → readPlan f s ≡ a → r ≡ planRead f a → Accepts floor s r
-  on-plan f p (rejected x) q e = let z : AboutPlan x ≡ Accepted = sym (ap (λ (y : PlanRead). y .verdict) e) ∙ v in let y : _≡_ {A = ℕ} 0 1 = cc in absurd (omega arith)
+  on-plan f p (rejected x) q e =
+      let z : AboutPlan x ≡ Accepted = sym (ap (λ (y : PlanRead). y .verdict) e) ∙ v in let y : _≡_ {A = ℕ} 0 1 = cc in absurd (omega arith)
   on-plan f p (accepted n) q e =
       let g : f ≡ r .floor = sym (ap (λ (y : PlanRead). y .floor) e) in
       record {
@@ -253,11 +263,15 @@ module _ (floor s : List ℕ) (r : PlanRead) (b : Bytes s) (v : r .verdict ≡ A
         held = ap (λ (y : PlanRead). y .plan) e;
         valid = subst (Valid n) g (valid f s n q);
         writes-back = bytes-back f s n b q;
-        row = λ c l. ap (λ (y : PlanRead). take (n .head .steps) (drop (64 * c) (y .plan .block))) e ∙ row-located f s n q c (subst (λ (x : Floor). c < x .carts) (sym g) l);
+        row =
+            λ c l. ap (λ (y : PlanRead). take (n .head .steps) (drop (64 * c) (y .plan .block))) e
+            ∙ row-located f s n q c (subst (λ (x : Floor). c < x .carts) (sym g) l);
       }
 
   on-floor : (a : FloorAnswer) → readFloor floor ≡ a → r ≡ onFloor a s → Accepts floor s r
-  on-floor (FloorRefused x) p e = let z : AboutFloor x ≡ Accepted = sym (ap (λ (y : PlanRead). y .verdict) e) ∙ v in let y : _≡_ {A = ℕ} 0 1 = cc in absurd (omega arith)
+  on-floor (FloorRefused x) p e =
+      let z : AboutFloor x ≡ Accepted = sym (ap (λ (y : PlanRead). y .verdict) e)
+      ∙ v in let y : _≡_ {A = ℕ} 0 1 = cc in absurd (omega arith)
   on-floor (FloorAccepted f) p e = on-plan f p (readPlan f s) refl e
 
   pub accepts : r ≡ readBoth floor s → Accepts floor s r

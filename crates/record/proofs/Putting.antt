@@ -62,5 +62,6 @@ module _ (out₀ : List ℕ) (at kind size : ℕ) (bodies : List ℕ) (room : at
       → (next ≡ at + length (laid kind size bodies)) × (out ≡ stored out₀ at (laid kind size bodies))
   finish out next i w h =
       let d : w .done ≡ laid kind size bodies =
-      sym (append-nil (w .done)) ∙ ap (λ (x : List ℕ). w .done ++ x) (sym (ap (laid kind size) (drop-of-length-le bodies h) ∙ laid-none kind size)) ∙ w .rest in
+      sym (append-nil (w .done))
+      ∙ ap (λ (x : List ℕ). w .done ++ x) (sym (ap (laid kind size) (drop-of-length-le bodies h) ∙ laid-none kind size)) ∙ w .rest in
       (w .far ∙ ap (λ (x : List ℕ). at + length x) d, w .held ∙ ap (stored out₀ at) d)

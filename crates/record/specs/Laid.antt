@@ -54,7 +54,8 @@ pub part-at : (size : ℕ) (l : List ℕ) (i end : ℕ) → 0 < size → i < len
 part-at size l i end p h e =
     let n : length (drop i l) ≡ length l - i = length-drop i l in
     let m : min size (length (drop i l)) ≡ end - i = omega arith in
-    let next : drop (end - i) (drop i l) ≡ drop end l = drop-drop (end - i) i l ∙ ap (λ (k : ℕ). drop k l) (add-sub-of-le {n = end} {m = i} (omega arith)) in
+    let next : drop (end - i) (drop i l) ≡ drop end l = drop-drop (end - i) i l
+    ∙ ap (λ (k : ℕ). drop k l) (add-sub-of-le {n = end} {m = i} (omega arith)) in
     record {
       forward = omega arith;
       within = omega arith;
@@ -143,7 +144,8 @@ parts-encodable k size l h p q = parts-ind size p (λ l. AllEncodable (map (ofKi
     none : AllEncodable (map (ofKind k) (parts size []))
     none = subst (λ (x : List (List ℕ)). AllEncodable (map (ofKind k) x)) (sym (parts-none size)) tt
 
-    more : (l : List ℕ) → 0 < length l → AllEncodable (map (ofKind k) (parts size (drop (min size (length l)) l))) → AllEncodable (map (ofKind k) (parts size l))
+    more : (l : List ℕ) → 0 < length l → AllEncodable (map (ofKind k) (parts size (drop (min size (length l)) l)))
+        → AllEncodable (map (ofKind k) (parts size l))
     more l b r =
         let m = min size (length l) in
         let t : length (take m l) ≡ m = length-take-le m l (min-le-right size (length l)) in
@@ -174,7 +176,8 @@ pub flatten-parts : (size : ℕ) (l : List ℕ) → 0 < size → flatten (parts 
 unfolding flatten
 flatten-parts size l p = parts-ind size p (λ l. flatten (parts size l) ≡ l) (ap flatten (parts-none size)) more l
   where
-    more : (l : List ℕ) → 0 < length l → flatten (parts size (drop (min size (length l)) l)) ≡ drop (min size (length l)) l → flatten (parts size l) ≡ l
+    more : (l : List ℕ) → 0 < length l → flatten (parts size (drop (min size (length l)) l)) ≡ drop (min size (length l)) l
+        → flatten (parts size l) ≡ l
     more l b r =
         let m = min size (length l) in
         ap flatten (parts-step size l p b) ∙ ap (λ (x : List ℕ). take m l ++ x) r ∙ take-append-drop m l

@@ -86,7 +86,8 @@ module _ (s : List ℕ) (at : ℕ) (more : at < length s) where
             ∙ ap₂ (λ (b t : List ℕ). joined true (record { kind = kindIn l; body = b }) (recordsIn t)) (sym body) (sym next);
       }
 
-  found-apart : (w : Bool) → whole (drop at s) ≡ w → (k a e : ℕ) → foundIn at (joined w (front (drop at s)) (recordsIn (behind (drop at s)))) ≡ Whole k a e → Opened s at k a e
+  found-apart : (w : Bool) → whole (drop at s) ≡ w → (k a e : ℕ)
+      → foundIn at (joined w (front (drop at s)) (recordsIn (behind (drop at s)))) ≡ Whole k a e → Opened s at k a e
   found-apart false p k a e q = let z : _≡_ {A = ℕ} 0 1 = cc in absurd (omega arith)
   found-apart true p k a e q =
       let kind : kindIn (drop at s) ≡ k = cc in

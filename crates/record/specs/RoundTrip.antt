@@ -99,7 +99,9 @@ layout-up-to (suc n) (c ∷ l) h b e =
     go (whole (c ∷ l)) refl
     (layout-up-to n (behind (c ∷ l)) (omega (arith, length-drop (4 + sizeIn (c ∷ l)) (c ∷ l))) (bytes-drop (4 + sizeIn (c ∷ l)) (c ∷ l) b))
   where
-    go : (w : Bool) → whole (c ∷ l) ≡ w → (recordsIn (behind (c ∷ l)) .cut ≡ false → layout (recordsIn (behind (c ∷ l)) .records) ≡ behind (c ∷ l)) → layout (recordsIn (c ∷ l) .records) ≡ c ∷ l
+    go : (w : Bool) → whole (c ∷ l) ≡ w
+        → (recordsIn (behind (c ∷ l)) .cut ≡ false → layout (recordsIn (behind (c ∷ l)) .records) ≡ behind (c ∷ l))
+        → layout (recordsIn (c ∷ l) .records) ≡ c ∷ l
     go false w f =
         let o : recordsIn (c ∷ l) ≡ cutShort = records-open c l ∙ ap (λ (t : Bool). joined t (front (c ∷ l)) (recordsIn (behind (c ∷ l)))) w in
         let z : true ≡ false = sym (ap (λ (x : Split). x .cut) o) ∙ e in

@@ -43,7 +43,8 @@ module _ (out : List ℕ) (at : ℕ) (s t : List ℕ) (h : at + length s ≤ len
   unfolding tail
   back =
       let n : at + length s + length t ≡ at + length (s ++ t) = omega (arith, length-append s t) in
-      ap₂ drop (ap (λ (k : ℕ). k + length t) (sym seam)) split ∙ drop-append-add head tail (length t) ∙ drop-drop (length t) (at + length s) out ∙ ap (λ (k : ℕ). drop k out) n
+      ap₂ drop (ap (λ (k : ℕ). k + length t) (sym seam)) split ∙ drop-append-add head tail (length t)
+      ∙ drop-drop (length t) (at + length s) out ∙ ap (λ (k : ℕ). drop k out) n
 
   pub stored-more : stored (stored out at s) (at + length s) t ≡ stored out at (s ++ t)
   unfolding head

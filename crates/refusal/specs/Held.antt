@@ -13,7 +13,8 @@ use Rattle.refusal.specs.declared.Refusal.{Refusal}
 use Rattle.refusal.specs.declared.Verdict.{Verdict}
 use Rattle.refusal.specs.declared.Verdict.the-variants.{Written}
 
-pub gives-short : (about : Refusal → Verdict) (bytes before : List ℕ) (v : Verdict) → length before < length bytes → v ≡ about (refused 18 (length bytes) 0)
+pub gives-short : (about : Refusal → Verdict) (bytes before : List ℕ) (v : Verdict) → length before < length bytes
+    → v ≡ about (refused 18 (length bytes) 0)
     → Gives (written about bytes before) v before
 gives-short about bytes before v h e =
     let t = lt-ltb (length before) (length bytes) h in
