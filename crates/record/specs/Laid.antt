@@ -220,3 +220,20 @@ module _ (size : ℕ) (some : 0 < size) (P : List ℕ → Type 0) where
 -- the k-th number of the j-th part
 pub field-of : (size : ℕ) (l : List ℕ) (j k : ℕ) → k < size → getD (take size (drop (size * j) l)) k 0 ≡ getD l (size * j + k) 0
 field-of size l j k h = getD-take size (drop (size * j) l) k 0 h ∙ getD-drop (size * j) l k 0
+
+-- the j-th part
+pub part-of : (size : ℕ) → 0 < size → (k : ℕ) (l : List ℕ) → length l ≡ size * k → (j : ℕ) → j < k → getD (parts size l) j [] ≡ take size (drop (size * j) l)
+part-of size some zero l e j h = absurd (omega arith)
+part-of size some (suc k) l e j h =
+    let m = mul-suc size k in
+    let full : min size (length l) ≡ size = omega arith in
+    let open-up : parts size l ≡ take size l ∷ parts size (drop size l) =
+        parts-step size l some (omega arith) ∙ ap (λ (n : ℕ). take n l ∷ parts size (drop n l)) full in
+    ap (λ (x : List (List ℕ)). getD x j []) open-up ∙ by j h (part-of size some k (drop size l) (omega (arith, length-drop size l)))
+  where
+    by : (j : ℕ) → j < suc k → ((j : ℕ) → j < k → getD (parts size (drop size l)) j [] ≡ take size (drop (size * j) (drop size l)))
+        → getD (take size l ∷ parts size (drop size l)) j [] ≡ take size (drop (size * j) l)
+    by zero h f = ap (λ (n : ℕ). take size (drop n l)) (sym (mul-zero size))
+    by (suc j) h f =
+        let n : size + size * j ≡ size * suc j = omega (arith, mul-suc size j) in
+        f j (omega arith) ∙ ap (take size) (drop-drop (size * j) size l ∙ ap (λ (x : ℕ). drop x l) n)
