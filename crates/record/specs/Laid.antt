@@ -228,7 +228,7 @@ part-of size some (suc k) l e j h =
     let m = mul-suc size k in
     let full : min size (length l) ≡ size = omega arith in
     let open-up : parts size l ≡ take size l ∷ parts size (drop size l) =
-        parts-step size l some (omega arith) ∙ ap (λ (n : ℕ). take n l ∷ parts size (drop n l)) full in
+    parts-step size l some (omega arith) ∙ ap (λ (n : ℕ). take n l ∷ parts size (drop n l)) full in
     ap (λ (x : List (List ℕ)). getD x j []) open-up ∙ by j h (part-of size some k (drop size l) (omega (arith, length-drop size l)))
   where
     by : (j : ℕ) → j < suc k → ((j : ℕ) → j < k → getD (parts size (drop size l)) j [] ≡ take size (drop (size * j) (drop size l)))
