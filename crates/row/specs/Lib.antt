@@ -1,0 +1,12 @@
+-- definitions
+pub mod Lasso
+pub mod Moves
+pub mod Chain
+-- laws
+pub mod Round
+pub mod Unending
+pub mod Linked
+pub mod FloorBytes
+pub mod Judged
+-- worked cases
+pub mod Examples

@@ -1,0 +1,38 @@
+-- Moves: which are open, and what is refused of a row.
+use Prim.Native.Nat.{ℕ, zero, suc, _/_, _%_, _^_}
+use mathlib.Core.Bool.{Bool, false, cond, _&&_, _||_}
+use mathlib.Core.List.{List, [], _∷_}
+use lib.Dec.{eqb}
+use lib.ListN.{getD}
+use Rattle.record.specs.Parts.{parts}
+use Rattle.floor.specs.Numbers.{numbersOf}
+use Rattle.row.specs.Lasso.{nextStep}
+use Rattle.row.specs.declared.MoveAnswer.{MoveAnswer}
+use Rattle.row.specs.declared.MoveAnswer.the-variants.{Open, Start, Shut}
+
+-- "classes (a byte each; bit c opens it to class c)"
+abbrev pub bit : ℕ → ℕ → Bool
+bit c n = eqb (n / 2 ^ c % 2) 1
+
+-- the lanes of a floor's file, from, to and classes of each
+abbrev pub lanesIn : List ℕ → List (List ℕ)
+lanesIn floor = parts 3 (numbersOf floor .lanes)
+
+-- a lane (from, to, classes) opens the move from a to b to class c
+abbrev pub opens : List ℕ → ℕ → ℕ → ℕ → Bool
+opens lane c a b = eqb (getD lane 0 0) a && (eqb (getD lane 1 0) b && bit c (getD lane 2 0))
+
+-- "The same lane may stand twice; either opens it."
+unfoldable pub isOpen : List (List ℕ) → ℕ → ℕ → ℕ → Bool
+isOpen [] c a b = false
+isOpen (lane ∷ lanes) c a b = opens lane c a b || isOpen lanes c a b
+
+-- the lowest of n steps from s on that is left by a move that is not open, "the move from h − 1 to l included"
+unfoldable pub lowestShut : List (List ℕ) → ℕ → List ℕ → ℕ → ℕ → ℕ → ℕ → MoveAnswer
+lowestShut lanes c row h l zero s = Open
+lowestShut lanes c row h l (suc n) s =
+    cond (isOpen lanes c (getD row s 0) (getD row (nextStep h l s) 0)) (lowestShut lanes c row h l n (suc s)) (Shut s)
+
+-- "10 first place is not the start, then 11 no open lane"
+unfoldable pub judgedMoves : List (List ℕ) → ℕ → ℕ → List ℕ → ℕ → ℕ → MoveAnswer
+judgedMoves lanes c start row h l = cond (eqb (getD row 0 0) start) (lowestShut lanes c row h l h 0) Start

@@ -1,0 +1,16 @@
+// What one cart's row says, step after step round the lap.
+mod lanes;
+mod moves;
+
+// The moves of a row judged: all open, or it begins elsewhere than at the start, or the lowest step left by a move that is not open.
+pub enum MoveAnswer {
+    Open,
+    Start,
+    Shut(usize),
+}
+
+// Lanes linked by the place that they leave: a link is 0, or one more than a lane's number.
+pub struct Links {
+    pub first: [u16; 256],
+    pub next: [u16; 1024],
+}

@@ -1,0 +1,49 @@
+// The moves of one row, step after step.
+use crate::MoveAnswer;
+use crate::lanes;
+use floor::Floor;
+ghost use mathlib.Core.Path.{_≡_};
+ghost use Prim.Native.Nat.{_≤_, _<_};
+ghost use lib.ListN.{length};
+ghost use Rattle.floor.specs.Promises.{Accepts};
+ghost use Rattle.row.specs.Lasso.{nextStep};
+ghost use Rattle.row.specs.Moves.{judgedMoves, lanesIn};
+ghost use Rattle.row.specs.Chain.{Chained};
+
+fn next_step(steps: usize, stem: usize, s: usize) -> usize
+    requires { ⌜ s < steps ⌝ }
+    ensures { λ r. ⌜ r ≡ nextStep steps stem s ⌝ }
+{
+    if s + 1 < steps { s + 1 } else { stem }
+}
+
+// Judges the moves of a row, the one from its last step to the lap's first included.
+pub(crate) fn judge_moves<'a>(
+    s: &[u8],
+    f: Floor,
+    first: &'a [u16; 256],
+    next: &'a [u16; 1024],
+    class: u8,
+    start: u8,
+    row: &'a [u8],
+    stem: usize,
+) -> MoveAnswer
+    requires { ⌜ Accepts (now s) f ⌝ }
+    requires { ⌜ Chained (lanesIn (now s)) (now first) (now next) 0 ⌝ }
+    requires { ⌜ class < 8 ⌝ }
+    requires { ⌜ stem < length (now row) ⌝ }
+    ensures { λ r. ⌜ r ≡ judgedMoves (lanesIn (now (s .entry))) class start (now (row .entry)) (length (now (row .entry))) stem ⌝ }
+{
+    if row[0] != start {
+        return MoveAnswer::Start;
+    }
+    let mut i = 0;
+    while i < row.len() {
+        let to = row[next_step(row.len(), stem, i)];
+        if !lanes::is_open(s, f, first, next, class, row[i], to) {
+            return MoveAnswer::Shut(i);
+        }
+        i += 1;
+    }
+    MoveAnswer::Open
+}
