@@ -12,14 +12,18 @@ returns c = simp (ne-eqb _ _ (c .if1 .taken))
 
 returns-2 : tie.Need-returns-2
 unfolding judged
-returns-2 c = simp (eq-eqb _ _ (c .before .before .if1 .left), le-leb _ _ (c .if2 .taken))
+returns-2 c =
+    let a = c .before .before .before .before .args in
+    simp (eq-eqb _ _ (c .before .before .if1 .left), le-leb 32 (a .f .carts) (omega (arith, c .if2 .taken)))
 
 shared-slice-read-if3 : tie.Need-shared-slice-read-if3
 shared-slice-read-if3 c = search needs
 
 returns-3 : tie.Need-returns-3
 unfolding judged
-returns-3 c = simp (eq-eqb _ _ (c .before .before .before .before .if1 .left), lt-leb _ _ (c .before .before .if2 .left), lt-ltb _ _ (c .if3 .taken))
+returns-3 c =
+    let a = c .before .before .before .before .before .before .args in
+    simp (eq-eqb _ _ (c .before .before .before .before .if1 .left), lt-leb 32 (a .f .carts) (omega (arith, c .before .before .if2 .left)), lt-ltb 7 (getD (a .body .now) 0 0) (omega (arith, c .if3 .taken)))
 
 shared-slice-read-wide : tie.Need-shared-slice-read-wide
 shared-slice-read-wide c = search needs
@@ -31,7 +35,7 @@ returns-4 : tie.Need-returns-4
 unfolding judged
 returns-4 c =
     let a = c .before .before .before .before .before .before .before .before .before .before .args in
-    simp (eq-eqb _ _ (c .before .before .before .before .before .before .before .before .if1 .left), lt-leb _ _ (c .before .before .before .before .before .before .if2 .left), le-ltb _ _ (c .before .before .before .before .if3 .left), le-leb (a .f .places) (getD (a .body .now) 1 0) (omega arith))
+    simp (eq-eqb _ _ (c .before .before .before .before .before .before .before .before .if1 .left), lt-leb 32 (a .f .carts) (omega (arith, c .before .before .before .before .before .before .if2 .left)), le-ltb 7 (getD (a .body .now) 0 0) (omega (arith, c .before .before .before .before .if3 .left)), le-leb (a .f .places) (getD (a .body .now) 1 0) (omega arith))
 
 add-t3 : tie.Need-add-t3
 add-t3 c = search needs
@@ -40,7 +44,7 @@ returns-5 : tie.Need-returns-5
 unfolding judged
 returns-5 c =
     let a = c .before .before .before .before .before .before .before .before .before .before .before .args in
-    simp (eq-eqb _ _ (c .before .before .before .before .before .before .before .before .before .if1 .left), lt-leb _ _ (c .before .before .before .before .before .before .before .if2 .left), le-ltb _ _ (c .before .before .before .before .before .if3 .left), lt-leb (a .f .places) (getD (a .body .now) 1 0) (omega arith))
+    simp (eq-eqb _ _ (c .before .before .before .before .before .before .before .before .before .if1 .left), lt-leb 32 (a .f .carts) (omega (arith, c .before .before .before .before .before .before .before .if2 .left)), le-ltb 7 (getD (a .body .now) 0 0) (omega (arith, c .before .before .before .before .before .if3 .left)), lt-leb (a .f .places) (getD (a .body .now) 1 0) (omega arith))
 
 pub judge-cart-spec : {M : Type 1} → statement M
 judge-cart-spec =

@@ -43,7 +43,7 @@ at-offset-requires c κs = search needs
 returns : tie.Need-returns Inv-loop μ-loop
 returns c =
     promise _ _ (λ i. omega (arith, c .before .before .shared-slice-known .given i))
-    (ap Refused (c .at-offset .ensures) ∙ too-long _ (c .before .if1 .taken))
+    (ap Refused (c .at-offset .ensures) ∙ too-long (c .before .before .before .args .s .now) (omega (arith, c .before .if1 .taken)))
 
 loop-holds : tie.Need-loop-holds Inv-loop μ-loop
 loop-holds c = (omega arith, omega arith, begins _ (c .if1 .left))
