@@ -2,6 +2,7 @@
 pub mod Plan
 pub mod Numbers
 pub mod Valid
+pub mod After
 -- promises
 pub mod Promises
 -- laws
@@ -10,3 +11,4 @@ pub mod Passed
 pub mod RoundTrip
 pub mod Judged
 pub mod Complete
+pub mod Read

@@ -9,6 +9,7 @@ pub use reading::read;
 use refusal::Refusal;
 use refusal::Verdict;
 pub use rows::judge_row;
+pub use writing::put_numbers;
 pub use writing::write;
 
 // Document 01's h, l and d: the steps, those of the run-in (the lap begins at step `stem`), and the drift.

@@ -93,7 +93,7 @@ fn head_bytes(steps: u16, stem: u16, drift: u16) -> [u8; 6]
 }
 
 // Writes a plan's numbers that reading would accept, if there is room.
-fn put_numbers(steps: u16, stem: u16, drift: u16, rows: &[u8], out: &mut [u8]) -> Verdict
+pub fn put_numbers(steps: u16, stem: u16, drift: u16, rows: &[u8], out: &mut [u8]) -> Verdict
     requires { ⌜ (0 < steps) × (length (planBytes (headOf steps stem drift) (now rows)) ≤ 65536) ⌝ }
     ensures { λ v. ⌜ Gives (written AboutPlan (planBytes (headOf steps stem drift) (now (rows .entry))) (now (out .entry))) v (now (out .exit)) ⌝ }
 {

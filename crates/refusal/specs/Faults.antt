@@ -1,7 +1,7 @@
 -- Where no refusal is named, no test holds.
 use Prim.Native.Nat.{ℕ, suc}
 use native.Mathlib.Omega.{arith}
-use mathlib.Core.Path.{_≡_, refl, sym}
+use mathlib.Core.Path.{_≡_, refl, sym, ap}
 use mathlib.Core.Bool.{Bool, true, false, cond, not, _||_}
 
 -- of the first test, and then of those behind it
@@ -16,3 +16,7 @@ not-not false e = sym e
 pub either-false : (a b : Bool) → a || b ≡ false → (a ≡ false) × (b ≡ false)
 either-false true b e = let z : _≡_ {A = ℕ} 0 1 = cc in absurd (omega arith)
 either-false false b e = (refl, e)
+
+pub not-is : (x b : Bool) → not x ≡ b → x ≡ not b
+not-is true b e = ap not e
+not-is false b e = ap not e

@@ -1,6 +1,7 @@
 // Refusals and verdicts, and document 01's numbers of each.
 ghost use mathlib.Core.Path.{_≡_};
 ghost use Rattle.refusal.specs.Codes.{refused, atOffset, codeAbout, codeOf, bytesOf};
+ghost use Rattle.refusal.specs.Stages.{isAccepted};
 
 // A refusal's number and its two further numbers.
 pub struct Refusal {
@@ -110,4 +111,17 @@ pub fn encoded(v: Verdict) -> [u8; 16]
         s[2],
         s[3],
     ]
+}
+
+// Whether a verdict accepts.
+pub fn accepts(v: Verdict) -> bool
+    ensures { λ r. ⌜ r ≡ isAccepted v ⌝ }
+{
+    match v {
+        Verdict::Accepted => true,
+        Verdict::Written(_) => false,
+        Verdict::Floor(_) => false,
+        Verdict::Plan(_) => false,
+        Verdict::Rules(_) => false,
+    }
 }

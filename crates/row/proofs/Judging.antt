@@ -5,6 +5,7 @@ use mathlib.Core.Path.{_≡_, sym, ap, _∙_}
 use mathlib.Core.Bool.{Bool, true, false, not}
 use mathlib.Core.List.{List}
 use lib.ListN.{length, getD}
+use Rattle.refusal.specs.Faults.{not-is}
 use Rattle.row.specs.Lasso.{nextStep}
 use Rattle.row.specs.Moves.{isOpen, lowestShut, judgedMoves}
 use Rattle.row.specs.Judged.{open-on, shut-here, at-start}
@@ -14,10 +15,6 @@ use Rattle.row.specs.declared.MoveAnswer.the-variants.{Shut}
 pub record Judging (lanes : List (List ℕ)) (c start : ℕ) (row : List ℕ) (l i : ℕ) : Type 0 where
   pub within : i ≤ length row
   pub same : judgedMoves lanes c start row (length row) l ≡ lowestShut lanes c row (length row) l (length row - i) i
-
-unless : (x b : Bool) → not x ≡ b → x ≡ not b
-unless true b e = ap not e
-unless false b e = ap not e
 
 module _ (lanes : List (List ℕ)) (c start : ℕ) (row : List ℕ) (l : ℕ) where
   pub begun : getD row 0 0 ≡ start → Judging lanes c start row l 0
@@ -32,7 +29,7 @@ module _ (lanes : List (List ℕ)) (c start : ℕ) (row : List ℕ) (l : ℕ) wh
     move b z = ap (λ (s : ℕ). isOpen lanes c (getD row i 0) (getD row s 0)) (sym at) ∙ sym e ∙ z
 
     pub shut : not t ≡ true → Shut i ≡ judgedMoves lanes c start row (length row) l
-    shut z = sym (w .same ∙ shut-here lanes c row (length row) l i m (move false (unless t true z)))
+    shut z = sym (w .same ∙ shut-here lanes c row (length row) l i m (move false (not-is t true z)))
 
     pub onward : not t ≡ false → Judging lanes c start row l (suc i)
-    onward z = record { within = m; same = w .same ∙ open-on lanes c row (length row) l i m (move true (unless t false z)) }
+    onward z = record { within = m; same = w .same ∙ open-on lanes c row (length row) l i m (move true (not-is t false z)) }

@@ -18,6 +18,10 @@ bit c n = eqb (n / 2 ^ c % 2) 1
 abbrev pub lanesIn : List ℕ → List (List ℕ)
 lanesIn floor = parts 3 (numbersOf floor .lanes)
 
+-- its carts, "class 0 to 7, start place" of each
+abbrev pub cartsIn : List ℕ → List (List ℕ)
+cartsIn floor = parts 2 (numbersOf floor .carts)
+
 -- a lane (from, to, classes) opens the move from a to b to class c
 abbrev pub opens : List ℕ → ℕ → ℕ → ℕ → Bool
 opens lane c a b = eqb (getD lane 0 0) a && (eqb (getD lane 1 0) b && bit c (getD lane 2 0))

@@ -1,15 +1,15 @@
--- Moves that are accepted are open at every counter, without end; a refused step is the lowest.
+-- Moves are accepted exactly if they are open at every counter, without end; a refused step is the lowest.
 use Prim.Native.Nat.{ℕ, zero, suc, _+_, _≤_, _<_}
 use native.Mathlib.Omega.{arith}
-use mathlib.Core.Path.{_≡_, refl, sym, ap, subst, _∙_}
+use mathlib.Core.Path.{_≡_, refl, sym, ap, ap₂, subst, _∙_}
 use mathlib.Core.Bool.{Bool, true, false, cond}
 use mathlib.Core.List.{List}
 use lib.Dec.{eqb}
 use lib.ListN.{getD}
-use borrow.Author.Tests.{eqb-true, eqb-false}
+use borrow.Author.Tests.{eq-eqb, eqb-true, eqb-false}
 use Rattle.row.specs.Lasso.{nextStep, stepOf}
 use Rattle.row.specs.Moves.{isOpen, lowestShut, judgedMoves}
-use Rattle.row.specs.Round.{step-below, step-next}
+use Rattle.row.specs.Round.{step-low, step-below, step-next}
 use Rattle.row.specs.declared.MoveAnswer.the-variants.{Open, Start, Shut}
 
 module _ (lanes : List (List ℕ)) (c : ℕ) (row : List ℕ) (h l : ℕ) where
@@ -79,3 +79,28 @@ module _ (lanes : List (List ℕ)) (c : ℕ) (row : List ℕ) (h l : ℕ) where
             let o : OpenAt (stepOf h l v) = all-open h 0 e (stepOf h l v) (omega arith) (omega (arith, step-below h l some v)) in
             ap (λ (x : ℕ). isOpen lanes c (getD row (stepOf h l v) 0) (getD row x 0)) (step-next h l some v) ∙ o;
       }
+
+  -- a refused step is the lowest of all
+  pub refused-step : (start k : ℕ) → judgedMoves lanes c start row h l ≡ Shut k → Lowest 0 k × (k < h)
+  unfolding judgedMoves
+  refused-step start k e = go (eqb (getD row 0 0) start) e
+    where
+      go : (b : Bool) → cond b (lowestShut lanes c row h l h 0) Start ≡ Shut k → Lowest 0 k × (k < h)
+      go false e = let z : _≡_ {A = ℕ} 0 1 = cc in absurd (omega arith)
+      go true e = let w = lowest h 0 k e in (w .0, omega (arith, w .1))
+
+  none-shut : (n s : ℕ) → ((k : ℕ) → k < s + n → OpenAt k) → lowestShut lanes c row h l n s ≡ Open
+  unfolding lowestShut
+  none-shut zero s f = refl
+  none-shut (suc n) s f =
+      ap (λ (b : Bool). cond b (lowestShut lanes c row h l n (suc s)) (Shut s)) (f s (omega arith)) ∙ none-shut n (suc s) (λ k p. f k (omega arith))
+
+  -- and only such moves are accepted
+  pub accepts-all : (start : ℕ) → l < h → Unending start → judgedMoves lanes c start row h l ≡ Open
+  unfolding judgedMoves
+  accepts-all start some w =
+      ap (λ (b : Bool). cond b (lowestShut lanes c row h l h 0) Start) (eq-eqb _ _ (w .begins))
+      ∙ none-shut h 0 (λ k p.
+      let here : stepOf h l k ≡ k = step-low h l k (omega arith) in
+      let then : stepOf h l (suc k) ≡ nextStep h l k = step-next h l some k ∙ ap (nextStep h l) here in
+      ap₂ (λ (x y : ℕ). isOpen lanes c (getD row x 0) (getD row y 0)) (sym here) (sym then) ∙ w .open-at k)

@@ -22,7 +22,7 @@ fn wide16(n: u16) -> usize
 }
 
 // Links the lanes of an accepted floor, the last lane first.
-pub(crate) fn linked(s: &[u8], f: Floor) -> Links
+pub fn linked(s: &[u8], f: Floor) -> Links
     requires { ⌜ Accepts (now s) f ⌝ }
     ensures { λ r. ⌜ Chained (lanesIn (now (s .entry))) (r .first) (r .next) 0 ⌝ }
 {

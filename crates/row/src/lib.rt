@@ -2,6 +2,9 @@
 mod lanes;
 mod moves;
 
+pub use lanes::linked;
+pub use moves::judge_moves;
+
 // The moves of a row judged: all open, or it begins elsewhere than at the start, or the lowest step left by a move that is not open.
 pub enum MoveAnswer {
     Open,

@@ -18,7 +18,7 @@ fn next_step(steps: usize, stem: usize, s: usize) -> usize
 }
 
 // Judges the moves of a row, the one from its last step to the lap's first included.
-pub(crate) fn judge_moves<'a>(
+pub fn judge_moves<'a>(
     s: &[u8],
     f: Floor,
     first: &'a [u16; 256],

@@ -1,0 +1,47 @@
+-- "Checking moves, carts in order".
+use Prim.Native.Nat.{ℕ, zero, suc}
+use mathlib.Core.List.{List, []}
+use lib.ListN.{getD}
+use Rattle.refusal.specs.Codes.{refused}
+use Rattle.refusal.specs.Stages.{andThen}
+use Rattle.refusal.specs.declared.Verdict.{Verdict}
+use Rattle.refusal.specs.declared.Verdict.the-variants.{Accepted, Plan as AboutPlan}
+use Rattle.floor.specs.declared.Floor.{Floor}
+use Rattle.plan.specs.Plan.{Numbers}
+use Rattle.plan.specs.After.{afterReading}
+use Rattle.row.specs.Moves.{lanesIn, cartsIn, judgedMoves}
+use Rattle.row.specs.declared.MoveAnswer.{MoveAnswer}
+use Rattle.row.specs.declared.MoveAnswer.the-variants.{Open, Start, Shut}
+
+-- "class 0 to 7, start place"
+abbrev pub classOf : List ℕ → ℕ → ℕ
+classOf floor c = getD (getD (cartsIn floor) c []) 0 0
+
+abbrev pub startOf : List ℕ → ℕ → ℕ
+startOf floor c = getD (getD (cartsIn floor) c []) 1 0
+
+-- document 01's numbers of each answer: "10 first place is not the start (cart, 0), then 11 no open lane (cart, lowest step left)"
+abbrev pub moveVerdict : ℕ → MoveAnswer → Verdict
+moveVerdict c Open = Accepted
+moveVerdict c Start = AboutPlan (refused 10 c 0)
+moveVerdict c (Shut s) = AboutPlan (refused 11 c s)
+
+-- a row as cart c's, by an h and l
+abbrev pub cartVerdict : List ℕ → ℕ → List ℕ → ℕ → ℕ → Verdict
+cartVerdict floor c row h l = moveVerdict c (judgedMoves (lanesIn floor) (classOf floor c) (startOf floor c) row h l)
+
+abbrev pub rowVerdict : List ℕ → Numbers → ℕ → Verdict
+rowVerdict floor p c = cartVerdict floor c (getD (p .rows) c []) (p .head .steps) (p .head .stem)
+
+-- n carts from cart c on
+unfoldable pub judgedCarts : List ℕ → Numbers → ℕ → ℕ → Verdict
+judgedCarts floor p zero c = Accepted
+judgedCarts floor p (suc n) c = andThen (rowVerdict floor p c) (judgedCarts floor p n (suc c))
+
+-- all carts of the floor
+abbrev pub movesVerdict : List ℕ → Floor → Numbers → Verdict
+movesVerdict floor f p = judgedCarts floor p (f .carts) 0
+
+-- the floor's and the plan's refusals, then the moves
+unfoldable pub checkedMoves : List ℕ → List ℕ → Verdict
+checkedMoves floor plan = afterReading (λ v. v) (movesVerdict floor) floor plan

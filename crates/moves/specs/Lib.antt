@@ -1,0 +1,8 @@
+-- definitions
+pub mod Carts
+-- promises
+pub mod Promises
+-- laws
+pub mod CartBytes
+pub mod Judged
+pub mod Unending

@@ -1,0 +1,93 @@
+// Checking the moves of a plan, carts in order.
+use floor::Floor;
+use plan::Head;
+use refusal::Verdict;
+use row::MoveAnswer;
+ghost use mathlib.Core.Path.{_≡_};
+ghost use Prim.Native.Nat.{ℕ, _≤_, _<_};
+ghost use lib.ListN.{length};
+ghost use Rattle.floor.specs.Promises.{Accepts};
+ghost use Rattle.plan.specs.After.{numbersIn};
+ghost use Rattle.row.specs.Moves.{lanesIn};
+ghost use Rattle.row.specs.Chain.{Chained};
+ghost use Rattle.row.specs.declared.MoveAnswer.the-variants.{Shut};
+ghost use Rattle.moves.specs.Carts.{moveVerdict, cartVerdict, judgedCarts};
+ghost use Rattle.moves.specs.Promises.{MovesChecked};
+
+// A cart's moves judged, as a verdict.
+fn verdict_of(c: usize, a: MoveAnswer) -> Verdict
+    requires { ⌜ (c < 32) × ((s : ℕ) → a ≡ Shut s → s < 64) ⌝ }
+    ensures { λ r. ⌜ r ≡ moveVerdict c a ⌝ }
+{
+    match a {
+        MoveAnswer::Open => Verdict::Accepted,
+        MoveAnswer::Start => Verdict::Plan(refusal::refuse(10, c as u32, 0)),
+        MoveAnswer::Shut(s) => Verdict::Plan(refusal::refuse(11, c as u32, s as u32)),
+    }
+}
+
+// Judges a row as a cart's.
+pub fn judge_cart<'a>(
+    s: &[u8],
+    f: Floor,
+    first: &'a [u16; 256],
+    next: &'a [u16; 1024],
+    c: usize,
+    row: &'a [u8],
+    stem: usize,
+) -> Verdict
+    requires { ⌜ Accepts (now s) f ⌝ }
+    requires { ⌜ Chained (lanesIn (now s)) (now first) (now next) 0 ⌝ }
+    requires { ⌜ (c < f .carts) × (stem < length (now row)) × (length (now row) ≤ 64) ⌝ }
+    ensures { λ r. ⌜ r ≡ cartVerdict (now (s .entry)) c (now (row .entry)) (length (now (row .entry))) stem ⌝ }
+{
+    let at = f.places * 8 + f.lanes * 7 + c * 6 + 4;
+    let answer = row::judge_moves(s, f, first, next, s[at], s[at + 1], row, stem);
+    verdict_of(c, answer)
+}
+
+// Judges the rows of all carts.
+pub fn judge_carts<'a>(
+    s: &[u8],
+    f: Floor,
+    first: &'a [u16; 256],
+    next: &'a [u16; 1024],
+    h: Head,
+    block: &'a [u8],
+) -> Verdict
+    requires { ⌜ Accepts (now s) f ⌝ }
+    requires { ⌜ Chained (lanesIn (now s)) (now first) (now next) 0 ⌝ }
+    requires { ⌜ (h .stem < h .steps) × (h .steps ≤ 64) × (length (now block) ≡ 2048) ⌝ }
+    ensures { λ r. ⌜ r ≡ judgedCarts (now (s .entry)) (numbersIn (f .carts) h (now (block .entry))) (f .carts) 0 ⌝ }
+{
+    let steps = h.steps;
+    let mut c: usize = 0;
+    while c < f.carts {
+        let from = c * 64;
+        let end = from + steps;
+        let v = judge_cart(s, f, first, next, c, &block[from..end], h.stem);
+        if !refusal::accepts(v) {
+            return v;
+        }
+        c += 1;
+    }
+    Verdict::Accepted
+}
+
+// Checks the moves of a plan.
+pub fn check(floor: &[u8], plan: &[u8]) -> Verdict
+    ensures { λ v. ⌜ MovesChecked (now (floor .entry)) (now (plan .entry)) v ⌝ }
+{
+    let r = plan::read(floor, plan);
+    let v = r.verdict;
+    if !refusal::accepts(v) {
+        return v;
+    }
+    let f = r.floor;
+    let links = row::linked(floor, f);
+    let first = links.first;
+    let next = links.next;
+    let p = r.plan;
+    let block = p.block;
+    judge_carts(floor, f, &first, &next, p.head, &block)
+}

@@ -1,0 +1,115 @@
+-- Behind reading: the refusal that it gave, or the numbers that the accepted plan holds.
+use Prim.Native.Nat.{ℕ, zero, suc, _+_, _*_, _≤_, _<_}
+use native.Mathlib.Omega.{arith}
+use mathlib.Core.Path.{_≡_, refl, sym, ap, ap₂, subst, _∙_}
+use mathlib.Core.Bool.{true, false}
+use mathlib.Core.List.{List, [], _∷_}
+use lib.ListN.{length, take, drop, getD}
+use lib.Seq.{drop-drop}
+use Rattle.refusal.specs.Stages.{isAccepted}
+use Rattle.refusal.specs.Accepting.{accepted-is}
+use Rattle.refusal.specs.declared.Refusal.{Refusal}
+use Rattle.refusal.specs.declared.Verdict.{Verdict}
+use Rattle.refusal.specs.declared.Verdict.the-variants.{Accepted, Floor as AboutFloor, Plan as AboutPlan}
+use Rattle.record.specs.All.{AllOf, all-of}
+use Rattle.floor.specs.Floor.{readFloor}
+use Rattle.floor.specs.declared.Floor.{Floor}
+use Rattle.floor.specs.declared.FloorAnswer.{FloorAnswer}
+use Rattle.floor.specs.declared.FloorAnswer.the-variants.{Read as FloorAccepted, Refused as FloorRefused}
+use Rattle.plan.specs.Plan.{Numbers, PlanAnswer, accepted, rejected, readPlan, planOf, planRead, onFloor, readBoth}
+use Rattle.plan.specs.After.{afterPlan, afterFloor, afterReading, rowsIn, numbersIn}
+use Rattle.plan.specs.Promises.{Accepts, PlanReads}
+use Rattle.plan.specs.Valid.{InRange}
+use Rattle.plan.specs.Block.{length-block, short-all}
+use Rattle.plan.specs.declared.Head.{Head}
+use Rattle.plan.specs.declared.Plan.{Plan}
+use Rattle.plan.specs.declared.PlanRead.{PlanRead}
+
+-- row c of the block
+pub row-in : (n steps : ℕ) (block : List ℕ) (c : ℕ) → c < n → getD (rowsIn n steps block) c [] ≡ take steps (drop (64 * c) block)
+unfolding rowsIn
+row-in zero steps block c l = absurd (omega arith)
+row-in (suc n) steps block zero l = refl
+row-in (suc n) steps block (suc c) l =
+    let e : 64 + 64 * c ≡ 64 * suc c = omega arith in
+    row-in n steps (drop 64 block) c (omega arith) ∙ ap (take steps) (drop-drop (64 * c) 64 block ∙ ap (λ (k : ℕ). drop k block) e)
+
+pub length-rows-in : (n steps : ℕ) (block : List ℕ) → length (rowsIn n steps block) ≡ n
+unfolding rowsIn
+length-rows-in zero steps block = refl
+length-rows-in (suc n) steps block = ap suc (length-rows-in n steps (drop 64 block))
+
+-- lists of one length with the same elements
+same-rows : (xs ys : List (List ℕ)) → length xs ≡ length ys → ((c : ℕ) → c < length ys → getD xs c [] ≡ getD ys c []) → xs ≡ ys
+same-rows [] [] e f = refl
+same-rows [] (y ∷ ys) e f = absurd (omega arith)
+same-rows (x ∷ xs) [] e f = absurd (omega arith)
+same-rows (x ∷ xs) (y ∷ ys) e f = ap₂ (λ (a : List ℕ) (l : List (List ℕ)). a ∷ l) (f 0 (omega arith)) (same-rows xs ys (omega arith) (λ c l. f (suc c) (omega arith)))
+
+-- an accepted plan holds the numbers of its file
+module _ (floor s : List ℕ) (r : PlanRead) (w : Accepts floor s r) where
+  pub held-head : r .plan .head ≡ w .numbers .head
+  held-head = ap (λ (p : Plan). p .head) (w .held)
+
+  pub held-numbers : numbersIn (r .floor .carts) (r .plan .head) (r .plan .block) ≡ w .numbers
+  held-numbers =
+      let n = w .numbers in
+      let c = r .floor .carts in
+      let rows : rowsIn c (n .head .steps) (r .plan .block) ≡ n .rows =
+      same-rows _ (n .rows) (length-rows-in c (n .head .steps) (r .plan .block) ∙ sym (w .valid .carts))
+      (λ i l. let m : i < c = omega (arith, w .valid .carts) in row-in c (n .head .steps) (r .plan .block) i m ∙ w .row i m) in
+      ap (λ (h : Head). numbersIn c h (r .plan .block)) held-head ∙ ap (λ (x : List (List ℕ)). record { head = n .head; rows = x }) rows
+
+  pub held-range : InRange (r .plan .head)
+  held-range = subst InRange (sym held-head) (w .valid .head)
+
+  pub held-length : r .floor .carts ≤ 32 → length (r .plan .block) ≡ 2048
+  held-length few =
+      let n = w .numbers in
+      let v = w .valid in
+      let sizes : AllOf (n .head .steps) (n .rows) = all-of (λ (x : List ℕ). length x ≡ n .head .steps) (n .rows) (λ i l. v .steps i (omega (arith, v .carts))) in
+      ap (λ (p : Plan). length (p .block)) (w .held) ∙ length-block (n .rows) (short-all (n .head .steps) (n .rows) (v .head .steps) sizes) (omega (arith, v .carts))
+
+pub accepts-if : (floor s : List ℕ) (r : PlanRead) → PlanReads floor s r → isAccepted (r .verdict) ≡ true → Accepts floor s r
+accepts-if floor s r w e = w .accepted (accepted-is _ e)
+
+module _ {A : Type 0} (refuse : Verdict → A) (go : Floor → Numbers → A) (floor s : List ℕ) where
+  pub read-on : (f : Floor) (n : Numbers) → readFloor floor ≡ FloorAccepted f → readPlan f s ≡ accepted n → afterReading refuse go floor s ≡ go f n
+  unfolding afterReading
+  read-on f n p q = ap (λ (a : FloorAnswer). afterFloor refuse go a s) p ∙ ap (afterPlan refuse go f) q
+
+  -- how it goes: refused, or on with what was read
+  pub data Went : Type 0 where
+    no-floor : (x : Refusal) → afterReading refuse go floor s ≡ refuse (AboutFloor x) → Went
+    no-plan : (x : Refusal) → afterReading refuse go floor s ≡ refuse (AboutPlan x) → Went
+    on : (f : Floor) (n : Numbers) → readFloor floor ≡ FloorAccepted f → readPlan f s ≡ accepted n → afterReading refuse go floor s ≡ go f n → Went
+
+  pub went : Went
+  unfolding afterReading
+  went = on-floor (readFloor floor) refl
+    where
+      on-plan : (f : Floor) → readFloor floor ≡ FloorAccepted f → (a : PlanAnswer) → readPlan f s ≡ a → Went
+      on-plan f p (accepted n) q = on f n p q (read-on f n p q)
+      on-plan f p (rejected x) q = no-plan x (ap (λ (a : FloorAnswer). afterFloor refuse go a s) p ∙ ap (afterPlan refuse go f) q)
+
+      on-floor : (a : FloorAnswer) → readFloor floor ≡ a → Went
+      on-floor (FloorAccepted f) p = on-plan f p (readPlan f s) refl
+      on-floor (FloorRefused x) p = no-floor x (ap (λ (a : FloorAnswer). afterFloor refuse go a s) p)
+
+  module _ (r : PlanRead) where
+    -- accepted: on with its numbers
+    pub after-accepted : (w : Accepts floor s r) → afterReading refuse go floor s ≡ go (r .floor) (w .numbers)
+    after-accepted w = read-on (r .floor) (w .numbers) (w .floor-read) (w .plan-read)
+
+    -- refused: as reading is
+    pub after-refused : r ≡ readBoth floor s → isAccepted (r .verdict) ≡ false → afterReading refuse go floor s ≡ refuse (r .verdict)
+    unfolding afterReading readBoth
+    after-refused e q = on-floor (readFloor floor) e
+      where
+        on-plan : (f : Floor) (a : PlanAnswer) → r ≡ planRead f a → afterPlan refuse go f a ≡ refuse (r .verdict)
+        on-plan f (accepted n) e = let z : _≡_ {A = ℕ} 0 1 = cc in absurd (omega arith)
+        on-plan f (rejected x) e = ap (λ (y : PlanRead). refuse (y .verdict)) (sym e)
+
+        on-floor : (a : FloorAnswer) → r ≡ onFloor a s → afterFloor refuse go a s ≡ refuse (r .verdict)
+        on-floor (FloorAccepted f) e = on-plan f (readPlan f s) e
+        on-floor (FloorRefused x) e = ap (λ (y : PlanRead). refuse (y .verdict)) (sym e)
