@@ -12,7 +12,7 @@ use Rattle.refusal.specs.Faults.{not-is}
 use Rattle.refusal.specs.declared.Verdict.{Verdict}
 use Rattle.plan.specs.Plan.{Numbers}
 use Rattle.plan.specs.After.{numbersIn}
-use Rattle.plan.specs.Read.{row-in}
+use Rattle.plan.specs.Read.{row-in, blockPart, part-is, part-length}
 use Rattle.plan.specs.declared.Head.{Head}
 use Rattle.moves.specs.Carts.{cartVerdict, rowVerdict, judgedCarts}
 use Rattle.moves.specs.Judged.{cart-passed, cart-refused}
@@ -28,24 +28,14 @@ begun floor carts h block =
     record { within = omega arith; same = ap (λ (n : ℕ). judgedCarts floor (numbersIn carts h block) n 0) e }
 
 module _ (carts : ℕ) (h : Head) (block : List ℕ) (c : ℕ) (few : carts ≤ 32) (l : c < carts) (fits : h .steps ≤ 64) (size : length block ≡ 2048) where
-  -- the part of the block that is handed on: it is the cart's row
-  abbrev pub part : List ℕ
-  part = take (c * 64 + h .steps - c * 64) (drop (c * 64) block)
-
-  part-is : part ≡ take (h .steps) (drop (64 * c) block)
-  part-is =
-      let a : c * 64 + h .steps - c * 64 ≡ h .steps = omega arith in
-      let b : c * 64 ≡ 64 * c = omega arith in
-      ap₂ (λ (n m : ℕ). take n (drop m block)) a b
-
-  pub part-length : length part ≡ h .steps
-  part-length = ap length part-is ∙ length-take-le (h .steps) (drop (64 * c) block) (omega (arith, length-drop (64 * c) block))
+  abbrev part : List ℕ
+  part = blockPart (h .steps) block c
 
   -- the cart judged, by its answer
   module _ (floor : List ℕ) (w : Judging floor carts h block c) (v : Verdict) (e : v ≡ cartVerdict floor c part (length part) (h .stem)) (t : Bool) (q : t ≡ isAccepted v) where
     judged : v ≡ rowVerdict floor (numbersIn carts h block) c
     judged =
-        e ∙ ap₂ (λ (x : List ℕ) (n : ℕ). cartVerdict floor c x n (h .stem)) (part-is ∙ sym (row-in carts (h .steps) block c l)) part-length
+        e ∙ ap₂ (λ (x : List ℕ) (n : ℕ). cartVerdict floor c x n (h .stem)) (part-is (h .steps) block c ∙ sym (row-in carts (h .steps) block c l)) (part-length (h .steps) block c (omega arith) fits size)
 
     by : (b : Bool) → not t ≡ b → isAccepted (rowVerdict floor (numbersIn carts h block) c) ≡ not b
     by b z = ap isAccepted (sym judged) ∙ sym q ∙ not-is t b z

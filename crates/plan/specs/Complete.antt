@@ -1,18 +1,19 @@
 -- Numbers of the table are accepted: what reading accepts is exactly what is valid.
 use Prim.Native.Nat.{ℕ, suc, _+_, _*_, _≤_, _<_}
 use native.Mathlib.Omega.{arith}
-use mathlib.Core.Path.{_≡_, refl, sym, ap, _∙_}
+use mathlib.Core.Path.{_≡_, refl, sym, ap, subst, _∙_}
 use mathlib.Core.Bool.{Bool, false, cond}
-use mathlib.Core.List.{List, [], _∷_, _++_, map, append-assoc, append-nil}
+use mathlib.Core.List.{List, [], _∷_, _++_, map, flatten, append-assoc, append-nil}
 use lib.ListN.{length, getD, length-append}
 use borrow.Author.Tests.{lt-leb, le-ltb, eq-eqb, ne-eqb}
 use Rattle.record.specs.Record.{encoded, layout}
-use Rattle.record.specs.Parts.{parts, ofKind}
+use Rattle.record.specs.Parts.{parts, ofKind, laid}
 use Rattle.record.specs.All.{All, AllOf, all-of}
+use Rattle.record.specs.Laid.{parts-flatten}
 use Rattle.record.specs.RoundTrip.{length-encoded}
 use Rattle.floor.specs.declared.Floor.{Floor}
 use Rattle.plan.specs.Plan.{Numbers, accepted, outOfRange, judgedPlaces, judgedRow, rowFaultBy, rowFault, onward, readRows, readPlan}
-use Rattle.plan.specs.Numbers.{Narrow, planBytes}
+use Rattle.plan.specs.Numbers.{Narrow, planBytes, planFile}
 use Rattle.plan.specs.Valid.{InRange, Valid}
 use Rattle.plan.specs.RoundTrip.{length-plan}
 use Rattle.plan.specs.Judged.{good-head}
@@ -77,3 +78,19 @@ complete f h rows m v =
     let short : length (planBytes h rows) ≤ 65536 = omega (arith, length-plan h rows, length-rows (h .steps) xs (r .steps) sizes, v .carts) in
     let narrow : Narrow h = record { steps = omega (arith, r .steps); stem = omega (arith, r .steps, r .stem); drift = omega (arith, r .drift) } in
     good-head f h rows narrow short (in-range h r) ∙ rows-fit f h xs [] 10 sizes places (omega (arith, v .carts))
+
+-- the file of a plan's numbers, if they are those of the table
+pub file-reads : (f : Floor) (n : Numbers) → f .carts ≤ 32 → Valid n f → readPlan f (planFile n) ≡ accepted n
+file-reads f n few v =
+    let sizes : AllOf (n .head .steps) (n .rows) = all-of (λ (x : List ℕ). length x ≡ n .head .steps) (n .rows) (λ i l. v .steps i (omega (arith, v .carts))) in
+    let e : record { head = n .head; rows = parts (n .head .steps) (flatten (n .rows)) } ≡ n =
+    ap (λ (x : List (List ℕ)). record { head = n .head; rows = x }) (parts-flatten (n .head .steps) (n .rows) (v .head .some) sizes) in
+    complete f (n .head) (flatten (n .rows)) few (subst (λ (x : Numbers). Valid x f) (sym e) v) ∙ ap accepted e
+
+-- it is never too long
+pub file-short : (n : Numbers) → InRange (n .head) → AllOf (n .head .steps) (n .rows) → length (n .rows) ≤ 32 → length (planFile n) ≤ 65536
+file-short n r sizes few =
+    let k = n .head .steps in
+    let e : length (laid 5 k (flatten (n .rows))) ≡ length (layout (map (ofKind 5) (n .rows))) =
+    ap (λ (x : List (List ℕ)). length (layout (map (ofKind 5) x))) (parts-flatten k (n .rows) (r .some) sizes) in
+    omega (arith, length-plan (n .head) (flatten (n .rows)), length-rows k (n .rows) (r .steps) sizes)

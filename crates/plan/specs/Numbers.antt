@@ -1,6 +1,6 @@
 -- Writing a plan's numbers.
 use Prim.Native.Nat.{ℕ, _<_}
-use mathlib.Core.List.{List, _∷_, _++_, map}
+use mathlib.Core.List.{List, _∷_, _++_, map, flatten}
 use Rattle.endian.specs.Little.{bytes}
 use Rattle.refusal.specs.Outcome.{Outcome, unchanged, written}
 use Rattle.refusal.specs.declared.Verdict.the-variants.{Floor as AboutFloor, Plan as AboutPlan}
@@ -9,7 +9,7 @@ use Rattle.record.specs.Parts.{parts, ofKind}
 use Rattle.floor.specs.Floor.{readFloor}
 use Rattle.floor.specs.declared.FloorAnswer.{FloorAnswer}
 use Rattle.floor.specs.declared.FloorAnswer.the-variants.{Read as FloorAccepted, Refused as FloorRefused}
-use Rattle.plan.specs.Plan.{PlanAnswer, accepted, rejected, readPlan}
+use Rattle.plan.specs.Plan.{Numbers, PlanAnswer, accepted, rejected, readPlan}
 use Rattle.floor.specs.declared.Floor.{Floor}
 use Rattle.plan.specs.declared.Head.{Head}
 use Rattle.plan.specs.declared.NumbersAnswer.{NumbersAnswer}
@@ -38,6 +38,10 @@ planRecords h rows = ofKind 4 (headBytes h) ∷ rowRecords h rows
 
 abbrev pub planBytes : Head → List ℕ → List ℕ
 planBytes h rows = layout (planRecords h rows)
+
+-- the file of a plan's numbers
+abbrev pub planFile : Numbers → List ℕ
+planFile n = planBytes (n .head) (flatten (n .rows))
 
 -- whether reading accepts, or its refusal
 abbrev pub judgedNumbers : PlanAnswer → NumbersAnswer

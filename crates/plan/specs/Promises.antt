@@ -12,7 +12,7 @@ use Rattle.floor.specs.declared.Floor.{Floor}
 use Rattle.floor.specs.declared.FloorAnswer.the-variants.{Read as FloorAccepted}
 use Rattle.plan.specs.Plan.{Numbers, accepted as acceptedNumbers, readPlan, planOf, readBoth}
 use Rattle.plan.specs.Valid.{Valid}
-use Rattle.plan.specs.Numbers.{planBytes, writePlan}
+use Rattle.plan.specs.Numbers.{planBytes, planFile, writePlan}
 use Rattle.plan.specs.declared.Head.{Head}
 use Rattle.plan.specs.declared.PlanRead.{PlanRead}
 
@@ -23,7 +23,7 @@ pub record Accepts (floor s : List ℕ) (r : PlanRead) : Type 0 where
   pub plan-read : readPlan (r .floor) s ≡ acceptedNumbers numbers
   pub held : r .plan ≡ planOf numbers
   pub valid : Valid numbers (r .floor)
-  pub writes-back : planBytes (numbers .head) (flatten (numbers .rows)) ≡ s
+  pub writes-back : planFile numbers ≡ s
   pub row : (c : ℕ) → c < r .floor .carts → take (numbers .head .steps) (drop (64 * c) (r .plan .block)) ≡ getD (numbers .rows) c []
 
 pub record PlanReads (floor s : List ℕ) (r : PlanRead) : Type 0 where

@@ -1,11 +1,11 @@
 -- Behind reading: the refusal that it gave, or the numbers that the accepted plan holds.
-use Prim.Native.Nat.{ℕ, zero, suc, _+_, _*_, _≤_, _<_}
+use Prim.Native.Nat.{ℕ, zero, suc, _+_, _-_, _*_, _≤_, _<_}
 use native.Mathlib.Omega.{arith}
 use mathlib.Core.Path.{_≡_, refl, sym, ap, ap₂, subst, _∙_}
 use mathlib.Core.Bool.{true, false}
-use mathlib.Core.List.{List, [], _∷_}
-use lib.ListN.{length, take, drop, getD}
-use lib.Seq.{drop-drop}
+use mathlib.Core.List.{List, [], _∷_, _++_}
+use lib.ListN.{length, take, drop, getD, length-drop}
+use lib.Seq.{drop-drop, length-take-le}
 use Rattle.refusal.specs.Stages.{isAccepted}
 use Rattle.refusal.specs.Accepting.{accepted-is}
 use Rattle.refusal.specs.declared.Refusal.{Refusal}
@@ -38,6 +38,30 @@ pub length-rows-in : (n steps : ℕ) (block : List ℕ) → length (rowsIn n ste
 unfolding rowsIn
 length-rows-in zero steps block = refl
 length-rows-in (suc n) steps block = ap suc (length-rows-in n steps (drop 64 block))
+
+-- one row more
+pub rows-in-more : (n steps : ℕ) (block : List ℕ) → rowsIn (suc n) steps block ≡ rowsIn n steps block ++ (take steps (drop (64 * n) block) ∷ [])
+unfolding rowsIn
+rows-in-more zero steps block = refl
+rows-in-more (suc n) steps block =
+    let e : 64 + 64 * n ≡ 64 * suc n = omega arith in
+    ap (λ (x : List (List ℕ)). take steps block ∷ x)
+    (rows-in-more n steps (drop 64 block)
+    ∙ ap (λ (x : List ℕ). rowsIn n steps (drop 64 block) ++ (take steps x ∷ [])) (drop-drop (64 * n) 64 block ∙ ap (λ (k : ℕ). drop k block) e))
+
+-- the part of the block that is handed on as cart c's row
+abbrev pub blockPart : ℕ → List ℕ → ℕ → List ℕ
+blockPart steps block c = take (c * 64 + steps - c * 64) (drop (c * 64) block)
+
+module _ (steps : ℕ) (block : List ℕ) (c : ℕ) where
+  pub part-is : blockPart steps block c ≡ take steps (drop (64 * c) block)
+  part-is =
+      let a : c * 64 + steps - c * 64 ≡ steps = omega arith in
+      let b : c * 64 ≡ 64 * c = omega arith in
+      ap₂ (λ (n m : ℕ). take n (drop m block)) a b
+
+  pub part-length : c < 32 → steps ≤ 64 → length block ≡ 2048 → length (blockPart steps block c) ≡ steps
+  part-length l fits size = ap length part-is ∙ length-take-le steps (drop (64 * c) block) (omega (arith, length-drop (64 * c) block))
 
 -- lists of one length with the same elements
 same-rows : (xs ys : List (List ℕ)) → length xs ≡ length ys → ((c : ℕ) → c < length ys → getD xs c [] ≡ getD ys c []) → xs ≡ ys

@@ -2,14 +2,14 @@
 use Prim.Native.Nat.{ℕ, suc, _+_, _-_, _%_, _≤_, _<_}
 use native.Mathlib.Nat.{suc-mod, mod-self, mod-lt, mod-eq-of-lt, add-mod-right}
 use native.Mathlib.Omega.{arith}
-use mathlib.Core.Path.{_≡_, refl, sym, ap, _∙_}
+use mathlib.Core.Path.{_≡_, refl, sym, ap, ap₂, _∙_}
 use mathlib.Core.Bool.{Bool, true, false, cond}
 use lib.Dec.{ltb}
 use borrow.Author.Tests.{lt-ltb, le-ltb, ltb-true, ltb-false}
 use Rattle.row.specs.Lasso.{nextStep, stepOf}
 
 -- below or not
-pick : (a b : ℕ) (P : Type 0) → (a < b → P) → (b ≤ a → P) → P
+pub pick : (a b : ℕ) (P : Type 0) → (a < b → P) → (b ≤ a → P) → P
 pick a b P f g = go (ltb a b) refl
   where
     go : (t : Bool) → ltb a b ≡ t → P
@@ -82,11 +82,25 @@ module _ (h l : ℕ) where
             ∙ ap (λ (x : ℕ). l + x) (suc-mod (v - l) (h - l)) ∙ around ((v - l) % (h - l)) (mod-lt (v - l) (omega arith))
             ∙ ap (nextStep h l) (sym (step-high v p))
 
+    -- in the lap's reach the step is counted from the lap's first on
+    pub step-from : (v : ℕ) → l ≤ v → stepOf h l v ≡ l + (v - l) % (h - l)
+    step-from v p =
+        pick v h (stepOf h l v ≡ l + (v - l) % (h - l))
+        (λ q. let m : (v - l) % (h - l) ≡ v - l = mod-eq-of-lt {n = v - l} {m = h - l} (omega arith) in omega (arith, step-low v q)) (step-high v)
+
     -- a lap later it is the same step
     pub step-lap : (v : ℕ) → l ≤ v → stepOf h l (v + (h - l)) ≡ stepOf h l v
     step-lap v p =
         let e : v + (h - l) - l ≡ (v - l) + (h - l) = omega arith in
-        step-high (v + (h - l)) (omega arith) ∙ ap (λ (x : ℕ). l + x % (h - l)) e ∙ ap (λ (x : ℕ). l + x) (add-mod-right (v - l) (h - l))
-        ∙ pick v h (l + (v - l) % (h - l) ≡ stepOf h l v)
-        (λ q. let m : (v - l) % (h - l) ≡ v - l = mod-eq-of-lt {n = v - l} {m = h - l} (omega arith) in omega (arith, step-low v q))
-        (λ q. sym (step-high v q))
+        step-from (v + (h - l)) (omega arith) ∙ ap (λ (x : ℕ). l + x % (h - l)) e ∙ ap (λ (x : ℕ). l + x) (add-mod-right (v - l) (h - l)) ∙ sym (step-from v p)
+
+-- with the first s steps of the run-in gone
+pub step-shift : (h l s v : ℕ) → l < h → s ≤ l → s + stepOf (h - s) (l - s) v ≡ stepOf h l (s + v)
+step-shift h l s v some p =
+    pick v (h - s) (s + stepOf (h - s) (l - s) v ≡ stepOf h l (s + v))
+    (λ q. omega (arith, step-low (h - s) (l - s) v q, step-low h l (s + v) (omega arith)))
+    (λ q.
+    let a : v - (l - s) ≡ s + v - l = omega arith in
+    let b : h - s - (l - s) ≡ h - l = omega arith in
+    let e : (v - (l - s)) % (h - s - (l - s)) ≡ (s + v - l) % (h - l) = ap₂ (λ (x y : ℕ). x % y) a b in
+    omega (arith, step-high (h - s) (l - s) v q, step-high h l (s + v) (omega arith)))

@@ -1,7 +1,7 @@
 use Rattle.plan.specs.After.{numbersIn}
 use Rattle.moves.proofs.Judging.{begun}
 use Rattle.moves.specs.Judged.{carts-passed}
-use Rattle.moves.proofs.Judging.{part-length}
+use Rattle.plan.specs.Read.{part-length}
 use Rattle.moves.proofs.Judging.{Judging, refused, onward}
 use borrow.Author.Needs.{needs}
 use mathlib.Core.Path.{sym, _∙_}
@@ -40,7 +40,7 @@ judge-cart-requires : tie.Need-judge-cart-requires Inv-loop μ-loop
 judge-cart-requires c κs =
     let p = c .before .before .before .before .before .before .pre in
     let a = c .before .before .before .before .before .before .args in
-    let e = part-length (a .f .carts) (a .h) (a .block .now) (c .before .before .before .loop .c) (p .0 .valid .few-carts) (c .before .if1 .taken) (p .1 .1 .1) (p .1 .1 .2) in
+    let e = part-length (a .h .steps) (a .block .now) (c .before .before .before .loop .c) (omega (arith, c .before .if1 .taken, p .0 .valid .few-carts)) (p .1 .1 .1) (p .1 .1 .2) in
     (p .0, (p .1 .0, (c .before .if1 .taken, omega (arith, p .1 .1 .0, e), omega (arith, p .1 .1 .1, e))))
 
 accepts-requires : tie.Need-accepts-requires Inv-loop μ-loop

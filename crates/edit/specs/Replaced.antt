@@ -1,0 +1,52 @@
+-- "Replacing a row".
+use Prim.Native.Nat.{ℕ, _+_, _*_}
+use mathlib.Core.Bool.{cond}
+use mathlib.Core.List.{List}
+use lib.Dec.{leb}
+use lib.ListN.{set}
+use Rattle.refusal.specs.Codes.{refused}
+use Rattle.refusal.specs.Stages.{isAccepted, andThen}
+use Rattle.refusal.specs.Outcome.{Outcome, unchanged}
+use Rattle.refusal.specs.declared.Verdict.{Verdict}
+use Rattle.refusal.specs.declared.Verdict.the-variants.{Accepted, Plan as AboutPlan}
+use Rattle.record.specs.Buffer.{stored}
+use Rattle.floor.specs.declared.Floor.{Floor}
+use Rattle.plan.specs.Plan.{Numbers, judgedRow}
+use Rattle.plan.specs.After.{afterReading}
+use Rattle.plan.specs.declared.RowAnswer.{RowAnswer}
+use Rattle.plan.specs.declared.RowAnswer.the-variants.{Fits, WrongLength, Absent}
+use Rattle.moves.specs.Carts.{cartVerdict, movesVerdict}
+
+-- the plan with another row for cart c
+abbrev pub replaced : ℕ → List ℕ → Numbers → Numbers
+replaced c row p = record { head = p .head; rows = set (p .rows) c row }
+
+-- "4 length not h (0, 0), 9 (cart, lowest step)"
+abbrev pub newRowVerdict : ℕ → RowAnswer → Verdict
+newRowVerdict c Fits = Accepted
+newRowVerdict c WrongLength = AboutPlan (refused 4 0 0)
+newRowVerdict c (Absent s) = AboutPlan (refused 9 c s)
+
+-- a row for cart c: 4 and 9, then 10 and 11
+abbrev pub fitVerdict : List ℕ → Floor → Numbers → ℕ → List ℕ → Verdict
+fitVerdict floor f p c row = andThen (newRowVerdict c (judgedRow row (p .head .steps) (f .places))) (cartVerdict floor c row (p .head .steps) (p .head .stem))
+
+-- "19 no such cart (cart, 0)", carts being numbered from 0
+abbrev pub cartRowVerdict : List ℕ → Floor → Numbers → ℕ → List ℕ → Verdict
+cartRowVerdict floor f p c row = cond (leb (f .carts) c) (AboutPlan (refused 19 c 0)) (fitVerdict floor f p c row)
+
+-- "floor, plan and its moves", then the new row
+abbrev pub replaceVerdict : List ℕ → Floor → Numbers → ℕ → List ℕ → Verdict
+replaceVerdict floor f p c row = andThen (movesVerdict floor f p) (cartRowVerdict floor f p c row)
+
+-- where cart c's row of so many steps lies in a plan's file: behind the head's ten bytes and the records of the rows before it
+abbrev pub rowAt : ℕ → ℕ → ℕ
+rowAt steps c = 10 + c * (4 + steps) + 4
+
+-- "Otherwise only that row's bytes change."
+abbrev pub replacedIn : List ℕ → ℕ → ℕ → List ℕ → Verdict → Outcome
+replacedIn plan steps c row v = cond (isAccepted v) (record { answer = v; out = stored plan (rowAt steps c) row }) (unchanged v plan)
+
+unfoldable pub replaceRow : List ℕ → List ℕ → ℕ → List ℕ → Outcome
+replaceRow floor plan c row =
+    afterReading (λ v. unchanged v plan) (λ f p. replacedIn plan (p .head .steps) c row (replaceVerdict floor f p c row)) floor plan

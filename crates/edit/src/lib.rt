@@ -1,0 +1,4 @@
+// Moving a plan on, and replacing a row.
+mod moving;
+
+pub use moving::move_on;
