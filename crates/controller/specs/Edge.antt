@@ -11,6 +11,8 @@ use Rattle.floor.specs.Promises.{FloorWritten}
 use Rattle.plan.specs.Plan.{readBoth}
 use Rattle.plan.specs.Promises.{PlanWritten}
 use Rattle.plan.specs.declared.Head.{Head}
+use Rattle.moves.specs.Promises.{MovesChecked}
+use Rattle.edit.specs.Promises.{MovedOn, RowReplaced}
 
 -- cartplan_read_floor
 abbrev pub readFloorCode : List ℕ → Code
@@ -31,3 +33,21 @@ pub record PlanWrittenCode (floor : List ℕ) (h : Head) (rows before : List ℕ
   pub verdict : Verdict
   pub code : c ≡ codeOf verdict
   pub promise : PlanWritten floor h rows before verdict after
+
+-- cartplan_check_moves: the code of a verdict that keeps the promise of checking moves
+pub record MovesCheckedCode (floor plan : List ℕ) (c : Code) : Type 0 where
+  pub verdict : Verdict
+  pub code : c ≡ codeOf verdict
+  pub promise : MovesChecked floor plan verdict
+
+-- cartplan_move_on
+pub record MovedOnCode (floor plan : List ℕ) (s : ℕ) (before : List ℕ) (c : Code) (after : List ℕ) : Type 0 where
+  pub verdict : Verdict
+  pub code : c ≡ codeOf verdict
+  pub promise : MovedOn floor plan s before verdict after
+
+-- cartplan_replace_row
+pub record RowReplacedCode (floor before : List ℕ) (cart : ℕ) (row : List ℕ) (c : Code) (after : List ℕ) : Type 0 where
+  pub verdict : Verdict
+  pub code : c ≡ codeOf verdict
+  pub promise : RowReplaced floor before cart row verdict after

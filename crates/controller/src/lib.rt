@@ -3,7 +3,7 @@ use refusal::Code;
 ghost use mathlib.Core.Path.{_≡_};
 ghost use Rattle.floor.specs.Numbers.{numbers};
 ghost use Rattle.plan.specs.Numbers.{headOf};
-ghost use Rattle.controller.specs.Edge.{readFloorCode, readPlanCode, FloorWrittenCode, PlanWrittenCode};
+ghost use Rattle.controller.specs.Edge.{readFloorCode, readPlanCode, FloorWrittenCode, PlanWrittenCode, MovesCheckedCode, MovedOnCode, RowReplacedCode};
 
 // Reads a floor.
 #[no_mangle]
@@ -49,4 +49,28 @@ pub extern "C" fn cartplan_write_plan(
     ensures { λ c. ⌜ PlanWrittenCode (now (floor .entry)) (headOf h l d) (now (rows .entry)) (now (out .entry)) c (now (out .exit)) ⌝ }
 {
     refusal::code_of(plan::write(floor, h, l, d, rows, out))
+}
+
+// Checks the moves of a plan.
+#[no_mangle]
+pub extern "C" fn cartplan_check_moves(floor: &[u8], plan: &[u8]) -> Code
+    ensures { λ c. ⌜ MovesCheckedCode (now (floor .entry)) (now (plan .entry)) c ⌝ }
+{
+    refusal::code_of(moves::check(floor, plan))
+}
+
+// Moves a plan on by s steps.
+#[no_mangle]
+pub extern "C" fn cartplan_move_on(floor: &[u8], plan: &[u8], s: u16, out: &mut [u8]) -> Code
+    ensures { λ c. ⌜ MovedOnCode (now (floor .entry)) (now (plan .entry)) s (now (out .entry)) c (now (out .exit)) ⌝ }
+{
+    refusal::code_of(edit::move_on(floor, plan, s, out))
+}
+
+// Replaces a cart's row in a plan.
+#[no_mangle]
+pub extern "C" fn cartplan_replace_row(floor: &[u8], plan: &mut [u8], cart: u32, row: &[u8]) -> Code
+    ensures { λ c. ⌜ RowReplacedCode (now (floor .entry)) (now (plan .entry)) cart (now (row .entry)) c (now (plan .exit)) ⌝ }
+{
+    refusal::code_of(edit::replace_row(floor, plan, cart, row))
 }

@@ -1,1 +1,2 @@
 pub mod RowsMoved
+pub mod RowJudged

@@ -1,11 +1,14 @@
 -- What moving on and replacing a row promise.
-use Prim.Native.Nat.{ℕ, _+_, _<_}
+use Prim.Native.Nat.{ℕ, _+_, _≤_, _<_}
 use mathlib.Core.Path.{_≡_}
+use mathlib.Core.Bool.{true, false}
 use mathlib.Core.List.{List, []}
 use lib.ListN.{length, take, getD}
+use Rattle.refusal.specs.Stages.{isAccepted}
 use Rattle.refusal.specs.Outcome.{Gives}
 use Rattle.refusal.specs.declared.Verdict.{Verdict}
 use Rattle.refusal.specs.declared.Verdict.the-variants.{Accepted, Written}
+use Rattle.record.specs.Buffer.{stored}
 use Rattle.floor.specs.Floor.{readFloor}
 use Rattle.floor.specs.declared.Floor.{Floor}
 use Rattle.floor.specs.declared.FloorAnswer.the-variants.{Read as FloorAccepted}
@@ -13,6 +16,7 @@ use Rattle.plan.specs.Plan.{Numbers, accepted, readPlan}
 use Rattle.row.specs.Lasso.{stepOf}
 use Rattle.moves.specs.Carts.{checkedMoves}
 use Rattle.edit.specs.Moved.{moved, moveOn}
+use Rattle.edit.specs.declared.Replacement.{Replacement}
 use Rattle.edit.specs.Replaced.{replaced, replaceRow}
 
 -- the place of cart c at counter v
@@ -49,3 +53,10 @@ pub record RowReplaced (floor before : List ℕ) (c : ℕ) (row : List ℕ) (v :
   -- the answer and every byte of the plan, for every floor, plan, cart and row
   pub outcome : Gives (replaceRow floor before c row) v after
   pub replaces : v ≡ Accepted → NewRow floor before c row after
+
+-- a replacement judged before anything is written: its verdict, what becomes of the plan, and that the row's bytes lie in it
+pub record Judged (floor plan : List ℕ) (c : ℕ) (row : List ℕ) (r : Replacement) : Type 0 where
+  pub answer : r .verdict ≡ replaceRow floor plan c row .answer
+  pub kept : isAccepted (r .verdict) ≡ false → replaceRow floor plan c row .out ≡ plan
+  pub changed : isAccepted (r .verdict) ≡ true → replaceRow floor plan c row .out ≡ stored plan (r .at) row
+  pub inside : isAccepted (r .verdict) ≡ true → r .at + length row ≤ length plan

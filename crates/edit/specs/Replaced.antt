@@ -13,6 +13,7 @@ use Rattle.record.specs.Buffer.{stored}
 use Rattle.floor.specs.declared.Floor.{Floor}
 use Rattle.plan.specs.Plan.{Numbers, judgedRow}
 use Rattle.plan.specs.After.{afterReading}
+use Rattle.plan.specs.declared.Head.{Head}
 use Rattle.plan.specs.declared.RowAnswer.{RowAnswer}
 use Rattle.plan.specs.declared.RowAnswer.the-variants.{Fits, WrongLength, Absent}
 use Rattle.moves.specs.Carts.{cartVerdict, movesVerdict}
@@ -28,12 +29,12 @@ newRowVerdict c WrongLength = AboutPlan (refused 4 0 0)
 newRowVerdict c (Absent s) = AboutPlan (refused 9 c s)
 
 -- a row for cart c: 4 and 9, then 10 and 11
-abbrev pub fitVerdict : List ℕ → Floor → Numbers → ℕ → List ℕ → Verdict
-fitVerdict floor f p c row = andThen (newRowVerdict c (judgedRow row (p .head .steps) (f .places))) (cartVerdict floor c row (p .head .steps) (p .head .stem))
+abbrev pub fitVerdict : List ℕ → Floor → Head → ℕ → List ℕ → Verdict
+fitVerdict floor f h c row = andThen (newRowVerdict c (judgedRow row (h .steps) (f .places))) (cartVerdict floor c row (h .steps) (h .stem))
 
 -- "19 no such cart (cart, 0)", carts being numbered from 0
 abbrev pub cartRowVerdict : List ℕ → Floor → Numbers → ℕ → List ℕ → Verdict
-cartRowVerdict floor f p c row = cond (leb (f .carts) c) (AboutPlan (refused 19 c 0)) (fitVerdict floor f p c row)
+cartRowVerdict floor f p c row = cond (leb (f .carts) c) (AboutPlan (refused 19 c 0)) (fitVerdict floor f (p .head) c row)
 
 -- "floor, plan and its moves", then the new row
 abbrev pub replaceVerdict : List ℕ → Floor → Numbers → ℕ → List ℕ → Verdict
@@ -45,7 +46,7 @@ rowAt steps c = 10 + c * (4 + steps) + 4
 
 -- "Otherwise only that row's bytes change."
 abbrev pub replacedIn : List ℕ → ℕ → ℕ → List ℕ → Verdict → Outcome
-replacedIn plan steps c row v = cond (isAccepted v) (record { answer = v; out = stored plan (rowAt steps c) row }) (unchanged v plan)
+replacedIn plan steps c row v = record { answer = v; out = cond (isAccepted v) (stored plan (rowAt steps c) row) plan }
 
 unfoldable pub replaceRow : List ℕ → List ℕ → ℕ → List ℕ → Outcome
 replaceRow floor plan c row =

@@ -28,10 +28,11 @@ only-open c Start e = let z : _≡_ {A = ℕ} 0 1 = cc in absurd (omega arith)
 only-open c (Shut s) e = let z : _≡_ {A = ℕ} 0 1 = cc in absurd (omega arith)
 
 module _ (floor : List ℕ) (p : Numbers) where
-  abbrev Passes : ℕ → Type 0
+  -- cart c's row is not refused
+  abbrev pub Passes : ℕ → Type 0
   Passes c = rowVerdict floor p c ≡ Accepted
 
-  all-pass : (n c : ℕ) → judgedCarts floor p n c ≡ Accepted → (k : ℕ) → c ≤ k → k < c + n → Passes k
+  pub all-pass : (n c : ℕ) → judgedCarts floor p n c ≡ Accepted → (k : ℕ) → c ≤ k → k < c + n → Passes k
   unfolding judgedCarts
   all-pass zero c e k l m = absurd (omega arith)
   all-pass (suc n) c e k l m = go (isAccepted (rowVerdict floor p c)) refl (all-pass n (suc c)) e
@@ -46,7 +47,7 @@ module _ (floor : List ℕ) (p : Numbers) where
           by true r = subst Passes (sym (eqb-true k c r)) (accepted-is _ q)
           by false r = f e k (let n : (k ≡ c → ⊥) = eqb-false k c r in omega arith) (omega arith)
 
-  none-refused : (n c : ℕ) → ((k : ℕ) → k < c + n → Passes k) → judgedCarts floor p n c ≡ Accepted
+  pub none-refused : (n c : ℕ) → ((k : ℕ) → k < c + n → Passes k) → judgedCarts floor p n c ≡ Accepted
   unfolding judgedCarts
   none-refused zero c f = refl
   none-refused (suc n) c f =

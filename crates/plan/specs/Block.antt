@@ -7,6 +7,7 @@ use mathlib.Core.List.{List, [], _∷_, _++_, map, flatten, append-assoc, append
 use lib.ListN.{length, take, drop, getD, length-append, length-replicate, replicate-append-replicate}
 use lib.Seq.{take-append-add, drop-append-add, take-at, drop-at}
 use Rattle.record.specs.Buffer.{stored}
+use Rattle.record.specs.Stored.{stored-behind}
 use Rattle.record.specs.All.{All, AllOf}
 use Rattle.plan.specs.Plan.{zeros, padded, blockOf}
 
@@ -65,13 +66,6 @@ length-block rows s h =
     let b = length-rows rows s in
     let c = length-zeros (64 * (32 - length rows)) in
     omega arith
-
--- bytes stored behind a part
-stored-behind : (p q : List ℕ) (at : ℕ) (s : List ℕ) → stored (p ++ q) (length p + at) s ≡ p ++ stored q at s
-stored-behind p q at s =
-    let n : length p + at + length s ≡ length p + (at + length s) = omega arith in
-    ap₂ (λ (x y : List ℕ). x ++ (s ++ y)) (take-append-add p q at) (ap (λ (k : ℕ). drop k (p ++ q)) n ∙ drop-append-add p q (at + length s))
-    ∙ append-assoc p (take at q) (s ++ drop (at + length s) q)
 
 -- storing a row behind the others gives the block with it
 pub row-stored : (rows : List (List ℕ)) (row : List ℕ) → Short rows → length row ≤ 64 → length rows < 32

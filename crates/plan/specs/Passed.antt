@@ -1,5 +1,5 @@
 -- A head and a row that are not refused passed every test.
-use Prim.Native.Nat.{ℕ, zero, suc, _<_}
+use Prim.Native.Nat.{ℕ, zero, suc, _+_, _<_}
 use native.Mathlib.Omega.{arith}
 use mathlib.Core.Path.{_≡_, refl, sym, subst}
 use mathlib.Core.Bool.{Bool, true, false, cond, not}
@@ -99,3 +99,34 @@ all-on-floor places i (p ∷ row) e s l = go (leb places p) refl (all-on-floor p
     go true q f e s l = let z : _≡_ {A = ℕ} 0 1 = cc in absurd (omega arith)
     go false q f e zero l = leb-false _ _ q
     go false q f e (suc s) l = f e s (omega arith)
+
+-- a row by itself: it has h steps, and its places are on the floor
+pub record RowFits (steps places : ℕ) (row : List ℕ) : Type 0 where
+  pub size : length row ≡ steps
+  pub there : (s : ℕ) → s < length row → getD row s 0 < places
+
+pub row-fits : (steps places : ℕ) (row : List ℕ) → judgedRow row steps places ≡ Fits → RowFits steps places row
+unfolding judgedRow
+row-fits steps places row e = go (eqb (length row) steps) refl e
+  where
+    go : (b : Bool) → eqb (length row) steps ≡ b → cond b (judgedPlaces places 0 row) WrongLength ≡ Fits → RowFits steps places row
+    go true q e = record { size = eqb-true _ _ q; there = all-on-floor places 0 row e }
+    go false q e = let z : _≡_ {A = ℕ} 0 1 = cc in absurd (omega arith)
+
+-- a step whose place is absent is a step of the row
+absent-in : (places i : ℕ) (row : List ℕ) (s : ℕ) → judgedPlaces places i row ≡ Absent s → s < i + length row
+unfolding judgedPlaces
+absent-in places i [] s e = let z : _≡_ {A = ℕ} 0 1 = cc in absurd (omega arith)
+absent-in places i (p ∷ row) s e = go (leb places p) (absent-in places (suc i) row s) e
+  where
+    go : (b : Bool) → (judgedPlaces places (suc i) row ≡ Absent s → s < suc i + length row) → cond b (Absent i) (judgedPlaces places (suc i) row) ≡ Absent s → s < i + suc (length row)
+    go true f e = let z : i ≡ s = cc in omega arith
+    go false f e = omega (arith, f e)
+
+pub absent-below : (steps places : ℕ) (row : List ℕ) (s : ℕ) → judgedRow row steps places ≡ Absent s → s < steps
+unfolding judgedRow
+absent-below steps places row s e = go (eqb (length row) steps) refl e
+  where
+    go : (b : Bool) → eqb (length row) steps ≡ b → cond b (judgedPlaces places 0 row) WrongLength ≡ Absent s → s < steps
+    go true q e = let n : length row ≡ steps = eqb-true _ _ q in omega (arith, absent-in places 0 row s e)
+    go false q e = let z : _≡_ {A = ℕ} 0 1 = cc in absurd (omega arith)

@@ -5,7 +5,7 @@ use native.Mathlib.Nat.{add-zero, zero-add}
 use mathlib.Core.Path.{_≡_, sym, ap, ap₂, _∙_}
 use mathlib.Core.List.{List, [], _++_, append-assoc, append-nil}
 use lib.ListN.{length, take, drop, length-append, length-take, length-drop, take-append-drop, drop-of-length-le}
-use lib.Seq.{take-all, take-length, drop-drop, take-at, drop-append-add}
+use lib.Seq.{take-all, take-length, drop-drop, take-at, take-append-add, drop-append-add}
 use Rattle.record.specs.Buffer.{stored}
 
 -- nothing stored changes nothing
@@ -19,6 +19,13 @@ length-stored out at s h = simp (length-append, length-take, length-drop) (omega
 -- from the start on, the buffer is the bytes and its own rest
 pub stored-front : (out s : List ℕ) → stored out 0 s ≡ s ++ drop (length s) out
 stored-front out s = ap (λ (k : ℕ). s ++ drop k out) (zero-add (length s))
+
+-- bytes stored behind a part
+pub stored-behind : (p q : List ℕ) (at : ℕ) (s : List ℕ) → stored (p ++ q) (length p + at) s ≡ p ++ stored q at s
+stored-behind p q at s =
+    let n : length p + at + length s ≡ length p + (at + length s) = omega arith in
+    ap₂ (λ (x y : List ℕ). x ++ (s ++ y)) (take-append-add p q at) (ap (λ (k : ℕ). drop k (p ++ q)) n ∙ drop-append-add p q (at + length s))
+    ∙ append-assoc p (take at q) (s ++ drop (at + length s) q)
 
 -- bytes stored behind bytes just stored are stored with them
 module _ (out : List ℕ) (at : ℕ) (s t : List ℕ) (h : at + length s ≤ length out) where

@@ -1,0 +1,68 @@
+-- A replacement judged before anything is written.
+use Prim.Native.Nat.{ℕ, _+_, _*_}
+use native.Mathlib.Omega.{arith}
+use mathlib.Core.Path.{_≡_, refl, sym, ap, subst, _∙_}
+use mathlib.Core.Bool.{Bool, true, false, cond}
+use mathlib.Core.List.{List}
+use lib.ListN.{length}
+use Rattle.refusal.specs.Stages.{isAccepted}
+use Rattle.refusal.specs.Accepting.{accepted-is}
+use Rattle.refusal.specs.Outcome.{Outcome, unchanged}
+use Rattle.refusal.specs.declared.Verdict.{Verdict}
+use Rattle.record.specs.Buffer.{stored}
+use Rattle.floor.specs.declared.Floor.{Floor}
+use Rattle.plan.specs.Plan.{Numbers, readBoth}
+use Rattle.plan.specs.After.{numbersIn}
+use Rattle.plan.specs.Promises.{Accepts}
+use Rattle.plan.specs.Read.{after-accepted, after-refused, held-head, held-numbers}
+use Rattle.plan.specs.declared.Head.{Head}
+use Rattle.plan.specs.declared.PlanRead.{PlanRead}
+use Rattle.edit.specs.Replaced.{replaceVerdict, rowAt, replacedIn, replaceRow}
+use Rattle.edit.specs.ReplacedReads.{replaces, stored-inside}
+use Rattle.edit.specs.Promises.{Judged}
+
+module _ (floor plan : List ℕ) (c : ℕ) (row : List ℕ) (r : PlanRead) where
+  step : Floor → Numbers → Outcome
+  step f p = replacedIn plan (p .head .steps) c row (replaceVerdict floor f p c row)
+
+  never : {A : Type 0} (b : Bool) → b ≡ false → b ≡ true → A
+  never b p q = let z : _≡_ {A = ℕ} 0 1 = cc in absurd (omega arith)
+
+  -- reading refuses
+  pub refused : r ≡ readBoth floor plan → isAccepted (r .verdict) ≡ false → Judged floor plan c row (record { verdict = r .verdict; at = 0 })
+  unfolding replaceRow step
+  refused e q =
+      let o : replaceRow floor plan c row ≡ unchanged (r .verdict) plan = after-refused (λ v. unchanged v plan) step floor plan r e q in
+      record {
+        answer = ap (λ (x : Outcome). x .answer) (sym o);
+        kept = λ z. ap (λ (x : Outcome). x .out) o;
+        changed = λ z. never _ q z;
+        inside = λ z. never _ q z;
+      }
+
+  module _ (w : Accepts floor plan r) (v : Verdict) (e : v ≡ replaceVerdict floor (r .floor) (numbersIn (r .floor .carts) (r .plan .head) (r .plan .block)) c row) where
+    abbrev n : Numbers
+    n = w .numbers
+
+    same : v ≡ replaceVerdict floor (r .floor) n c row
+    same = e ∙ ap (λ (p : Numbers). replaceVerdict floor (r .floor) p c row) (held-numbers floor plan r w)
+
+    outcome : replaceRow floor plan c row ≡ replacedIn plan (n .head .steps) c row v
+    unfolding replaceRow step
+    outcome = after-accepted (λ v. unchanged v plan) step floor plan r w ∙ ap (replacedIn plan (n .head .steps) c row) (sym same)
+
+    by : (b : Bool) → isAccepted v ≡ b → replaceRow floor plan c row .out ≡ cond b (stored plan (rowAt (n .head .steps) c) row) plan
+    by b q = ap (λ (x : Outcome). x .out) outcome ∙ ap (λ (t : Bool). cond t (stored plan (rowAt (n .head .steps) c) row) plan) q
+
+    -- the moves and the row are judged
+    pub judged : Judged floor plan c row (record { verdict = v; at = rowAt (r .plan .head .steps) c })
+    judged = record {
+      answer = ap (λ (x : Outcome). x .answer) (sym outcome);
+      kept = by false;
+      changed = λ z. by true z ∙ ap (λ (h : Head). stored plan (rowAt (h .steps) c) row) (sym (held-head floor plan r w));
+      inside = λ z.
+          let s = replaces floor (r .floor) n c row (sym same ∙ accepted-is v z) in
+          let i = stored-inside floor (r .floor) n c row (w .valid) s in
+          let a : rowAt (r .plan .head .steps) c ≡ rowAt (n .head .steps) c = ap (λ (h : Head). rowAt (h .steps) c) (held-head floor plan r w) in
+          omega (arith, ap length (w .writes-back));
+    }

@@ -1,0 +1,71 @@
+use Rattle.edit.proofs.RowJudged.{refused, judged}
+use Rattle.plan.specs.Read.{accepts-if, held-range, held-length}
+use Rattle.plan.specs.Promises.{Accepts}
+use Rattle.floor.specs.Located.{accepts}
+use Rattle.refusal.specs.Faults.{not-is}
+use mathlib.Core.Bool.{true, false}
+use mathlib.Core.Path.{sym, _∙_}
+use native.Mathlib.Nat.{mul-le-mul}
+use Prim.Native.Nat.{_+_, _*_, _≤_}
+use native.Mathlib.Omega.{arith}
+use borrow.Author.Needs.{needs}
+use Rattle.edit.proofs.replacing.judge.Statement.{statement}
+use Rattle.edit.proofs.replacing.judge.Tie as tie
+
+-- the plan is accepted, by the test of its verdict
+read-it : (c : tie.Else1) → Accepts (c .before .before .before .before .before .before .args .floor .now) (c .before .before .before .before .before .before .args .plan .now) (c .before .before .read .result)
+read-it c = accepts-if _ _ _ (c .before .before .read .ensures) (sym (c .before .accepts .ensures) ∙ not-is _ false (c .if1 .left))
+
+-- the offset is small
+reach : (c : tie.After-judge-after) → c .before .before .before .before .before .before .before .before .before .before .before .args .cart * (4 + c .before .before .before .before .before .before .before .read .result .plan .head .steps) ≤ 4294967296 * 68
+reach c =
+    let few : 4 + c .before .before .before .before .before .before .before .read .result .plan .head .steps ≤ 68 = omega (arith, held-range _ _ _ (read-it (c .before .before .before .before .before)) .steps) in
+    mul-le-mul {n₁ = c .before .before .before .before .before .before .before .before .before .before .before .args .cart} {n₂ = 4294967296} (omega (arith, c .before .before .before .before .before .before .before .before .before .before .before .fits .cart)) few
+
+read-requires : tie.Need-read-requires
+read-requires c κs = search needs
+
+accepts-requires : tie.Need-accepts-requires
+accepts-requires c κs = search needs
+
+returns : tie.Need-returns
+returns c = refused _ _ _ _ (c .before .before .read .result) (c .before .before .read .ensures .answer) (sym (c .before .accepts .ensures) ∙ not-is _ true (c .if1 .taken))
+
+slice-aggregate-judge-after : tie.Need-slice-aggregate-judge-after
+slice-aggregate-judge-after c = search needs
+
+judge-after-requires : tie.Need-judge-after-requires
+judge-after-requires c κs =
+    let w = read-it (c .before .before .before .before) in
+    let f = accepts _ _ (λ i. omega (arith, c .before .before .before .before .before .before .before .before .before .shared-slice-known .given i)) (w .floor-read) in
+    (f, (held-range _ _ _ w, held-length _ _ _ w (f .valid .few-carts)))
+
+add-t16 : tie.Need-add-t16
+add-t16 c = omega (arith, held-range _ _ _ (read-it (c .before .before .before .before .before .before)) .steps)
+
+mul-t17 : tie.Need-mul-t17
+mul-t17 c = omega (arith, reach (c .before))
+
+add-t18 : tie.Need-add-t18
+add-t18 c = omega (arith, reach (c .before))
+
+add-t19 : tie.Need-add-t19
+add-t19 c = omega (arith, reach (c .before))
+
+returns-2 : tie.Need-returns-2
+returns-2 c = judged _ _ _ _ (c .before .before .before .before .before .before .before .before .read .result) (read-it (c .before .before .before .before .before .before)) (c .before .judge-after .result) (c .before .judge-after .ensures)
+
+pub judge-spec : {M : Type 1} → statement M
+judge-spec =
+    tie.close
+    (tie.spec
+    read-requires
+    accepts-requires
+    returns
+    slice-aggregate-judge-after
+    judge-after-requires
+    add-t16
+    mul-t17
+    add-t18
+    add-t19
+    returns-2)

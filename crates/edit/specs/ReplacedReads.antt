@@ -1,0 +1,151 @@
+-- What replacing a row leaves reads as a plan that differs in that row alone, and its moves are accepted.
+use Prim.Native.Nat.{ℕ, _+_, _≤_, _<_}
+use native.Mathlib.Omega.{arith}
+use mathlib.Core.Path.{_≡_, refl, sym, ap, subst, _∙_}
+use mathlib.Core.Bool.{Bool, true, false, cond}
+use mathlib.Core.List.{List, []}
+use lib.Dec.{eqb, leb}
+use lib.ListN.{length, getD, set, length-set}
+use lib.Seq.{getD-set-same, getD-set-other}
+use borrow.Author.Tests.{eqb-true, eqb-false, leb-false}
+use Rattle.endian.specs.Little.{Bytes}
+use Rattle.refusal.specs.Codes.{refused}
+use Rattle.refusal.specs.Stages.{isAccepted, andThen}
+use Rattle.refusal.specs.Accepting.{accepted-is, both-accepted}
+use Rattle.refusal.specs.Outcome.{Outcome, Gives, unchanged}
+use Rattle.refusal.specs.declared.Verdict.{Verdict}
+use Rattle.refusal.specs.declared.Verdict.the-variants.{Accepted, Plan as AboutPlan}
+use Rattle.record.specs.All.{AllOf, all-of}
+use Rattle.record.specs.Buffer.{stored}
+use Rattle.floor.specs.Located.{accepts}
+use Rattle.floor.specs.declared.Floor.{Floor}
+use Rattle.plan.specs.Plan.{Numbers, accepted, readPlan, judgedPlaces, judgedRow}
+use Rattle.plan.specs.Numbers.{planFile}
+use Rattle.plan.specs.Valid.{Valid}
+use Rattle.plan.specs.Passed.{RowFits, row-fits}
+use Rattle.plan.specs.RoundTrip.{valid, bytes-back}
+use Rattle.plan.specs.Complete.{file-reads}
+use Rattle.plan.specs.Read.{Went, no-floor, no-plan, on, went, read-on}
+use Rattle.plan.specs.declared.RowAnswer.{RowAnswer}
+use Rattle.plan.specs.declared.RowAnswer.the-variants.{Fits, WrongLength, Absent}
+use Rattle.moves.specs.Carts.{cartVerdict, rowVerdict, movesVerdict, checkedMoves}
+use Rattle.moves.specs.Unending.{Passes, all-pass, none-refused}
+use Rattle.edit.specs.Replaced.{replaced, newRowVerdict, fitVerdict, cartRowVerdict, replaceVerdict, rowAt, replacedIn, replaceRow}
+use Rattle.edit.specs.RowStored.{row-stored, row-inside}
+use Rattle.edit.specs.Promises.{NewRow, RowReplaced}
+
+only-fits : (c : ℕ) (a : RowAnswer) → newRowVerdict c a ≡ Accepted → a ≡ Fits
+only-fits c Fits e = refl
+only-fits c WrongLength e = let z : _≡_ {A = ℕ} 0 1 = cc in absurd (omega arith)
+only-fits c (Absent s) e = let z : _≡_ {A = ℕ} 0 1 = cc in absurd (omega arith)
+
+pub fits-if : (c steps places : ℕ) (row : List ℕ) → isAccepted (newRowVerdict c (judgedRow row steps places)) ≡ true → RowFits steps places row
+fits-if c steps places row e = row-fits steps places row (only-fits c (judgedRow row steps places) (accepted-is _ e))
+
+-- what an accepted replacement says
+pub record Replaces (floor : List ℕ) (f : Floor) (p : Numbers) (c : ℕ) (row : List ℕ) : Type 0 where
+  pub moves : movesVerdict floor f p ≡ Accepted
+  pub cart : c < f .carts
+  pub fits : RowFits (p .head .steps) (f .places) row
+  pub opened : cartVerdict floor c row (p .head .steps) (p .head .stem) ≡ Accepted
+
+module _ (floor : List ℕ) (f : Floor) (p : Numbers) (c : ℕ) (row : List ℕ) where
+  pub replaces : replaceVerdict floor f p c row ≡ Accepted → Replaces floor f p c row
+  replaces e = go (leb (f .carts) c) refl (stages .1)
+    where
+      stages : (movesVerdict floor f p ≡ Accepted) × (cartRowVerdict floor f p c row ≡ Accepted)
+      stages = both-accepted (movesVerdict floor f p) (cartRowVerdict floor f p c row) e
+
+      go : (b : Bool) → leb (f .carts) c ≡ b → cond b (AboutPlan (refused 19 c 0)) (fitVerdict floor f (p .head) c row) ≡ Accepted → Replaces floor f p c row
+      go true q u = let z : _≡_ {A = ℕ} 0 1 = cc in absurd (omega arith)
+      go false q u =
+          let w = both-accepted (newRowVerdict c (judgedRow row (p .head .steps) (f .places))) (cartVerdict floor c row (p .head .steps) (p .head .stem)) u in
+          record {
+            moves = stages .0;
+            cart = leb-false _ _ q;
+            fits = row-fits (p .head .steps) (f .places) row (only-fits c _ (w .0));
+            opened = w .1;
+          }
+
+  module _ (v : Valid p f) (w : Replaces floor f p c row) where
+    -- row k of the new plan: the new row, or the old one
+    each-row : (P : List ℕ → Type 0) (k : ℕ) → P row → P (getD (p .rows) k []) → P (getD (set (p .rows) c row) k [])
+    each-row P k new old = go (eqb k c) refl
+      where
+        go : (b : Bool) → eqb k c ≡ b → P (getD (set (p .rows) c row) k [])
+        go true q =
+            subst (λ (n : ℕ). P (getD (set (p .rows) c row) n [])) (sym (eqb-true k c q))
+            (subst P (sym (getD-set-same (p .rows) c row [] (omega (arith, w .cart, v .carts)))) new)
+        go false q = subst P (sym (getD-set-other (p .rows) c k row [] (eqb-false k c q))) old
+
+    pub valid-replaced : Valid (replaced c row p) f
+    valid-replaced = record {
+      head = v .head;
+      carts = length-set (p .rows) c row ∙ v .carts;
+      steps = λ k l. each-row (λ (x : List ℕ). length x ≡ p .head .steps) k (w .fits .size) (v .steps k l);
+      places =
+          λ k s l m. each-row (λ (x : List ℕ). getD x s 0 < f .places) k (w .fits .there s (omega (arith, w .fits .size))) (v .places k s l m);
+    }
+
+    pub moves-replaced : movesVerdict floor f (replaced c row p) ≡ Accepted
+    moves-replaced = none-refused floor (replaced c row p) (f .carts) 0 (λ k l. passes k (omega arith))
+      where
+        passes : (k : ℕ) → k < f .carts → Passes floor (replaced c row p) k
+        passes k l = go (eqb k c) refl
+          where
+            old : Passes floor p k
+            old = all-pass floor p (f .carts) 0 (w .moves) k (omega arith) (omega arith)
+
+            go : (b : Bool) → eqb k c ≡ b → Passes floor (replaced c row p) k
+            go true q =
+                subst (Passes floor (replaced c row p)) (sym (eqb-true k c q))
+                (ap (λ (x : List ℕ). cartVerdict floor c x (p .head .steps) (p .head .stem)) (getD-set-same (p .rows) c row [] (omega (arith, w .cart, v .carts))) ∙ w .opened)
+            go false q = ap (λ (x : List ℕ). cartVerdict floor k x (p .head .steps) (p .head .stem)) (getD-set-other (p .rows) c k row [] (eqb-false k c q)) ∙ old
+
+    -- its file
+    sizes : AllOf (p .head .steps) (p .rows)
+    sizes = all-of (λ (x : List ℕ). length x ≡ p .head .steps) (p .rows) (λ i l. v .steps i (omega (arith, v .carts)))
+
+    pub stored-replaced : stored (planFile p) (rowAt (p .head .steps) c) row ≡ planFile (replaced c row p)
+    stored-replaced = row-stored p (v .head .some) sizes c row (omega (arith, w .cart, v .carts)) (w .fits .size)
+
+    pub stored-inside : rowAt (p .head .steps) c + length row ≤ length (planFile p)
+    stored-inside = row-inside p (v .head .some) sizes c row (omega (arith, w .cart, v .carts)) (w .fits .size)
+
+    pub reads-replaced : f .carts ≤ 32 → readPlan f (planFile (replaced c row p)) ≡ accepted (replaced c row p)
+    reads-replaced few = file-reads f (replaced c row p) few valid-replaced
+
+module _ (floor before : List ℕ) (b : Bytes floor) (b′ : Bytes before) (c : ℕ) (row : List ℕ) (v : Verdict) (after : List ℕ) (e : v ≡ Accepted) where
+  new-row : Gives (replaceRow floor before c row) v after → NewRow floor before c row after
+  unfolding replaceRow checkedMoves
+  new-row g = go (went (λ v. unchanged v before) step floor before)
+    where
+      step : Floor → Numbers → Outcome
+      step f p = replacedIn before (p .head .steps) c row (replaceVerdict floor f p c row)
+
+      go : Went (λ (v : Verdict). unchanged v before) step floor before → NewRow floor before c row after
+      go (no-floor x q) = let u = g .answer ∙ ap (λ (o : Outcome). o .answer) q in let z : _≡_ {A = ℕ} 0 1 = cc in absurd (omega arith)
+      go (no-plan x q) = let u = g .answer ∙ ap (λ (o : Outcome). o .answer) q in let z : _≡_ {A = ℕ} 0 1 = cc in absurd (omega arith)
+      go (on f n p q r) =
+          let d = valid f before n q in
+          let few : f .carts ≤ 32 = accepts floor f b p .valid .few-carts in
+          let yes : replaceVerdict floor f n c row ≡ Accepted = sym (g .answer ∙ ap (λ (o : Outcome). o .answer) r) ∙ e in
+          let w = replaces floor f n c row yes in
+          let file : after ≡ planFile (replaced c row n) =
+          g .out ∙ ap (λ (o : Outcome). o .out) r
+          ∙ ap (λ (x : Verdict). cond (isAccepted x) (stored before (rowAt (n .head .steps) c) row) before) yes
+          ∙ ap (λ (x : List ℕ). stored x (rowAt (n .head .steps) c) row) (sym (bytes-back f before n b′ q)) ∙ stored-replaced floor f n c row d w in
+          let reads : readPlan f after ≡ accepted (replaced c row n) = ap (readPlan f) file ∙ reads-replaced floor f n c row d w few in
+          record {
+            floor-is = f;
+            numbers = n;
+            floor-read = p;
+            plan-read = q;
+            cart = w .cart;
+            reads = reads;
+            moves = read-on (λ v. v) (movesVerdict floor) floor after f (replaced c row n) p reads ∙ moves-replaced floor f n c row d w;
+          }
+
+pub promise : (floor before : List ℕ) (c : ℕ) (row : List ℕ) (v : Verdict) (after : List ℕ) → Bytes floor → Bytes before → Gives (replaceRow floor before c row) v after
+    → RowReplaced floor before c row v after
+promise floor before c row v after b b′ g = record { outcome = g; replaces = λ e. new-row floor before b b′ c row v after e g }

@@ -1,0 +1,110 @@
+// Replacing a row: judged first, and written only where that accepts.
+use crate::Replacement;
+use floor::Floor;
+use plan::Head;
+use plan::RowAnswer;
+use refusal::Verdict;
+ghost use mathlib.Core.Path.{_≡_};
+ghost use Prim.Native.Nat.{ℕ, _≤_, _<_};
+ghost use lib.ListN.{length};
+ghost use Rattle.floor.specs.Promises.{Accepts};
+ghost use Rattle.plan.specs.After.{numbersIn};
+ghost use Rattle.plan.specs.Valid.{InRange};
+ghost use Rattle.plan.specs.declared.RowAnswer.the-variants.{Absent};
+ghost use Rattle.row.specs.Moves.{lanesIn};
+ghost use Rattle.row.specs.Chain.{Chained};
+ghost use Rattle.edit.specs.Replaced.{newRowVerdict, fitVerdict, replaceVerdict};
+ghost use Rattle.edit.specs.Promises.{Judged, RowReplaced};
+
+// A row judged on its places, as a verdict.
+fn verdict_of(c: usize, a: RowAnswer) -> Verdict
+    requires { ⌜ (c < 32) × ((s : ℕ) → a ≡ Absent s → s < 64) ⌝ }
+    ensures { λ r. ⌜ r ≡ newRowVerdict c a ⌝ }
+{
+    match a {
+        RowAnswer::Fits => Verdict::Accepted,
+        RowAnswer::WrongLength => Verdict::Plan(refusal::refuse(4, 0, 0)),
+        RowAnswer::Absent(s) => Verdict::Plan(refusal::refuse(9, c as u32, s as u32)),
+    }
+}
+
+// Judges a row for a cart of the floor.
+fn judge_fit<'a>(
+    s: &[u8],
+    f: Floor,
+    first: &'a [u16; 256],
+    next: &'a [u16; 1024],
+    h: Head,
+    c: usize,
+    row: &'a [u8],
+) -> Verdict
+    requires { ⌜ Accepts (now s) f ⌝ }
+    requires { ⌜ Chained (lanesIn (now s)) (now first) (now next) 0 ⌝ }
+    requires { ⌜ InRange h ⌝ }
+    requires { ⌜ c < f .carts ⌝ }
+    ensures { λ r. ⌜ r ≡ fitVerdict (now (s .entry)) f h c (now (row .entry)) ⌝ }
+{
+    let v = verdict_of(c, plan::judge_row(row, h.steps, f.places));
+    if !refusal::accepts(v) {
+        return v;
+    }
+    moves::judge_cart(s, f, first, next, c, row, h.stem)
+}
+
+// Judges the moves of a plan that is read already, and then a row for a cart.
+fn judge_after<'a>(
+    s: &[u8],
+    f: Floor,
+    h: Head,
+    block: &'a [u8],
+    cart: u32,
+    row: &'a [u8],
+) -> Verdict
+    requires { ⌜ Accepts (now s) f ⌝ }
+    requires { ⌜ InRange h ⌝ }
+    requires { ⌜ length (now block) ≡ 2048 ⌝ }
+    ensures { λ r. ⌜ r ≡ replaceVerdict (now (s .entry)) f (numbersIn (f .carts) h (now (block .entry))) cart (now (row .entry)) ⌝ }
+{
+    let links = row::linked(s, f);
+    let first = links.first;
+    let next = links.next;
+    let v = moves::judge_carts(s, f, &first, &next, h, block);
+    if !refusal::accepts(v) {
+        return v;
+    }
+    if f.carts <= cart as usize {
+        return Verdict::Plan(refusal::refuse(19, cart, 0));
+    }
+    judge_fit(s, f, &first, &next, h, cart as usize, row)
+}
+
+// Judges a replacement. It changes nothing.
+fn judge(floor: &[u8], plan: &[u8], cart: u32, row: &[u8]) -> Replacement
+    ensures { λ r. ⌜ Judged (now (floor .entry)) (now (plan .entry)) cart (now (row .entry)) r ⌝ }
+{
+    let r = plan::read(floor, plan);
+    let v = r.verdict;
+    if !refusal::accepts(v) {
+        return Replacement { verdict: v, at: 0 };
+    }
+    let p = r.plan;
+    let h = p.head;
+    let block = p.block;
+    let verdict = judge_after(floor, r.floor, h, &block, cart, row);
+    Replacement {
+        verdict,
+        at: 10 + cart as usize * (4 + h.steps) + 4,
+    }
+}
+
+// Replaces a cart's row in a plan.
+pub fn replace_row(floor: &[u8], plan: &mut [u8], cart: u32, row: &[u8]) -> Verdict
+    ensures { λ v. ⌜ RowReplaced (now (floor .entry)) (now (plan .entry)) cart (now (row .entry)) v (now (plan .exit)) ⌝ }
+{
+    let r = judge(floor, plan, cart, row);
+    let v = r.verdict;
+    if refusal::accepts(v) {
+        record::copy_at(plan, r.at, row);
+    }
+    v
+}
