@@ -22,32 +22,28 @@ readFloorCode floor = codeOf (floorVerdict (readFloor floor))
 abbrev pub readPlanCode : List ℕ → List ℕ → Code
 readPlanCode floor plan = codeOf (readBoth floor plan .verdict)
 
--- cartplan_write_floor: the code of a verdict that keeps the promise of writing
-pub record FloorWrittenCode (n : Numbers) (before : List ℕ) (c : Code) (after : List ℕ) : Type 0 where
+-- the other functions: the code of a verdict that keeps an operation's promise
+pub record Coded (Promise : Verdict → Type 0) (c : Code) : Type 0 where
   pub verdict : Verdict
   pub code : c ≡ codeOf verdict
-  pub promise : FloorWritten n before verdict after
+  pub promise : Promise verdict
+
+-- cartplan_write_floor
+abbrev pub FloorWrittenCode : Numbers → List ℕ → Code → List ℕ → Type 0
+FloorWrittenCode n before c after = Coded (λ v. FloorWritten n before v after) c
 
 -- cartplan_write_plan
-pub record PlanWrittenCode (floor : List ℕ) (h : Head) (rows before : List ℕ) (c : Code) (after : List ℕ) : Type 0 where
-  pub verdict : Verdict
-  pub code : c ≡ codeOf verdict
-  pub promise : PlanWritten floor h rows before verdict after
+abbrev pub PlanWrittenCode : List ℕ → Head → List ℕ → List ℕ → Code → List ℕ → Type 0
+PlanWrittenCode floor h rows before c after = Coded (λ v. PlanWritten floor h rows before v after) c
 
--- cartplan_check_moves: the code of a verdict that keeps the promise of checking moves
-pub record MovesCheckedCode (floor plan : List ℕ) (c : Code) : Type 0 where
-  pub verdict : Verdict
-  pub code : c ≡ codeOf verdict
-  pub promise : MovesChecked floor plan verdict
+-- cartplan_check_moves
+abbrev pub MovesCheckedCode : List ℕ → List ℕ → Code → Type 0
+MovesCheckedCode floor plan c = Coded (MovesChecked floor plan) c
 
 -- cartplan_move_on
-pub record MovedOnCode (floor plan : List ℕ) (s : ℕ) (before : List ℕ) (c : Code) (after : List ℕ) : Type 0 where
-  pub verdict : Verdict
-  pub code : c ≡ codeOf verdict
-  pub promise : MovedOn floor plan s before verdict after
+abbrev pub MovedOnCode : List ℕ → List ℕ → ℕ → List ℕ → Code → List ℕ → Type 0
+MovedOnCode floor plan s before c after = Coded (λ v. MovedOn floor plan s before v after) c
 
 -- cartplan_replace_row
-pub record RowReplacedCode (floor before : List ℕ) (cart : ℕ) (row : List ℕ) (c : Code) (after : List ℕ) : Type 0 where
-  pub verdict : Verdict
-  pub code : c ≡ codeOf verdict
-  pub promise : RowReplaced floor before cart row verdict after
+abbrev pub RowReplacedCode : List ℕ → List ℕ → ℕ → List ℕ → Code → List ℕ → Type 0
+RowReplacedCode floor before cart row c after = Coded (λ v. RowReplaced floor before cart row v after) c
