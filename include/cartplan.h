@@ -4,7 +4,8 @@
  * returns, nothing is allocated, and no call needs an earlier one. A refusal changes no byte of any buffer.
  *
  * What the caller answers for, since nothing can check it: each pointer is valid for its length, `places` is aligned as a
- * uint32_t, nothing else writes to the buffers during a call, and `out` overlaps no other buffer of the call.
+ * uint32_t, nothing else writes to the buffers during a call, and a buffer that is written to (`out`, the plan of a
+ * replacement) overlaps no other buffer of the call.
  */
 #ifndef CARTPLAN_H
 #define CARTPLAN_H
@@ -45,6 +46,24 @@ struct cartplan_verdict cartplan_write_plan(const uint8_t *floor, size_t floor_l
                                             uint16_t h, uint16_t l, uint16_t d,
                                             const uint8_t *rows, size_t rows_len,
                                             uint8_t *out, size_t out_len);
+
+/* Checks the moves of a plan, carts in order: 10 (cart, 0) where its first place is not its start, 11 (cart, step) for the
+ * lowest step that it leaves by no open lane, the move from step h - 1 to l included. The refusals of reading come first. */
+struct cartplan_verdict cartplan_check_moves(const uint8_t *floor, size_t floor_len,
+                                             const uint8_t *plan, size_t plan_len);
+
+/* Moves a plan on by s steps and writes the result to out: its place at counter v is the plan's at counter s + v. Bytes of
+ * out past the result stay. The refusals of reading come first, then 18 with the length needed, if out is shorter. */
+struct cartplan_verdict cartplan_move_on(const uint8_t *floor, size_t floor_len,
+                                         const uint8_t *plan, size_t plan_len,
+                                         uint16_t s, uint8_t *out, size_t out_len);
+
+/* Replaces cart's row in plan, and changes no other byte of it. Refused as cartplan_check_moves would, then 19 (cart, 0) for
+ * no such cart, 4 (0, 0) for a row that is not of h steps, 9 (cart, step) for the lowest step whose place is not on the
+ * floor, and 10 and 11 for the new row. Done is all zeros: the plan keeps its length. */
+struct cartplan_verdict cartplan_replace_row(const uint8_t *floor, size_t floor_len,
+                                             uint8_t *plan, size_t plan_len,
+                                             uint32_t cart, const uint8_t *row, size_t row_len);
 
 #ifdef __cplusplus
 }

@@ -2,6 +2,7 @@
 
 use std::fmt::{self, LowerHex};
 
+use crate::edits;
 use crate::library::{self, Buffer};
 use crate::random::Random;
 use crate::reference::{self, Answer, Floor, Plan, Verdict};
@@ -20,13 +21,17 @@ impl From<Vec<u8>> for Input {
     }
 }
 
-/// `room` is the length of the result buffer.
+/// A call with what it is given, in the order of the C interface; a `usize` is the length of the
+/// result buffer.
 #[derive(Clone, Debug)]
 pub enum Call {
     ReadFloor(Input),
     ReadPlan(Input, Input),
     WriteFloor(Floor, usize),
     WritePlan(Input, Plan, usize),
+    CheckMoves(Input, Input),
+    MoveOn(Input, Input, u16, usize),
+    ReplaceRow(Input, Input, u32, Vec<u8>),
 }
 
 /// A lent part of a larger piece of memory, with a copy of how it has to look after the call.
@@ -110,10 +115,16 @@ fn call_read_floor(random: &mut Random, floor: &Input) -> Outcome {
     }
 }
 
-fn call_read_plan(random: &mut Random, floor: &Input, plan: &Input) -> Outcome {
+/// Calls a function that only reads a floor and a plan.
+fn call_both(
+    random: &mut Random,
+    function: fn(Buffer<u8>, Buffer<u8>) -> Verdict,
+    floor: &Input,
+    plan: &Input,
+) -> Outcome {
     let mut floor = input(random, floor);
     let mut plan = input(random, plan);
-    let verdict = library::read_plan(floor.lend(), plan.lend());
+    let verdict = function(floor.lend(), plan.lend());
     let complaints = [floor.complaint("floor"), plan.complaint("plan")];
     Outcome {
         verdict,
@@ -162,6 +173,50 @@ fn call_write_plan(
     }
 }
 
+fn call_move_on(
+    random: &mut Random,
+    files: [&Input; 2],
+    s: u16,
+    room: usize,
+    written: &[u8],
+) -> Outcome {
+    let [mut floor, mut plan] = files.map(|file| input(random, file));
+    let mut out = result(random, room, written);
+    let verdict = library::move_on(floor.lend(), plan.lend(), s, out.lend());
+    let complaints = [
+        floor.complaint("floor"),
+        plan.complaint("plan"),
+        out.complaint("out"),
+    ];
+    Outcome {
+        verdict,
+        complaints: complaints.into_iter().flatten().collect(),
+    }
+}
+
+/// The plan is written in place, so it is the one to begin with `written`.
+fn call_replace_row(
+    random: &mut Random,
+    files: [&Input; 2],
+    cart: u32,
+    row: &[u8],
+    written: &[u8],
+) -> Outcome {
+    let [mut floor, mut plan] = files.map(|file| input(random, file));
+    let mut row = Lent::new(random, row, &[]);
+    plan.want_written(written);
+    let verdict = library::replace_row(floor.lend(), plan.lend(), cart, row.lend());
+    let complaints = [
+        floor.complaint("floor"),
+        plan.complaint("plan"),
+        row.complaint("row"),
+    ];
+    Outcome {
+        verdict,
+        complaints: complaints.into_iter().flatten().collect(),
+    }
+}
+
 impl Call {
     pub fn reference(&self) -> Answer {
         match self {
@@ -171,17 +226,31 @@ impl Call {
             Call::WritePlan(floor, numbers, room) => {
                 reference::answer_write_plan(&floor.bytes, numbers, *room)
             }
+            Call::CheckMoves(floor, plan) => edits::answer_check_moves(&floor.bytes, &plan.bytes),
+            Call::MoveOn(floor, plan, s, room) => {
+                edits::answer_move_on(&floor.bytes, &plan.bytes, *s, *room)
+            }
+            Call::ReplaceRow(floor, plan, cart, row) => {
+                edits::answer_replace_row(&floor.bytes, &plan.bytes, *cart, row)
+            }
         }
     }
 
-    /// Calls the library; `written` is what the result buffer has to begin with afterwards.
+    /// Calls the library; `written` is what the buffer written to has to begin with afterwards.
     pub fn library(&self, random: &mut Random, written: &[u8]) -> Outcome {
         match self {
             Call::ReadFloor(floor) => call_read_floor(random, floor),
-            Call::ReadPlan(floor, plan) => call_read_plan(random, floor, plan),
+            Call::ReadPlan(floor, plan) => call_both(random, library::read_plan, floor, plan),
             Call::WriteFloor(numbers, room) => call_write_floor(random, numbers, *room, written),
             Call::WritePlan(floor, numbers, room) => {
                 call_write_plan(random, floor, numbers, *room, written)
+            }
+            Call::CheckMoves(floor, plan) => call_both(random, library::check_moves, floor, plan),
+            Call::MoveOn(floor, plan, s, room) => {
+                call_move_on(random, [floor, plan], *s, *room, written)
+            }
+            Call::ReplaceRow(floor, plan, cart, row) => {
+                call_replace_row(random, [floor, plan], *cart, row, written)
             }
         }
     }
@@ -207,13 +276,9 @@ impl fmt::Display for Call {
                 write!(f, "read plan {plan}\n  with floor {floor}")
             }
             Call::WriteFloor(numbers, room) => {
-                let places: Vec<u8> = numbers
-                    .places
-                    .iter()
-                    .flat_map(|p| p.to_le_bytes())
-                    .collect();
-                let (places, lanes) = (hex(&places), hex(&numbers.lanes));
-                let carts = hex(&numbers.carts);
+                let places = numbers.places.iter().flat_map(|p| p.to_le_bytes());
+                let places = hex(&places.collect::<Vec<u8>>());
+                let (lanes, carts) = (hex(&numbers.lanes), hex(&numbers.carts));
                 write!(f, "write floor, room {room}\n  places {places}\n")?;
                 write!(f, "  lanes {lanes}\n  carts {carts}")
             }
@@ -221,6 +286,20 @@ impl fmt::Display for Call {
                 let (floor, rows) = (hex(&floor.bytes), hex(rows));
                 write!(f, "write plan, room {room}, h {h}, l {l}, d {d}\n")?;
                 write!(f, "  rows {rows}\n  with floor {floor}")
+            }
+            Call::CheckMoves(floor, plan) => {
+                let (floor, plan) = (hex(&floor.bytes), hex(&plan.bytes));
+                write!(f, "check moves of plan {plan}\n  with floor {floor}")
+            }
+            Call::MoveOn(floor, plan, s, room) => {
+                let (floor, plan) = (hex(&floor.bytes), hex(&plan.bytes));
+                write!(f, "move on by {s}, room {room}\n  plan {plan}\n")?;
+                write!(f, "  with floor {floor}")
+            }
+            Call::ReplaceRow(floor, plan, cart, row) => {
+                let (floor, plan, row) = (hex(&floor.bytes), hex(&plan.bytes), hex(row));
+                write!(f, "replace row of cart {cart}\n  row {row}\n")?;
+                write!(f, "  plan {plan}\n  with floor {floor}")
             }
         }
     }

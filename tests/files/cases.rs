@@ -1,4 +1,4 @@
-//! Random cases: which function is called, and with what.
+//! Random cases of reading and writing: which function is called, and with what.
 
 use crate::call::{Call, Input};
 use crate::damage;
@@ -24,7 +24,7 @@ fn valid_floor(random: &mut Random) -> (Floor, Vec<u8>) {
 }
 
 /// A file made of a valid one: as it is, damaged, of greatest length, or of chance records.
-fn variant(random: &mut Random, file: Vec<u8>, places: usize) -> (&'static str, Input) {
+pub fn variant(random: &mut Random, file: Vec<u8>, places: usize) -> (&'static str, Input) {
     match random.below(200) {
         0 => ("longest", damage::longest(random, &file)),
         1..=9 => ("chance records", damage::soup(random)),
@@ -58,7 +58,7 @@ fn read_plan(random: &mut Random) -> (&'static str, Call) {
 }
 
 /// The length that a write needs, if it isn't refused for its numbers.
-fn needed(call: Call) -> Option<usize> {
+pub fn needed(call: Call) -> Option<usize> {
     let answer = call.reference();
     (answer.verdict[1] == 0).then_some(answer.written.len())
 }

@@ -1,4 +1,4 @@
-//! The library's four functions, declared by hand after include/cartplan.h, behind safe functions.
+//! The library's seven functions, declared by hand after include/cartplan.h, behind safe functions.
 //!
 //! Inputs too are lent as memory of our own that may change: a library that writes to an input is
 //! then found by comparing, and the compiler may not assume that it can't happen.
@@ -44,6 +44,30 @@ extern "C" {
         rows_len: usize,
         out: *mut u8,
         out_len: usize,
+    ) -> CVerdict;
+    fn cartplan_check_moves(
+        floor: *const u8,
+        floor_len: usize,
+        plan: *const u8,
+        plan_len: usize,
+    ) -> CVerdict;
+    fn cartplan_move_on(
+        floor: *const u8,
+        floor_len: usize,
+        plan: *const u8,
+        plan_len: usize,
+        s: u16,
+        out: *mut u8,
+        out_len: usize,
+    ) -> CVerdict;
+    fn cartplan_replace_row(
+        floor: *const u8,
+        floor_len: usize,
+        plan: *mut u8,
+        plan_len: usize,
+        cart: u32,
+        row: *const u8,
+        row_len: usize,
     ) -> CVerdict;
 }
 
@@ -113,4 +137,28 @@ pub fn write_plan(floor: Buffer<u8>, head: [u16; 3], rows: Buffer<u8>, out: Buff
     let (out, out_len) = parts(out);
     // SAFETY: as above.
     numbers(unsafe { cartplan_write_plan(floor, floor_len, h, l, d, rows, rows_len, out, out_len) })
+}
+
+pub fn check_moves(floor: Buffer<u8>, plan: Buffer<u8>) -> Verdict {
+    let (floor, floor_len) = parts(floor);
+    let (plan, plan_len) = parts(plan);
+    // SAFETY: as above.
+    numbers(unsafe { cartplan_check_moves(floor, floor_len, plan, plan_len) })
+}
+
+pub fn move_on(floor: Buffer<u8>, plan: Buffer<u8>, s: u16, out: Buffer<u8>) -> Verdict {
+    let (floor, floor_len) = parts(floor);
+    let (plan, plan_len) = parts(plan);
+    let (out, out_len) = parts(out);
+    // SAFETY: as above.
+    numbers(unsafe { cartplan_move_on(floor, floor_len, plan, plan_len, s, out, out_len) })
+}
+
+/// The plan is written in place.
+pub fn replace_row(floor: Buffer<u8>, plan: Buffer<u8>, cart: u32, row: Buffer<u8>) -> Verdict {
+    let (floor, floor_len) = parts(floor);
+    let (plan, plan_len) = parts(plan);
+    let (row, row_len) = parts(row);
+    // SAFETY: as above.
+    numbers(unsafe { cartplan_replace_row(floor, floor_len, plan, plan_len, cart, row, row_len) })
 }

@@ -4,13 +4,16 @@
 use crate::call::{Call, Input};
 use crate::reference::{Floor, Plan, Verdict};
 
+/// `written` is the file that the call leaves behind, where that too is written by hand.
+#[derive(Clone)]
 pub struct Limit {
     pub name: &'static str,
     pub call: Call,
     pub verdict: Verdict,
+    pub written: Option<Vec<u8>>,
 }
 
-const DONE: Verdict = [0; 4];
+pub const DONE: Verdict = [0; 4];
 
 /// Two places, four lanes open to all, two carts of class 0 from place 0.
 pub fn paper_floor() -> Vec<u8> {
@@ -52,7 +55,7 @@ fn plan_numbers(h: u16, l: u16, d: u16, rows: &[u8]) -> Plan {
 
 const ROWS: [u8; 8] = [0, 1, 1, 0, 0, 0, 1, 1];
 
-fn record(kind: u8, body: &[u8]) -> Vec<u8> {
+pub fn record(kind: u8, body: &[u8]) -> Vec<u8> {
     let [low, high] = (body.len() as u16).to_le_bytes();
     [&[low, high, kind, 0], body].concat()
 }
@@ -77,11 +80,12 @@ fn counted_numbers(places: usize, lanes: usize, carts: usize) -> Floor {
     }
 }
 
-fn limit(name: &'static str, call: Call, verdict: Verdict) -> Limit {
+pub fn limit(name: &'static str, call: Call, verdict: Verdict) -> Limit {
     Limit {
         name,
         call,
         verdict,
+        written: None,
     }
 }
 

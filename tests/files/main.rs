@@ -1,15 +1,22 @@
-//! Reads and writes floors and plans through the C interface, against a second reader and writer.
+//! Reads and writes floors and plans, checks moves, moves plans on and replaces rows through the C
+//! interface, against a second writing of each of these.
 //!
-//! Arguments: a seed, then a number of cases; both may be left out.
+//! Arguments: a seed, then a number of cases; both may be left out. Half of the random cases read
+//! and write files, the others are of moves and rows.
 
+mod after;
 mod call;
 mod cases;
 mod damage;
+mod edit_cases;
+mod edit_limits;
+mod edits;
 mod library;
 mod limits;
 mod numbers;
 mod random;
 mod reference;
+mod routes;
 mod table;
 mod wide;
 
@@ -17,12 +24,13 @@ use std::env;
 use std::process::ExitCode;
 
 use call::{Call, Input};
+use limits::Limit;
 use random::Random;
 use reference::Answer;
 use table::Table;
 
 const SEED: u64 = 20_020_917;
-const CASES: u64 = 240_000;
+const CASES: u64 = 520_000;
 
 /// More differences than this are only counted.
 const SHOWN: usize = 10;
@@ -80,7 +88,8 @@ impl Harness {
         answer
     }
 
-    /// A whole case: the call itself, then what is written is read and what is read is written.
+    /// A whole case: the call itself, then what is written is read and what is read is written; a
+    /// plan that was changed is looked at step by step.
     fn run(&mut self, call: &Call) -> Answer {
         let answer = self.compare(call);
         if answer.verdict[1] == 0 {
@@ -90,6 +99,13 @@ impl Harness {
                 Call::WriteFloor(numbers, _) => self.read_floor_back(numbers, &answer.written),
                 Call::WritePlan(floor, numbers, _) => {
                     self.read_plan_back(floor, numbers, &answer.written)
+                }
+                Call::CheckMoves(..) => (),
+                Call::MoveOn(floor, plan, s, _) => {
+                    self.follow_both(floor, plan, *s, &answer.written)
+                }
+                Call::ReplaceRow(floor, plan, cart, row) => {
+                    self.look_at_row(floor, plan, *cart, row, &answer.written)
                 }
             }
         }
@@ -137,21 +153,28 @@ impl Harness {
         }
     }
 
-    /// The cases written by hand: the reference, too, has to give the verdict written there.
-    fn run_limits(&mut self) -> u64 {
-        let limits = limits::all();
-        let count = limits.len() as u64;
-        for (case, limit) in (0..).zip(limits) {
-            self.begin(case);
-            self.label = limit.name;
-            let answer = self.run(&limit.call);
-            if answer.verdict != limit.verdict {
-                let (ours, due) = (answer.verdict, limit.verdict);
-                let what = format!("reference {ours:?}, the paper says {due:?}");
-                self.differ(&what, &limit.call.to_string());
-            }
+    /// A case written by hand: the reference, too, has to give what is written there.
+    fn run_limit(&mut self, limit: &Limit) {
+        self.label = limit.name;
+        let answer = self.run(&limit.call);
+        if answer.verdict != limit.verdict {
+            let (ours, due) = (answer.verdict, limit.verdict);
+            let what = format!("reference {ours:?}, the paper says {due:?}");
+            self.differ(&what, &limit.call.to_string());
         }
-        count
+        if let Some(due) = &limit.written {
+            let what = "the reference leaves another file than the paper";
+            self.expect(answer.written == *due, what, &answer.written);
+        }
+    }
+
+    fn run_limits(&mut self) -> u64 {
+        let limits = [limits::all(), edit_limits::all()].concat();
+        for (case, limit) in (0..).zip(&limits) {
+            self.begin(case);
+            self.run_limit(limit);
+        }
+        limits.len() as u64
     }
 
     fn run_wide(&mut self, case: u64) {
@@ -164,7 +187,10 @@ impl Harness {
 
     fn run_random(&mut self, case: u64) {
         self.begin(case);
-        let (label, call) = cases::any(&mut self.random);
+        let (label, call) = match case % 2 {
+            0 => cases::any(&mut self.random),
+            _ => edit_cases::any(&mut self.random),
+        };
         self.label = label;
         self.run(&call);
     }

@@ -51,7 +51,7 @@ impl Random {
 }
 
 /// Mostly small, so that many cases fit into a run; now and then up to the limit, or the limit.
-fn size(random: &mut Random, least: usize, limit: usize) -> usize {
+pub fn size(random: &mut Random, least: usize, limit: usize) -> usize {
     match random.below(100) {
         0..=1 => limit,
         2..=4 => random.between(least, limit),
@@ -61,7 +61,7 @@ fn size(random: &mut Random, least: usize, limit: usize) -> usize {
 }
 
 /// A place of the floor, often the first or the last.
-fn place(random: &mut Random, places: usize) -> u8 {
+pub fn place(random: &mut Random, places: usize) -> u8 {
     let place = match random.below(4) {
         0 => 0,
         1 => places - 1,

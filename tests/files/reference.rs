@@ -8,8 +8,8 @@ pub const MOST_CARTS: usize = 32;
 pub const MOST_STEPS: u16 = 64;
 pub const MOST_DRIFT: u16 = 16;
 
-const FLOOR: u32 = 1;
-const PLAN: u32 = 2;
+pub const FLOOR: u32 = 1;
+pub const PLAN: u32 = 2;
 
 /// A floor's numbers as the C interface takes them: three bytes a lane, two bytes a cart.
 #[derive(Clone, Default, PartialEq, Eq, Debug)]
@@ -28,17 +28,19 @@ pub struct Plan {
     pub rows: Vec<u8>,
 }
 
-/// A refusal of a file. Its second further number is always 0.
+/// A refusal and its two further numbers; for a file these are an offset and 0.
 #[derive(Clone, Copy, PartialEq, Eq, Debug)]
 pub struct Refusal {
     pub number: u32,
     pub first: usize,
+    pub second: usize,
 }
 
 /// The four numbers of a verdict: about, number, first, second.
 pub type Verdict = [u32; 4];
 
-/// What a call answers, and the bytes that it writes to the start of its result buffer.
+/// What a call answers, and the bytes with which the buffer that it writes to begins afterwards;
+/// the others stay.
 #[derive(Clone, PartialEq, Eq, Debug)]
 pub struct Answer {
     pub verdict: Verdict,
@@ -50,12 +52,21 @@ struct Record<'a> {
     body: &'a [u8],
 }
 
-fn refuse_if(wrong: bool, number: u32, first: usize) -> Result<(), Refusal> {
+/// A refusal with these further numbers.
+pub fn refuse_with(wrong: bool, number: u32, first: usize, second: usize) -> Result<(), Refusal> {
     if wrong {
-        Err(Refusal { number, first })
+        Err(Refusal {
+            number,
+            first,
+            second,
+        })
     } else {
         Ok(())
     }
+}
+
+fn refuse_if(wrong: bool, number: u32, first: usize) -> Result<(), Refusal> {
+    refuse_with(wrong, number, first, 0)
 }
 
 fn two_bytes(bytes: &[u8], at: usize) -> u16 {
@@ -145,6 +156,7 @@ pub fn read_plan(floor: &Floor, file: &[u8]) -> Result<Plan, Refusal> {
     finished.ok_or(Refusal {
         number: 7,
         first: file.len(),
+        second: 0,
     })
 }
 
@@ -204,15 +216,16 @@ pub fn plan_file(plan: &Plan) -> Result<Vec<u8>, Refusal> {
     laid_out(&records)
 }
 
-fn refused(about: u32, refusal: Refusal) -> Answer {
-    let first = u32::try_from(refusal.first).expect("offsets and lengths of files are small");
+pub fn refused(about: u32, refusal: Refusal) -> Answer {
+    let further = |number: usize| u32::try_from(number).expect("further numbers are small");
+    let (first, second) = (further(refusal.first), further(refusal.second));
     Answer {
-        verdict: [about, refusal.number, first, 0],
+        verdict: [about, refusal.number, first, second],
         written: Vec::new(),
     }
 }
 
-fn accepted() -> Answer {
+pub fn accepted() -> Answer {
     Answer {
         verdict: [0; 4],
         written: Vec::new(),
@@ -220,15 +233,22 @@ fn accepted() -> Answer {
 }
 
 /// The end of every write: 18 if the result is longer than the room for it.
-fn done(about: u32, written: Vec<u8>, room: usize) -> Answer {
-    let first = written.len();
-    if first > room {
-        return refused(about, Refusal { number: 18, first });
+pub fn done(about: u32, written: Vec<u8>, room: usize) -> Answer {
+    let length = written.len();
+    if let Err(refusal) = refuse_if(length > room, 18, length) {
+        return refused(about, refusal);
     }
     Answer {
-        verdict: [0, 0, first as u32, 0],
+        verdict: [0, 0, length as u32, 0],
         written,
     }
+}
+
+/// A floor and a plan for it, or the refusal of either, the floor's first.
+pub fn read_both(floor: &[u8], plan: &[u8]) -> Result<(Floor, Plan), Answer> {
+    let floor = read_floor(floor).map_err(|refusal| refused(FLOOR, refusal))?;
+    let plan = read_plan(&floor, plan).map_err(|refusal| refused(PLAN, refusal))?;
+    Ok((floor, plan))
 }
 
 pub fn answer_read_floor(floor: &[u8]) -> Answer {
@@ -239,10 +259,9 @@ pub fn answer_read_floor(floor: &[u8]) -> Answer {
 }
 
 pub fn answer_read_plan(floor: &[u8], plan: &[u8]) -> Answer {
-    match read_floor(floor).map(|floor| read_plan(&floor, plan)) {
-        Ok(Ok(_)) => accepted(),
-        Ok(Err(refusal)) => refused(PLAN, refusal),
-        Err(refusal) => refused(FLOOR, refusal),
+    match read_both(floor, plan) {
+        Ok(_) => accepted(),
+        Err(answer) => answer,
     }
 }
 

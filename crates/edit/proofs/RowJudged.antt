@@ -55,14 +55,16 @@ module _ (floor plan : List ℕ) (c : ℕ) (row : List ℕ) (r : PlanRead) where
     by b q = ap (λ (x : Outcome). x .out) outcome ∙ ap (λ (t : Bool). cond t (stored plan (rowAt (n .head .steps) c) row) plan) q
 
     -- the moves and the row are judged
-    pub judged : Judged floor plan c row (record { verdict = v; at = rowAt (r .plan .head .steps) c })
-    judged = record {
+    pub judged : (at : ℕ) → at ≡ rowAt (r .plan .head .steps) c → Judged floor plan c row (record { verdict = v; at = at })
+    judged at is = record {
       answer = ap (λ (x : Outcome). x .answer) (sym outcome);
       kept = by false;
-      changed = λ z. by true z ∙ ap (λ (h : Head). stored plan (rowAt (h .steps) c) row) (sym (held-head floor plan r w));
+      changed = λ z. by true z ∙ ap (λ (k : ℕ). stored plan k row) (sym here);
       inside = λ z.
           let s = replaces floor (r .floor) n c row (sym same ∙ accepted-is v z) in
           let i = stored-inside floor (r .floor) n c row (w .valid) s in
-          let a : rowAt (r .plan .head .steps) c ≡ rowAt (n .head .steps) c = ap (λ (h : Head). rowAt (h .steps) c) (held-head floor plan r w) in
-          omega (arith, ap length (w .writes-back));
+          omega (arith, here, ap length (w .writes-back));
     }
+      where
+        here : at ≡ rowAt (n .head .steps) c
+        here = is ∙ ap (λ (h : Head). rowAt (h .steps) c) (held-head floor plan r w)

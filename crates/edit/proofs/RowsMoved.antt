@@ -1,6 +1,6 @@
 -- Rows moved on, stored one behind the other: what holds before each turn.
 use Prim.Native.Nat.{ℕ, zero, suc, _+_, _-_, _*_, _%_, _≤_, _<_}
-use native.Mathlib.Nat.{suc-mul, mul-le-mul}
+use native.Mathlib.Nat.{mod-lt, suc-mul, mul-le-mul}
 use native.Mathlib.Omega.{arith}
 use native.Mathlib.Numerals.{add-one}
 use mathlib.Core.Path.{_≡_, refl, sym, ap, ap₂, subst, _∙_}
@@ -31,6 +31,13 @@ turned-stored lap out k at room =
     ap (λ (x : List ℕ). stored (stored out at x) (at + (length lap - k)) (take k lap)) (rest lap k)
     ∙ ap (λ (n : ℕ). stored (stored out at (drop k lap)) (at + n) (take k lap)) (sym (length-drop k lap))
     ∙ stored-more out at (drop k lap) (take k lap) (omega (arith, length-drop k lap))
+
+-- the lap's length, and a turn within it
+pub lap-length : (row : List ℕ) (l : ℕ) → length (take (length row - l) (drop l row)) ≡ length row - l
+lap-length row l = ap length (rest row l) ∙ length-drop l row
+
+pub turn-below : (row : List ℕ) (l n : ℕ) → l < length row → n % (length row - l) < length (take (length row - l) (drop l row))
+turn-below row l n p = omega (arith, lap-length row l, mod-lt n {m = length row - l} (omega arith))
 
 module _ (row : List ℕ) (l s : ℕ) where
   -- the part that is copied, or the lap that is turned

@@ -1,15 +1,14 @@
-use Rattle.plan.specs.Read.{held-length}
-use Rattle.moves.specs.Unending.{promise}
-use Rattle.moves.specs.Carts.{movesVerdict, judgedCarts, checkedMoves}
-use Rattle.plan.specs.Read.{accepts-if, after-accepted, after-refused, held-numbers, held-range}
-use Rattle.plan.specs.Promises.{Accepts}
-use Rattle.plan.specs.Plan.{Numbers}
-use Rattle.floor.specs.Located.{accepts}
-use Rattle.refusal.specs.Faults.{not-is}
+use native.Mathlib.Omega.{arith}
 use mathlib.Core.Bool.{true, false}
 use mathlib.Core.Path.{sym, ap, _∙_}
-use native.Mathlib.Omega.{arith}
 use borrow.Author.Needs.{needs}
+use Rattle.refusal.specs.Faults.{not-is}
+use Rattle.floor.specs.Located.{accepts}
+use Rattle.plan.specs.Read.{held-length, accepts-if, after-accepted, after-refused, held-numbers, held-range}
+use Rattle.plan.specs.Promises.{Accepts}
+use Rattle.plan.specs.Plan.{Numbers}
+use Rattle.moves.specs.Unending.{promise}
+use Rattle.moves.specs.Carts.{movesVerdict, judgedCarts, checkedMoves}
 use Rattle.moves.proofs.check.Statement.{statement}
 use Rattle.moves.proofs.check.Tie as tie
 

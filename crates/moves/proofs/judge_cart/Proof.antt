@@ -1,14 +1,13 @@
 use Prim.Native.Nat.{ℕ, _<_, _+_, _*_}
-use Rattle.moves.specs.CartBytes.{class-at, start-at, class-low}
-use Rattle.moves.specs.Carts.{moveVerdict}
+use native.Mathlib.Omega.{arith}
+use mathlib.Core.Path.{refl, sym, ap, ap₂, subst, _∙_}
+use lib.ListN.{length}
+use borrow.Author.Needs.{needs}
 use Rattle.row.specs.Unending.{refused-step}
 use Rattle.row.specs.Moves.{lanesIn, judgedMoves}
 use Rattle.row.specs.FloorBytes.{file-length}
-use mathlib.Core.Path.{refl, sym, ap, ap₂, subst, _∙_}
-use lib.ListN.{length}
-use Prim.Native.Nat.{ℕ, _<_}
-use native.Mathlib.Omega.{arith}
-use borrow.Author.Needs.{needs}
+use Rattle.moves.specs.CartBytes.{class-at, start-at, class-low}
+use Rattle.moves.specs.Carts.{moveVerdict}
 use Rattle.moves.proofs.judge_cart.Statement.{statement}
 use Rattle.moves.proofs.judge_cart.Tie as tie
 

@@ -1,12 +1,11 @@
-use Rattle.plan.specs.After.{numbersIn}
-use Rattle.moves.proofs.Judging.{begun}
-use Rattle.moves.specs.Judged.{carts-passed}
-use Rattle.plan.specs.Read.{part-length}
-use Rattle.moves.proofs.Judging.{Judging, refused, onward}
-use borrow.Author.Needs.{needs}
-use mathlib.Core.Path.{sym, _∙_}
 use Prim.Native.Nat.{_-_}
 use native.Mathlib.Omega.{arith}
+use mathlib.Core.Path.{sym, _∙_}
+use borrow.Author.Needs.{needs}
+use Rattle.plan.specs.After.{numbersIn}
+use Rattle.plan.specs.Read.{part-length}
+use Rattle.moves.specs.Judged.{carts-passed}
+use Rattle.moves.proofs.Judging.{begun, Judging, refused, onward}
 use Rattle.moves.proofs.judge_carts.Statement.{statement}
 use Rattle.moves.proofs.judge_carts.Tie as tie
 
@@ -41,7 +40,7 @@ judge-cart-requires c κs =
     let p = c .before .before .before .before .before .before .pre in
     let a = c .before .before .before .before .before .before .args in
     let e = part-length (a .h .steps) (a .block .now) (c .before .before .before .loop .c) (omega (arith, c .before .if1 .taken, p .0 .valid .few-carts)) (p .1 .1 .1) (p .1 .1 .2) in
-    (p .0, (p .1 .0, (c .before .if1 .taken, omega (arith, p .1 .1 .0, e), omega (arith, p .1 .1 .1, e))))
+    (p .0, (p .1 .0, (omega (arith, c .before .if1 .taken), omega (arith, p .1 .1 .0, e), omega (arith, p .1 .1 .1, e))))
 
 accepts-requires : tie.Need-accepts-requires Inv-loop μ-loop
 accepts-requires c κs = search needs
@@ -50,7 +49,7 @@ returns : tie.Need-returns Inv-loop μ-loop
 returns c =
     let p = c .before .before .before .before .before .before .before .before .before .pre in
     let a = c .before .before .before .before .before .before .before .before .before .args in
-    refused (a .f .carts) (a .h) (a .block .now) (c .before .before .before .before .before .before .loop .c) (p .0 .valid .few-carts) (c .before .before .before .before .if1 .taken) (p .1 .1 .1) (p .1 .1 .2) (a .s .now) (c .before .before .before .before .before .before .loop .inv)
+    refused (a .f .carts) (a .h) (a .block .now) (c .before .before .before .before .before .before .loop .c) (p .0 .valid .few-carts) (omega (arith, c .before .before .before .before .if1 .taken)) (p .1 .1 .1) (p .1 .1 .2) (a .s .now) (c .before .before .before .before .before .before .loop .inv)
     (c .before .before .judge-cart .result) (c .before .before .judge-cart .ensures) (c .before .accepts .result) (c .before .accepts .ensures) (c .if2 .taken)
 
 add-c : tie.Need-add-c Inv-loop μ-loop
@@ -63,7 +62,7 @@ loop-again : tie.Need-loop-again Inv-loop μ-loop
 loop-again c =
     let p = c .before .before .before .before .before .before .before .before .before .pre in
     let a = c .before .before .before .before .before .before .before .before .before .args in
-    onward (a .f .carts) (a .h) (a .block .now) (c .before .before .before .before .before .before .loop .c) (p .0 .valid .few-carts) (c .before .before .before .before .if1 .taken) (p .1 .1 .1) (p .1 .1 .2) (a .s .now) (c .before .before .before .before .before .before .loop .inv)
+    onward (a .f .carts) (a .h) (a .block .now) (c .before .before .before .before .before .before .loop .c) (p .0 .valid .few-carts) (omega (arith, c .before .before .before .before .if1 .taken)) (p .1 .1 .1) (p .1 .1 .2) (a .s .now) (c .before .before .before .before .before .before .loop .inv)
     (c .before .before .judge-cart .result) (c .before .before .judge-cart .ensures) (c .before .accepts .result) (c .before .accepts .ensures) (c .if2 .left)
 
 returns-2 : tie.Need-returns-2 Inv-loop μ-loop

@@ -1,8 +1,8 @@
+use native.Mathlib.Omega.{arith}
+use mathlib.Core.Path.{sym, ap, _∙_}
+use borrow.Author.Needs.{needs}
 use Rattle.refusal.specs.declared.Verdict.the-variants.{Plan as AboutPlan}
 use Rattle.moves.specs.Carts.{moveVerdict}
-use mathlib.Core.Path.{sym, ap, _∙_}
-use native.Mathlib.Omega.{arith}
-use borrow.Author.Needs.{needs}
 use Rattle.moves.proofs.verdict_of.Statement.{statement}
 use Rattle.moves.proofs.verdict_of.Tie as tie
 
@@ -25,7 +25,7 @@ cast-refuse-2 : tie.Need-cast-refuse-2
 cast-refuse-2 c = search needs
 
 cast-refuse-3 : tie.Need-cast-refuse-3
-cast-refuse-3 c = omega (arith, c .before .before .before .pre .1 (c .before .a .given .0 .0) (c .before .a .given .1))
+cast-refuse-3 c = omega (arith, c .before .before .before .pre .0, c .before .before .before .pre .1 (c .before .a .given .0 .0) (c .before .a .given .1))
 
 refuse-requires-2 : tie.Need-refuse-requires-2
 refuse-requires-2 c κs = search needs

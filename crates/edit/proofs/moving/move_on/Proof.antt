@@ -1,20 +1,20 @@
-use Rattle.edit.specs.MovedReads.{promise}
-use Rattle.edit.specs.Moved.{moved, moveOn}
+use Prim.Native.Nat.{ℕ}
+use native.Mathlib.Omega.{arith}
+use mathlib.Core.List.{List}
+use mathlib.Core.Bool.{true, false}
+use mathlib.Core.Path.{refl, sym, ap, subst, _∙_}
+use borrow.Author.Needs.{needs}
+use Rattle.refusal.specs.declared.Verdict.the-variants.{Plan as AboutPlan}
+use Rattle.refusal.specs.Faults.{not-is}
+use Rattle.refusal.specs.Outcome.{Outcome, Gives, unchanged, written}
+use Rattle.floor.specs.declared.Floor.{Floor}
+use Rattle.floor.specs.Located.{accepts}
 use Rattle.plan.specs.Read.{accepts-if, after-accepted, after-refused, held-numbers, held-range, held-length}
 use Rattle.plan.specs.Promises.{Accepts}
 use Rattle.plan.specs.Numbers.{planFile}
 use Rattle.plan.specs.Plan.{Numbers}
-use Rattle.floor.specs.declared.Floor.{Floor}
-use Rattle.floor.specs.Located.{accepts}
-use Rattle.refusal.specs.declared.Verdict.the-variants.{Plan as AboutPlan}
-use Rattle.refusal.specs.Faults.{not-is}
-use Rattle.refusal.specs.Outcome.{Outcome, Gives, unchanged, written}
-use mathlib.Core.List.{List}
-use mathlib.Core.Bool.{true, false}
-use mathlib.Core.Path.{refl, sym, ap, subst, _∙_}
-use Prim.Native.Nat.{ℕ}
-use native.Mathlib.Omega.{arith}
-use borrow.Author.Needs.{needs}
+use Rattle.edit.specs.MovedReads.{promise}
+use Rattle.edit.specs.Moved.{moved, moveOn}
 use Rattle.edit.proofs.moving.move_on.Statement.{statement}
 use Rattle.edit.proofs.moving.move_on.Tie as tie
 

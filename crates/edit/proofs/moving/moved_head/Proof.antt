@@ -1,7 +1,7 @@
-use Rattle.edit.specs.Later.{head-early, head-late}
-use mathlib.Core.Path.{sym}
 use native.Mathlib.Omega.{arith}
+use mathlib.Core.Path.{sym}
 use borrow.Author.Needs.{needs}
+use Rattle.edit.specs.Later.{head-early, head-late}
 use Rattle.edit.proofs.moving.moved_head.Statement.{statement}
 use Rattle.edit.proofs.moving.moved_head.Tie as tie
 

@@ -1,12 +1,11 @@
-use Rattle.edit.proofs.RowsMoved.{rest, early, late}
-use Rattle.edit.specs.Later.{length-turned}
-use Rattle.record.specs.Buffer.{stored}
-use lib.ListN.{length, take, drop, length-drop}
-use mathlib.Core.Path.{_≡_, ap, _∙_}
-use Prim.Native.Nat.{_-_, _%_}
-use native.Mathlib.Nat.{mod-lt}
+use Prim.Native.Nat.{_-_}
 use native.Mathlib.Omega.{arith}
+use mathlib.Core.Path.{ap, _∙_}
+use lib.ListN.{length, take, drop}
 use borrow.Author.Needs.{needs}
+use Rattle.record.specs.Buffer.{stored}
+use Rattle.edit.specs.Later.{length-turned}
+use Rattle.edit.proofs.RowsMoved.{turn-below, early, late}
 use Rattle.edit.proofs.moving.moved_row.Statement.{statement}
 use Rattle.edit.proofs.moving.moved_row.Tie as tie
 
@@ -54,11 +53,10 @@ part-put-turned-end c = search needs
 put-turned-requires : tie.Need-put-turned-requires
 put-turned-requires c κs =
     let a = c .before .before .before .before .before .args in
-    let m = mod-lt (a .s - a .stem) {m = length (a .row .now) - a .stem} (omega (arith, c .before .before .before .before .before .pre .0)) in
-    let n : length (take (length (a .row .now) - a .stem) (drop (a .stem) (a .row .now))) ≡ length (a .row .now) - a .stem = ap length (rest (a .row .now) (a .stem)) ∙ length-drop (a .stem) (a .row .now) in
+    let p = c .before .before .before .before .before .pre .0 in
     let e = ap length (late (a .row .now) (a .stem) (a .s) (omega (arith, c .before .before .if1 .left))) in
-    let t = length-turned (take (length (a .row .now) - a .stem) (drop (a .stem) (a .row .now))) ((a .s - a .stem) % (length (a .row .now) - a .stem)) (omega arith) in
-    (omega arith, omega (arith, c .before .before .before .before .before .pre .1))
+    let t = length-turned (take (length (a .row .now) - a .stem) (drop (a .stem) (a .row .now))) _ (turn-below (a .row .now) (a .stem) (a .s - a .stem) p) in
+    (turn-below (a .row .now) (a .stem) _ p, omega (arith, c .before .before .before .before .before .pre .1, e, t))
 
 same-length-2 : tie.Need-same-length-2
 same-length-2 c = search needs

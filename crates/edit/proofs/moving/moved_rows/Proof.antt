@@ -1,10 +1,10 @@
-use Rattle.edit.proofs.RowsMoved.{Moving, movedIn, begun, one-row, room, length-rows, onward, front}
-use Rattle.plan.specs.Read.{part-length}
-use lib.ListN.{take}
-use mathlib.Core.List.{List}
-use mathlib.Core.Path.{_≡_, sym, subst}
 use Prim.Native.Nat.{ℕ, _+_, _-_, _*_, _<_}
 use native.Mathlib.Omega.{arith}
+use mathlib.Core.List.{List}
+use mathlib.Core.Path.{_≡_, sym, subst}
+use lib.ListN.{take}
+use Rattle.plan.specs.Read.{part-length}
+use Rattle.edit.proofs.RowsMoved.{Moving, movedIn, begun, one-row, room, length-rows, onward, front}
 use Rattle.edit.proofs.moving.moved_rows.Statement.{statement}
 use Rattle.edit.proofs.moving.moved_rows.Tie as tie
 

@@ -1,15 +1,15 @@
-use Rattle.edit.proofs.RowsMoved.{rows-fit, same-file, file-fits}
-use Rattle.edit.specs.MovedReads.{head-moved}
-use Rattle.plan.specs.declared.Head.{Head}
-use Rattle.plan.specs.Valid.{InRange}
-use Rattle.refusal.specs.declared.Verdict.the-variants.{Plan as AboutPlan}
-use Rattle.refusal.specs.Outcome.{Gives, written}
-use lib.ListN.{length}
-use mathlib.Core.List.{List}
-use mathlib.Core.Path.{sym, ap, subst}
 use Prim.Native.Nat.{ℕ}
 use native.Mathlib.Omega.{arith}
+use mathlib.Core.List.{List}
+use mathlib.Core.Path.{sym, ap, subst}
+use lib.ListN.{length}
 use borrow.Author.Needs.{needs}
+use Rattle.refusal.specs.declared.Verdict.the-variants.{Plan as AboutPlan}
+use Rattle.refusal.specs.Outcome.{Gives, written}
+use Rattle.plan.specs.declared.Head.{Head}
+use Rattle.plan.specs.Valid.{InRange}
+use Rattle.edit.specs.MovedReads.{head-moved}
+use Rattle.edit.proofs.RowsMoved.{rows-fit, same-file, file-fits}
 use Rattle.edit.proofs.moving.put_moved.Statement.{statement}
 use Rattle.edit.proofs.moving.put_moved.Tie as tie
 

@@ -1,14 +1,13 @@
-use lib.ListN.{take, drop}
-use mathlib.Core.List.{List}
 use Prim.Native.Nat.{ℕ, _+_, _-_}
-use Rattle.edit.proofs.RowsMoved.{rest, turned-stored}
+use native.Mathlib.Omega.{arith}
+use mathlib.Core.List.{List}
+use mathlib.Core.Path.{_≡_, sym, ap, _∙_}
+use lib.ListN.{take, drop, length, length-drop}
+use lib.Seq.{length-take-le}
+use borrow.Author.Needs.{needs}
 use Rattle.record.specs.Stored.{length-stored}
 use Rattle.record.specs.Buffer.{stored}
-use lib.Seq.{length-take-le}
-use lib.ListN.{length, length-drop}
-use mathlib.Core.Path.{_≡_, sym, ap, _∙_}
-use native.Mathlib.Omega.{arith}
-use borrow.Author.Needs.{needs}
+use Rattle.edit.proofs.RowsMoved.{rest, turned-stored}
 use Rattle.edit.proofs.moving.put_turned.Statement.{statement}
 use Rattle.edit.proofs.moving.put_turned.Tie as tie
 

@@ -1,14 +1,14 @@
-use Rattle.edit.proofs.RowJudged.{refused, judged}
-use Rattle.plan.specs.Read.{accepts-if, held-range, held-length}
-use Rattle.plan.specs.Promises.{Accepts}
-use Rattle.floor.specs.Located.{accepts}
-use Rattle.refusal.specs.Faults.{not-is}
+use Prim.Native.Nat.{_+_, _*_, _≤_}
+use native.Mathlib.Nat.{mul-le-mul}
+use native.Mathlib.Omega.{arith}
 use mathlib.Core.Bool.{true, false}
 use mathlib.Core.Path.{sym, _∙_}
-use native.Mathlib.Nat.{mul-le-mul}
-use Prim.Native.Nat.{_+_, _*_, _≤_}
-use native.Mathlib.Omega.{arith}
 use borrow.Author.Needs.{needs}
+use Rattle.refusal.specs.Faults.{not-is}
+use Rattle.floor.specs.Located.{accepts}
+use Rattle.plan.specs.Read.{accepts-if, held-range, held-length}
+use Rattle.plan.specs.Promises.{Accepts}
+use Rattle.edit.proofs.RowJudged.{refused, judged}
 use Rattle.edit.proofs.replacing.judge.Statement.{statement}
 use Rattle.edit.proofs.replacing.judge.Tie as tie
 
@@ -53,7 +53,7 @@ add-t19 : tie.Need-add-t19
 add-t19 c = omega (arith, reach (c .before))
 
 returns-2 : tie.Need-returns-2
-returns-2 c = judged _ _ _ _ (c .before .before .before .before .before .before .before .before .read .result) (read-it (c .before .before .before .before .before .before)) (c .before .judge-after .result) (c .before .judge-after .ensures)
+returns-2 c = judged _ _ _ _ (c .before .before .before .before .before .before .before .before .read .result) (read-it (c .before .before .before .before .before .before)) (c .before .judge-after .result) (c .before .judge-after .ensures) _ (omega arith)
 
 pub judge-spec : {M : Type 1} → statement M
 judge-spec =

@@ -1,19 +1,19 @@
+use native.Mathlib.Omega.{arith}
+use mathlib.Core.Bool.{Bool, true, false, cond}
+use mathlib.Core.Path.{_≡_, sym, ap, _∙_}
 use lib.Dec.{leb}
-use Rattle.edit.specs.Replaced.{fitVerdict, cartRowVerdict}
-use Rattle.moves.specs.Carts.{movesVerdict}
-use Rattle.plan.specs.After.{numbersIn}
-use Rattle.plan.specs.Plan.{Numbers}
+use borrow.Author.Tests.{le-leb, lt-leb}
+use borrow.Author.Needs.{needs}
 use Rattle.refusal.specs.declared.Verdict.the-variants.{Plan as AboutPlan}
 use Rattle.refusal.specs.declared.Verdict.{Verdict}
 use Rattle.refusal.specs.Faults.{not-is}
 use Rattle.refusal.specs.Accepting.{stops, goes-on}
 use Rattle.refusal.specs.Stages.{isAccepted}
 use Rattle.refusal.specs.Codes.{refused}
-use borrow.Author.Tests.{le-leb, lt-leb}
-use mathlib.Core.Bool.{Bool, true, false, cond}
-use mathlib.Core.Path.{_≡_, sym, ap, _∙_}
-use native.Mathlib.Omega.{arith}
-use borrow.Author.Needs.{needs}
+use Rattle.plan.specs.After.{numbersIn}
+use Rattle.plan.specs.Plan.{Numbers}
+use Rattle.moves.specs.Carts.{movesVerdict}
+use Rattle.edit.specs.Replaced.{fitVerdict, cartRowVerdict}
 use Rattle.edit.proofs.replacing.judge_after.Statement.{statement}
 use Rattle.edit.proofs.replacing.judge_after.Tie as tie
 

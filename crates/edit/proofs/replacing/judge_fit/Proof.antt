@@ -1,17 +1,17 @@
-use Rattle.edit.specs.ReplacedReads.{fits-if}
-use Rattle.edit.specs.Replaced.{newRowVerdict}
-use Rattle.moves.specs.Carts.{cartVerdict}
-use Rattle.plan.specs.Passed.{RowFits, absent-below}
-use Rattle.plan.specs.Plan.{judgedRow}
+use Prim.Native.Nat.{ℕ}
+use native.Mathlib.Omega.{arith}
+use mathlib.Core.Bool.{true, false}
+use mathlib.Core.Path.{_≡_, sym, ap, _∙_}
+use borrow.Author.Needs.{needs}
 use Rattle.refusal.specs.declared.Verdict.{Verdict}
 use Rattle.refusal.specs.Faults.{not-is}
 use Rattle.refusal.specs.Accepting.{stops, goes-on}
 use Rattle.refusal.specs.Stages.{isAccepted}
-use mathlib.Core.Bool.{true, false}
-use mathlib.Core.Path.{_≡_, sym, ap, _∙_}
-use Prim.Native.Nat.{ℕ}
-use native.Mathlib.Omega.{arith}
-use borrow.Author.Needs.{needs}
+use Rattle.plan.specs.Passed.{RowFits, absent-below}
+use Rattle.plan.specs.Plan.{judgedRow}
+use Rattle.moves.specs.Carts.{cartVerdict}
+use Rattle.edit.specs.ReplacedReads.{fits-if}
+use Rattle.edit.specs.Replaced.{newRowVerdict}
 use Rattle.edit.proofs.replacing.judge_fit.Statement.{statement}
 use Rattle.edit.proofs.replacing.judge_fit.Tie as tie
 

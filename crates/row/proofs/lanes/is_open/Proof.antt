@@ -1,13 +1,12 @@
 use Prim.Native.Nat.{ℕ, _-_, _<_}
-use lib.ListN.{getD}
-use Rattle.row.specs.Chain.{Leads, Chained}
-use Rattle.row.specs.Chain.{Chained}
-use Rattle.row.proofs.Following.{Following, rank, none-open, found, again, falls, lane-below}
-use Rattle.row.specs.Moves.{lanesIn}
-use Rattle.row.specs.FloorBytes.{file-length}
-use borrow.Author.Needs.{needs}
 use native.Mathlib.Omega.{arith}
 use mathlib.Core.Path.{_≡_, refl, sym, ap, subst, _∙_}
+use lib.ListN.{getD}
+use borrow.Author.Needs.{needs}
+use Rattle.row.specs.Chain.{Leads, Chained}
+use Rattle.row.specs.Moves.{lanesIn}
+use Rattle.row.specs.FloorBytes.{file-length}
+use Rattle.row.proofs.Following.{Following, rank, none-open, found, again, falls, lane-below}
 use Rattle.row.proofs.lanes.is_open.Statement.{statement}
 use Rattle.row.proofs.lanes.is_open.Tie as tie
 

@@ -1,12 +1,12 @@
-use Rattle.row.proofs.Linking.{Linking, again}
-use borrow.Author.Needs.{needs}
 use Prim.Native.Nat.{ℕ, _+_, _*_, _-_}
 use native.Mathlib.Omega.{arith}
 use mathlib.Core.Path.{_≡_, refl, subst}
+use borrow.Author.Needs.{needs}
 use Rattle.row.specs.Moves.{lanesIn}
 use Rattle.row.specs.Chain.{Chained}
 use Rattle.row.specs.Linked.{chained-none}
 use Rattle.row.specs.FloorBytes.{file-length, lane-count}
+use Rattle.row.proofs.Linking.{Linking, again}
 use Rattle.row.proofs.lanes.linked.Statement.{statement}
 use Rattle.row.proofs.lanes.linked.Tie as tie
 

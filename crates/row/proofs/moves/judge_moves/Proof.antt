@@ -1,14 +1,12 @@
-use Rattle.row.proofs.Judging.{Judging, begun, shut, onward}
-use Rattle.row.specs.Round.{next-below}
-use Rattle.row.specs.Judged.{open-all, elsewhere}
 use Prim.Native.Nat.{_-_}
 use native.Mathlib.Omega.{arith}
 use native.Mathlib.Numerals.{add-one}
 use mathlib.Core.Path.{sym, subst, _∙_}
 use lib.ListN.{length}
-use Rattle.row.specs.Moves.{lanesIn}
+use Rattle.row.specs.Round.{next-below}
 use Rattle.row.specs.Judged.{open-all, elsewhere}
-use Rattle.row.proofs.Judging.{Judging}
+use Rattle.row.specs.Moves.{lanesIn}
+use Rattle.row.proofs.Judging.{Judging, begun, shut, onward}
 use Rattle.row.proofs.moves.judge_moves.Statement.{statement}
 use Rattle.row.proofs.moves.judge_moves.Tie as tie
 

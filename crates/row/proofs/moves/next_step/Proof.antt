@@ -1,7 +1,7 @@
 use native.Mathlib.Omega.{arith}
 use mathlib.Core.Path.{sym}
-use Rattle.row.specs.Round.{next-low, next-last}
 use borrow.Author.Needs.{needs}
+use Rattle.row.specs.Round.{next-low, next-last}
 use Rattle.row.proofs.moves.next_step.Statement.{statement}
 use Rattle.row.proofs.moves.next_step.Tie as tie
 

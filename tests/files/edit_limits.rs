@@ -1,0 +1,3 @@
+pub fn all() -> Vec<crate::limits::Limit> {
+    Vec::new()
+}
