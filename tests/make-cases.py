@@ -240,33 +240,158 @@ CASES = [
 ]
 
 
+
+# Tasks other than reading a plan: what the file `task` holds.
+MOVES = bytes([1])
+
+
+def move_on(s):
+    return bytes([2]) + number16(s)
+
+
+def replace(cart, *places):
+    return bytes([3]) + cart.to_bytes(4, "little") + bytes(places)
+
+
+# What a lent buffer holds before it is written to.
+FILL = 165
+
+
+def lent(length):
+    return bytes([FILL]) * length
+
+
+def done(result, room=None):
+    """Written, and the bytes past the result as they were."""
+    rest = 0 if room is None else room - len(result)
+    return f"done {len(result)}", result + lent(rest)
+
+
+# Three places in a ring for class 1, standing still on place 2 only; one cart that starts on place 1.
+RING = place() * 3 + lane(0, 1, 2) + lane(1, 2, 2) + lane(2, 0, 2) + lane(2, 2, 2) + cart(1, 1)
+
+# The last of everything: 256 places, 1,024 lanes of which the last is the one needed, 32 carts, 64 steps.
+FULL = PLACES_256 + lane(0, 1) * 1023 + lane(255, 255, 128) + cart(7, 255) * 32
+FULL_PLAN = head(64, 63, 16) + row(*[255] * 64) * 32
+
+SIX = head(6, 2, 7) + row(0, 1, 2, 3, 4, 5)
+SIX_FLOOR = place() * 6 + cart(0, 0)
+
+# Name, floor, plan, task, verdict; for moving on also the buffer lent, and what is left of the buffer written to.
+EDITS = [
+    # Checking moves.
+    ("moves of document 01's plan", FLOOR, PLAN, MOVES, "accepted"),
+    ("moves round a ring", RING, head(3) + row(1, 2, 0), MOVES, "accepted"),
+    ("a run-in that ends in a lap of one step", RING, head(2, 1) + row(1, 2), MOVES, "accepted"),
+    ("moves at every limit", FULL, FULL_PLAN, MOVES, "accepted"),
+    ("moves on a floor that is refused", PLACES, PLAN, MOVES, "refused floor 7 16 0"),
+    ("moves of a plan that is refused", FLOOR, PLAN[:18], MOVES, "refused plan 7 18 0"),
+    ("first cart begins elsewhere", FLOOR, head(4) + row(1, 1, 1, 0) + row(0, 0, 1, 1), MOVES, "refused plan 10 0 0"),
+    ("second cart begins elsewhere", FLOOR, head(4) + row(0, 1, 1, 0) + row(1, 0, 1, 1), MOVES, "refused plan 10 1 0"),
+    ("32nd cart begins elsewhere", FULL, FULL_PLAN[:-64] + bytes([0]) + FULL_PLAN[-63:], MOVES, "refused plan 10 31 0"),
+    ("no lane at all", PLACES + CARTS, PLAN, MOVES, "refused plan 11 0 0"),
+    ("first move shut", RING, head(3) + row(1, 0, 1), MOVES, "refused plan 11 0 0"),
+    ("second move shut", RING, head(3) + row(1, 2, 1), MOVES, "refused plan 11 0 1"),
+    ("closing move shut, l 0", RING, head(2) + row(1, 2), MOVES, "refused plan 11 0 1"),
+    ("closing move shut, l 1", RING, head(3, 1) + row(1, 2, 0), MOVES, "refused plan 11 0 2"),
+    ("standing still without a lane", RING, head(1) + row(1), MOVES, "refused plan 11 0 0"),
+    ("the lane is for another class", RING[:-2] + bytes([0, 1]), head(3) + row(1, 2, 0), MOVES, "refused plan 11 0 0"),
+    ("class 7 by the highest bit", PLACES + lane(0, 0, 128) + cart(7, 0), head(1) + row(0), MOVES, "accepted"),
+    ("class 7, all bits but the highest", PLACES + lane(0, 0, 127) + cart(7, 0), head(1) + row(0), MOVES,
+     "refused plan 11 0 0"),
+    ("either of two equal lanes opens it", PLACES + lane(0, 0, 1) + lane(0, 0, 2) + cart(1, 0), head(1) + row(0), MOVES,
+     "accepted"),
+    ("a lane the other way round", PLACES + lane(1, 0) + cart(0, 0), head(2) + row(0, 1), MOVES, "refused plan 11 0 0"),
+    ("cart 0 shut before cart 1 begins elsewhere", FLOOR[:16] + lane(0, 1) + CARTS, head(2) + row(0, 1) + row(1, 0), MOVES,
+     "refused plan 11 0 1"),
+    ("last move of the 32nd cart shut", FULL, FULL_PLAN[:-1] + bytes([0]), MOVES, "refused plan 11 31 62"),
+    # Moving on.
+    ("moved on by 0", FLOOR, PLAN, move_on(0), lent(26), *done(PLAN)),
+    ("moved on by 1, l 0", FLOOR, PLAN, move_on(1), lent(26), *done(head(4) + row(1, 1, 0, 0) + row(0, 1, 1, 0))),
+    ("moved on by h", FLOOR, PLAN, move_on(4), lent(26), *done(PLAN)),
+    ("moved on by 65,535", FLOOR, PLAN, move_on(65535), lent(26), *done(head(4) + row(0, 0, 1, 1) + row(1, 0, 0, 1))),
+    ("moved on by l - 1", SIX_FLOOR, SIX, move_on(1), lent(19), *done(head(5, 1, 7) + row(1, 2, 3, 4, 5))),
+    ("moved on by l", SIX_FLOOR, SIX, move_on(2), lent(18), *done(head(4, 0, 7) + row(2, 3, 4, 5))),
+    ("moved on by l + 1", SIX_FLOOR, SIX, move_on(3), lent(18), *done(head(4, 0, 7) + row(3, 4, 5, 2))),
+    ("moved on by l and the lap less 1", SIX_FLOOR, SIX, move_on(5), lent(18), *done(head(4, 0, 7) + row(5, 2, 3, 4))),
+    ("moved on by l and the lap", SIX_FLOOR, SIX, move_on(6), lent(18), *done(head(4, 0, 7) + row(2, 3, 4, 5))),
+    ("moved on by 65,534, whole laps", SIX_FLOOR, SIX, move_on(65534), lent(18), *done(head(4, 0, 7) + row(2, 3, 4, 5))),
+    ("a lap of one step moved on by 1,000", RING, head(2, 1) + row(1, 2), move_on(1000), lent(15), *done(head(1) + row(2))),
+    ("bytes past the result stay", SIX_FLOOR, SIX, move_on(3), lent(23), *done(head(4, 0, 7) + row(3, 4, 5, 2), 23)),
+    ("starts and lanes are not judged", PLACES + CARTS, head(2) + row(1, 0) * 2, move_on(1), lent(22),
+     *done(head(2) + row(0, 1) * 2)),
+    ("room one byte short", SIX_FLOOR, SIX, move_on(3), lent(17), "refused plan 18 18 0", lent(17)),
+    ("room for the plan, not for nothing", SIX_FLOOR, SIX, move_on(0), lent(19), "refused plan 18 20 0", lent(19)),
+    ("no room", SIX_FLOOR, SIX, move_on(0), b"", "refused plan 18 20 0", b""),
+    ("moved on, floor refused", PLACES, PLAN, move_on(1), lent(26), "refused floor 7 16 0", lent(26)),
+    ("moved on, plan refused", FLOOR, PLAN + b"\x04", move_on(1), lent(30), "refused plan 2 26 0", lent(30)),
+    ("the longest plan, moved on by 62", FULL, FULL_PLAN, move_on(62), lent(202),
+     *done(head(2, 1, 16) + row(255, 255) * 32)),
+    # Replacing a row.
+    ("second row replaced", FLOOR, PLAN, replace(1, 0, 1, 0, 1), "accepted", head(4) + row(0, 1, 1, 0) + row(0, 1, 0, 1)),
+    ("first row replaced by itself", FLOOR, PLAN, replace(0, 0, 1, 1, 0), "accepted", PLAN),
+    ("32nd row replaced by itself", FULL, FULL_PLAN, replace(31, *[255] * 64), "accepted", FULL_PLAN),
+    ("no cart 2 of two", FLOOR, PLAN, replace(2, 0, 1, 1, 0), "refused plan 19 2 0", PLAN),
+    ("no cart 4,294,967,295", FLOOR, PLAN, replace(4294967295), "refused plan 19 4294967295 0", PLAN),
+    ("no cart 256, 0 but for the second byte", FLOOR, PLAN, replace(256, 0, 1, 1, 0), "refused plan 19 256 0", PLAN),
+    ("row of 0 steps", FLOOR, PLAN, replace(1), "refused plan 4 0 0", PLAN),
+    ("row of 3 steps", FLOOR, PLAN, replace(1, 0, 1, 1), "refused plan 4 0 0", PLAN),
+    ("row of 5 steps, the places absent", FLOOR, PLAN, replace(1, 2, 2, 2, 2, 2), "refused plan 4 0 0", PLAN),
+    ("absent place at step 0, begins elsewhere", FLOOR, PLAN, replace(1, 2, 1, 1, 0), "refused plan 9 1 0", PLAN),
+    ("absent places at steps 2 and 3", FLOOR, PLAN, replace(1, 1, 1, 2, 255), "refused plan 9 1 2", PLAN),
+    ("row that begins elsewhere, shut too", RING, head(2, 1) + row(1, 2), replace(0, 0, 2), "refused plan 10 0 0",
+     head(2, 1) + row(1, 2)),
+    ("row with a shut move", RING, head(2, 1) + row(1, 2), replace(0, 1, 0), "refused plan 11 0 0", head(2, 1) + row(1, 2)),
+    ("row with a shut closing move", RING, head(3) + row(1, 2, 0), replace(0, 1, 2, 2), "refused plan 11 0 2",
+     head(3) + row(1, 2, 0)),
+    ("old plan's 10 before 19", FLOOR, head(1) + row(0) + row(1), replace(9), "refused plan 10 1 0", head(1) + row(0) + row(1)),
+    ("old plan's 11 before the new row", RING, head(2) + row(1, 2), replace(0, 1, 1), "refused plan 11 0 1",
+     head(2) + row(1, 2)),
+    ("replaced, floor refused", PLACES, PLAN, replace(0, 0, 1, 1, 0), "refused floor 7 16 0", PLAN),
+    ("replaced, plan refused", FLOOR, PLAN[:18], replace(0, 0, 1, 1, 0), "refused plan 7 18 0", PLAN[:18]),
+]
+
+
 def write(folder, name, content):
     if content is not None:
         folder.mkdir(parents=True, exist_ok=True)
         (folder / name).write_bytes(content)
 
 
-def check():
-    """The table's names differ, its verdicts have the output's form, and the program knows how many there are."""
-    names = [name for name, _, _, _ in CASES]
+def data_sets():
+    """Name, files by their names, and the line due for each case."""
+    for name, floor, plan, verdict in CASES:
+        yield name, {"floor": floor, "plan": plan}, verdict
+    for name, floor, plan, task, *rest in EDITS:
+        files = {"floor": floor, "plan": plan, "task": task}
+        if task[0] == 2:
+            files["out"] = rest.pop(0)
+        verdict, *after = rest
+        yield name, files, " ".join([verdict + ":" * len(after), *(str(b) for left in after for b in left)])
+
+
+def check(sets):
+    """The names differ, the lines have the output's form, and the program knows how many there are."""
+    names = [name for name, _, _ in sets]
     assert len(set(names)) == len(names)
-    for name, _, _, verdict in CASES:
-        assert re.fullmatch(r"accepted|refused (floor|plan) [1-9] \d+ 0", verdict), name
+    for name, _, line in sets:
+        assert re.fullmatch(r"(accepted|done \d+|refused (floor|plan) \d+ \d+ \d+)(:( \d+)*)?", line), name
     source = (CRATE / "src/main.rt").read_text()
-    if f"const CASES: usize = {len(CASES)};" not in source:
-        sys.exit(f"{CRATE}/src/main.rt: CASES has to be {len(CASES)}")
+    if f"const CASES: usize = {len(sets)};" not in source:
+        sys.exit(f"{CRATE}/src/main.rt: CASES has to be {len(sets)}")
 
 
 def main():
-    check()
+    sets = list(data_sets())
+    check(sets)
     data = CRATE / "data"
     shutil.rmtree(data, ignore_errors=True)
     lines = []
-    for n, (name, floor, plan, verdict) in enumerate(CASES):
-        write(data / f"{n:03}", "floor", floor)
-        write(data / f"{n:03}", "plan", plan)
-        lines.append(f"{n:03} {verdict}\n")
-        print(f"{n:03} {name}: {verdict}")
+    for n, (name, files, line) in enumerate(sets):
+        for file, content in files.items():
+            write(data / f"{n:03}", file, content)
+        lines.append(f"{n:03} {line}\n")
+        print(f"{n:03} {name}: {line}"[:120])
     (CRATE / "stdout").write_text("".join(lines))
 
 

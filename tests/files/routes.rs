@@ -3,7 +3,7 @@
 use std::collections::BTreeMap;
 
 use crate::random::{self, Random};
-use crate::reference::{Floor, Plan, MOST_CARTS, MOST_LANES, MOST_PLACES, MOST_STEPS};
+use crate::reference::{Floor, Plan, MOST_CARTS, MOST_DRIFT, MOST_LANES, MOST_PLACES, MOST_STEPS};
 
 /// So many places have few enough pairs to leave room for other lanes.
 const FEW_PLACES: usize = 30;
@@ -55,32 +55,37 @@ fn row(random: &mut Random, start: u8, h: u16, pool: &[u8]) -> Vec<u8> {
 /// Places that the rows keep to. With many moves they are few, so that the lanes suffice.
 fn pool(random: &mut Random, places: usize, moves: usize) -> Vec<u8> {
     let most = match moves <= FEW_PLACES * FEW_PLACES {
-        true => places,
+        true => MOST_PLACES,
         false => FEW_PLACES,
     };
     let any = random.between(1, most);
-    let size = random.pick(&[most, any, 2, 3]);
-    (0..size.min(most))
-        .map(|_| random::place(random, places))
-        .collect()
+    let mut pool = vec![random::place(random, places)];
+    for _ in 1..random.pick(&[most, any, 3, 5]) {
+        pool.push(random.below(places) as u8);
+    }
+    pool
 }
 
 /// A floor without lanes and a plan's head, now and then of greatest size.
 fn outline(random: &mut Random) -> (Floor, Plan) {
     let mut floor = random::floor(random);
     floor.lanes.clear();
-    let full = random.below(400) == 0;
-    if full {
+    let least = random.pick(&[1, 2, 4, 9]);
+    floor
+        .places
+        .resize(random::size(random, least, MOST_PLACES), 1);
+    let least = random.pick(&[1, 2, 4, 9]);
+    let mut h = random::size(random, least, usize::from(MOST_STEPS)) as u16;
+    if random.below(400) == 0 {
         floor.places.resize(MOST_PLACES, 1);
         floor.carts.resize(2 * MOST_CARTS, 5);
+        h = MOST_STEPS;
     }
-    let mut plan = random::plan(random, &floor);
-    if full {
-        plan.h = MOST_STEPS;
-        plan.l = random.pick(&[0, plan.l, MOST_STEPS - 1]);
-    }
-    plan.rows.clear();
-    (floor, plan)
+    let any = random.below(usize::from(h)) as u16;
+    let l = random.pick(&[0, h - 1, any, any]);
+    let d = random.pick(&[0, 1, MOST_DRIFT]);
+    let rows = Vec::new();
+    (floor, Plan { h, l, d, rows })
 }
 
 /// A lane for each pair of places, open to the classes that need it.

@@ -1,5 +1,5 @@
-//! Lengths that a 32-bit number can't hold: cut to 32 bits, each of these would be a valid file, or
-//! at least one short enough. All of them are too long.
+//! Lengths that a 32-bit number can't hold: cut to 32 bits, each of these would be a valid file or
+//! row, or at least one short enough. All of them are too long; only room is never too much.
 
 use std::alloc::{alloc_zeroed, Layout};
 
@@ -56,6 +56,57 @@ impl Wide {
         self.expect("plan", verdict, [2, 1, 0, 0]);
     }
 
+    fn checks(&mut self) {
+        let floor = Wide::bytes(&mut self.block, &paper_floor(), TURN + 56);
+        let verdict = library::check_moves(Some(floor), Some(&mut paper_plan()));
+        self.expect("floor of moves", verdict, [1, 1, 0, 0]);
+        let plan = Wide::bytes(&mut self.block, &paper_plan(), TURN + 26);
+        let verdict = library::check_moves(Some(&mut paper_floor()), Some(plan));
+        self.expect("plan of moves", verdict, [2, 1, 0, 0]);
+    }
+
+    fn moved(&mut self) {
+        let floor = Some(&mut paper_floor()[..]);
+        let plan = Wide::bytes(&mut self.block, &paper_plan(), TURN + 26);
+        let verdict = library::move_on(floor, Some(plan), 1, Some(&mut self.out));
+        self.expect("plan to move on", verdict, [2, 1, 0, 0]);
+    }
+
+    /// Moves the paper's plan on by one step, with this room.
+    fn room(&mut self, length: usize) {
+        let (mut floor, mut plan) = (paper_floor(), paper_plan());
+        let out = Wide::bytes(&mut self.block, &[], length);
+        let verdict = library::move_on(Some(&mut floor), Some(&mut plan), 1, Some(out));
+        self.expect("room", verdict, [0, 0, 26, 0]);
+        let mut due = [0; 128];
+        due[..14].copy_from_slice(&plan[..14]);
+        due[14..18].copy_from_slice(&[1, 1, 0, 0]);
+        due[18..22].copy_from_slice(&plan[18..22]);
+        due[22..26].copy_from_slice(&[0, 1, 1, 0]);
+        let bytes: Vec<u8> = self.block[..32]
+            .iter()
+            .flat_map(|word| word.to_ne_bytes())
+            .collect();
+        if bytes != due {
+            self.complaints.push("room: another result".to_string());
+        }
+    }
+
+    fn replaced(&mut self) {
+        let plan = Wide::bytes(&mut self.block, &paper_plan(), TURN + 26);
+        let row = Some(&mut [0; 4][..]);
+        let verdict = library::replace_row(Some(&mut paper_floor()), Some(plan), 0, row);
+        self.expect("plan of a row", verdict, [2, 1, 0, 0]);
+        let mut plan = paper_plan();
+        let row = Wide::bytes(&mut self.block, &[], TURN + 4);
+        let verdict = library::replace_row(Some(&mut paper_floor()), Some(&mut plan), 0, Some(row));
+        self.expect("row", verdict, [2, 4, 0, 0]);
+        if plan != paper_plan() {
+            self.complaints
+                .push("row: the plan has changed".to_string());
+        }
+    }
+
     fn places(&mut self) {
         let places = &mut self.block[..TURN / 8];
         let out = &mut self.out;
@@ -106,5 +157,10 @@ pub fn complaints() -> Vec<String> {
     wide.rows(4, TURN + 8);
     wide.rows(4, TURN / 2);
     wide.rows(0, TURN);
+    wide.checks();
+    wide.moved();
+    wide.room(TURN);
+    wide.room(TURN + 25);
+    wide.replaced();
     wide.complaints
 }
