@@ -19,7 +19,7 @@ extern "C" {
 
 /* about: the file that is refused: 0 none, 1 floor, 2 plan, 3 rules.
  * number: 0 accepted or done, else the refusal's number.
- * first, second: the refusal's two further numbers; where bytes were written, first is how many. */
+ * first, second: the refusal's two further numbers; where a result was written to out, first is its length in bytes. */
 struct cartplan_verdict {
     uint32_t about, number, first, second;
 };
@@ -47,20 +47,24 @@ struct cartplan_verdict cartplan_write_plan(const uint8_t *floor, size_t floor_l
                                             const uint8_t *rows, size_t rows_len,
                                             uint8_t *out, size_t out_len);
 
-/* Checks the moves of a plan, carts in order: 10 (cart, 0) where its first place is not its start, 11 (cart, step) for the
- * lowest step that it leaves by no open lane, the move from step h - 1 to l included. The refusals of reading come first. */
+/* Checks the moves of a plan. The refusals of reading come first; then, carts in order: 10 (cart, 0) for a row that does not
+ * begin at the cart's start, 11 (cart, step) for the lowest step that the cart leaves by no lane open to its class, the move
+ * from step h - 1 to l included. */
 struct cartplan_verdict cartplan_check_moves(const uint8_t *floor, size_t floor_len,
                                              const uint8_t *plan, size_t plan_len);
 
-/* Moves a plan on by s steps and writes the result to out: its place at counter v is the plan's at counter s + v. Bytes of
- * out past the result stay. The refusals of reading come first, then 18 with the length needed, if out is shorter. */
+/* Moves a plan on by s steps and writes the result to out: each cart's place at counter v is that of the plan at counter
+ * s + v. For s up to l the first s steps of each row go; beyond it l becomes 0 and each lap is turned by (s - l) mod (h - l);
+ * d stays. The result is never longer than the plan, and bytes of out past it stay. The refusals of reading come first, then
+ * 18 (needed length, 0) if out is shorter than the result. Starts and lanes are not judged. */
 struct cartplan_verdict cartplan_move_on(const uint8_t *floor, size_t floor_len,
                                          const uint8_t *plan, size_t plan_len,
                                          uint16_t s, uint8_t *out, size_t out_len);
 
-/* Replaces cart's row in plan, and changes no other byte of it. Refused as cartplan_check_moves would, then 19 (cart, 0) for
- * no such cart, 4 (0, 0) for a row that is not of h steps, 9 (cart, step) for the lowest step whose place is not on the
- * floor, and 10 and 11 for the new row. Done is all zeros: the plan keeps its length. */
+/* Replaces a cart's row in plan, and changes no other byte of it. Refused as cartplan_check_moves would be; then 19 (cart, 0)
+ * for no such cart, 4 (0, 0) for a row that is not of h steps, 9 (cart, step) for the lowest step whose place is not on the
+ * floor, and 10 and 11 for the new row. Some of these numbers can come from the plan as well: cartplan_check_moves tells them
+ * apart. Done is all zeros: the plan keeps its length. */
 struct cartplan_verdict cartplan_replace_row(const uint8_t *floor, size_t floor_len,
                                              uint8_t *plan, size_t plan_len,
                                              uint32_t cart, const uint8_t *row, size_t row_len);

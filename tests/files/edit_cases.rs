@@ -113,10 +113,7 @@ fn spoil_row(random: &mut Random, row: &mut Vec<u8>, places: usize) {
         0 => row.truncate(h - 1),
         1 => row.push(any),
         2 => row.clear(),
-        3 => row.resize(
-            random.pick(&[63, 64, 65, 128, h + 64, h + 256, h + 300]),
-            any,
-        ),
+        3 => row.resize(random.pick(&[63, 64, 65, h + 64, h + 256]), any),
         4 if random.percent(10) => row.resize(65_536 + h, any),
         4..=8 => row[step] = absent_place(random, places),
         9 => row[0] = absent_place(random, places),

@@ -75,9 +75,8 @@ fn replaced(floor: &[u8], plan: &[u8], cart: usize, row: &[u8]) -> Result<Vec<u8
     let (floor, mut plan) = checked(floor, plan)?;
     let judged = judge_new_row(&floor, &plan, cart, row);
     judged.map_err(|refusal| reference::refused(PLAN, refusal))?;
-    let rows = plan.rows.chunks_mut(row.len());
-    let old = rows.skip(cart).next().expect("a row for every cart");
-    old.copy_from_slice(row);
+    let old = plan.rows.chunks_mut(row.len()).nth(cart);
+    old.expect("a row for every cart").copy_from_slice(row);
     Ok(reference::plan_file(&plan).expect("a plan as long as an accepted one"))
 }
 

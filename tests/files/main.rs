@@ -13,6 +13,7 @@ mod edit_limits;
 mod edits;
 mod library;
 mod limits;
+mod move_limits;
 mod numbers;
 mod random;
 mod reference;
@@ -169,7 +170,7 @@ impl Harness {
     }
 
     fn run_limits(&mut self) -> u64 {
-        let limits = [limits::all(), edit_limits::all()].concat();
+        let limits = [limits::all(), move_limits::all(), edit_limits::all()].concat();
         for (case, limit) in (0..).zip(&limits) {
             self.begin(case);
             self.run_limit(limit);

@@ -26,9 +26,10 @@ pub enum Open {
     NotRow,
 }
 
+/// From, to, and the class of the cart.
 type Move = (u8, u8, u8);
 
-/// The row's moves: from, to and the class that makes them; the last one is the closing move.
+/// The row's moves; the last one is the closing move.
 fn moves_of(row: &[u8], l: u16, class: u8) -> Vec<Move> {
     let next = row[1..].iter().chain([&row[usize::from(l)]]);
     let pairs = row.iter().zip(next);
@@ -71,9 +72,8 @@ fn outline(random: &mut Random) -> (Floor, Plan) {
     let mut floor = random::floor(random);
     floor.lanes.clear();
     let least = random.pick(&[1, 2, 4, 9]);
-    floor
-        .places
-        .resize(random::size(random, least, MOST_PLACES), 1);
+    let places = random::size(random, least, MOST_PLACES);
+    floor.places.resize(places, 1);
     let least = random.pick(&[1, 2, 4, 9]);
     let mut h = random::size(random, least, usize::from(MOST_STEPS)) as u16;
     if random.below(400) == 0 {
@@ -213,6 +213,13 @@ fn remove_lane(random: &mut Random, floor: &mut Floor) {
     }
 }
 
+fn remove_lanes(floor: &mut Floor, moved: Move) {
+    let (from, to, _) = moved;
+    let lanes = floor.lanes.chunks(3);
+    let others = lanes.filter(|lane| lane[..2] != [from, to]);
+    floor.lanes = others.flatten().copied().collect();
+}
+
 /// Spoils one thing about the starts, the rows, the lap or the lanes; both files remain readable.
 pub fn spoil(random: &mut Random, floor: &mut Floor, plan: &mut Plan) {
     let (h, places) = (usize::from(plan.h), floor.places.len());
@@ -231,15 +238,6 @@ pub fn spoil(random: &mut Random, floor: &mut Floor, plan: &mut Plan) {
         7 => remove_lane(random, floor),
         8..=9 => change_lanes(random, floor, moved, |lane, class| lane[2] &= !(1 << class)),
         10 => change_lanes(random, floor, moved, |lane, _| lane.swap(0, 1)),
-        _ => {
-            let between = |lane: &&[u8]| lane[..2] != [moved.0, moved.1];
-            floor.lanes = floor
-                .lanes
-                .chunks(3)
-                .filter(between)
-                .flatten()
-                .copied()
-                .collect();
-        }
+        _ => remove_lanes(floor, moved),
     }
 }

@@ -1,7 +1,7 @@
 -- A replacement judged before anything is written.
-use Prim.Native.Nat.{ℕ, _+_, _*_}
+use Prim.Native.Nat.{ℕ}
 use native.Mathlib.Omega.{arith}
-use mathlib.Core.Path.{_≡_, refl, sym, ap, subst, _∙_}
+use mathlib.Core.Path.{_≡_, sym, ap, _∙_}
 use mathlib.Core.Bool.{Bool, true, false, cond}
 use mathlib.Core.List.{List}
 use lib.ListN.{length}
@@ -11,15 +11,14 @@ use Rattle.refusal.specs.Outcome.{Outcome, unchanged}
 use Rattle.refusal.specs.declared.Verdict.{Verdict}
 use Rattle.record.specs.Buffer.{stored}
 use Rattle.floor.specs.declared.Floor.{Floor}
-use Rattle.plan.specs.Plan.{Numbers, readBoth}
-use Rattle.plan.specs.After.{numbersIn}
+use Rattle.plan.specs.Plan.{Numbers, heldNumbers, readBoth}
 use Rattle.plan.specs.Promises.{Accepts}
 use Rattle.plan.specs.Read.{after-accepted, after-refused, held-head, held-numbers}
 use Rattle.plan.specs.declared.Head.{Head}
 use Rattle.plan.specs.declared.PlanRead.{PlanRead}
 use Rattle.edit.specs.Replaced.{replaceVerdict, rowAt, replacedIn, replaceRow}
 use Rattle.edit.specs.ReplacedReads.{replaces, stored-inside}
-use Rattle.edit.specs.Promises.{Judged}
+use Rattle.edit.specs.Judgement.{Judged}
 
 module _ (floor plan : List ℕ) (c : ℕ) (row : List ℕ) (r : PlanRead) where
   step : Floor → Numbers → Outcome
@@ -40,7 +39,7 @@ module _ (floor plan : List ℕ) (c : ℕ) (row : List ℕ) (r : PlanRead) where
         inside = λ z. never _ q z;
       }
 
-  module _ (w : Accepts floor plan r) (v : Verdict) (e : v ≡ replaceVerdict floor (r .floor) (numbersIn (r .floor .carts) (r .plan .head) (r .plan .block)) c row) where
+  module _ (w : Accepts floor plan r) (v : Verdict) (e : v ≡ replaceVerdict floor (r .floor) (heldNumbers (r .floor .carts) (r .plan .head) (r .plan .block)) c row) where
     abbrev n : Numbers
     n = w .numbers
 

@@ -1,8 +1,7 @@
 -- Rows moved on, stored one behind the other: what holds before each turn.
-use Prim.Native.Nat.{ℕ, zero, suc, _+_, _-_, _*_, _%_, _≤_, _<_}
+use Prim.Native.Nat.{ℕ, suc, _+_, _-_, _*_, _%_, _≤_, _<_}
 use native.Mathlib.Nat.{mod-lt, suc-mul, mul-le-mul}
 use native.Mathlib.Omega.{arith}
-use native.Mathlib.Numerals.{add-one}
 use mathlib.Core.Path.{_≡_, refl, sym, ap, ap₂, subst, _∙_}
 use mathlib.Core.List.{List, [], _∷_, _++_, map, flatten, append-nil, append-assoc}
 use lib.ListN.{length, take, drop, replicate, length-append, length-drop}
@@ -11,7 +10,7 @@ use Rattle.record.specs.Buffer.{stored}
 use Rattle.record.specs.Stored.{stored-front, stored-more, length-stored, stored-nothing}
 use Rattle.record.specs.All.{AllOf, all-of}
 use Rattle.plan.specs.Numbers.{planBytes, planFile}
-use Rattle.plan.specs.After.{rowsIn, numbersIn}
+use Rattle.plan.specs.Plan.{rowsIn, heldNumbers}
 use Rattle.plan.specs.Complete.{file-short}
 use Rattle.plan.specs.Valid.{InRange}
 use Rattle.plan.specs.Read.{row-in, length-rows-in, rows-in-more, blockPart, part-is, part-length}
@@ -130,9 +129,9 @@ module _ (h : Head) (s : ℕ) (block : List ℕ) where
         let k = length-take-le (h .steps) (drop (64 * c) block) (omega (arith, length-drop (64 * c) block, r .steps)) in
         ap length e ∙ row-length s h (r .stem) _ (ap length q ∙ k))
 
-    pub file-fits : length (planFile (moved s (numbersIn carts h block))) ≤ 65536
+    pub file-fits : length (planFile (moved s (heldNumbers carts h block))) ≤ 65536
     file-fits =
-        file-short (moved s (numbersIn carts h block)) (head-moved s h r) sizes
+        file-short (moved s (heldNumbers carts h block)) (head-moved s h r) sizes
         (omega (arith, length-rows-of (movedRow (h .steps) (h .stem) s) (rowsIn carts (h .steps) block), length-rows-in carts (h .steps) block))
 
     pub rows-fit : (m : Head) → m ≡ movedHead s h → carts * m .steps ≤ 2048
@@ -141,7 +140,7 @@ module _ (h : Head) (s : ℕ) (block : List ℕ) where
         mul-le-mul {n₁ = carts} {n₂ = 32} few k
 
     pub same-file : (m : Head) → m ≡ movedHead s h → (rows : List ℕ) → take (carts * m .steps) rows ≡ movedIn carts
-        → planBytes m (take (carts * m .steps - 0) (drop 0 rows)) ≡ planFile (moved s (numbersIn carts h block))
+        → planBytes m (take (carts * m .steps - 0) (drop 0 rows)) ≡ planFile (moved s (heldNumbers carts h block))
     same-file m e rows q =
         let z : carts * m .steps - 0 ≡ carts * m .steps = omega arith in
         ap₂ planBytes e (ap (λ (n : ℕ). take n rows) z ∙ q)

@@ -2,16 +2,16 @@
 use Prim.Native.Nat.{ℕ, _+_, _-_, _%_, _≤_, _<_}
 use native.Mathlib.Nat.{mod-lt, mod-eq-of-lt, mod-eq-sub-mod, add-mod}
 use native.Mathlib.Omega.{arith}
-use mathlib.Core.Path.{_≡_, refl, sym, ap, ap₂, _∙_}
+use mathlib.Core.Path.{_≡_, sym, ap, ap₂, _∙_}
 use mathlib.Core.Bool.{Bool, cond}
-use mathlib.Core.List.{List, _++_}
-use lib.Dec.{leb}
+use mathlib.Core.List.{List}
 use lib.ListN.{length, take, drop, getD, length-append, length-drop, List·getD-append}
 use lib.Seq.{length-take-le, getD-take, getD-drop, getD-append-add}
 use borrow.Author.Tests.{le-leb, lt-leb}
 use Rattle.plan.specs.Numbers.{headOf}
 use Rattle.plan.specs.declared.Head.{Head}
 use Rattle.row.specs.Lasso.{stepOf}
+use Rattle.row.specs.Meaning.{placeOn}
 use Rattle.row.specs.Round.{pick, step-below, step-from, step-shift}
 use Rattle.edit.specs.Moved.{turned, movedRow, movedHead}
 
@@ -82,17 +82,20 @@ module _ (s : ℕ) (h : Head) where
         ∙ ap (λ (x : Head). x .steps) (sym (head-late p)))
         (λ p. ap length (row-early (h .steps) (h .stem) s row p) ∙ length-drop s row ∙ ap (λ (n : ℕ). n - s) size ∙ ap (λ (x : Head). x .steps) (sym (head-early p)))
 
-    -- the place at counter v
-    pub place-later : (v : ℕ) → getD (movedRow (h .steps) (h .stem) s row) (stepOf (movedHead s h .steps) (movedHead s h .stem) v) 0 ≡ getD row (stepOf (h .steps) (h .stem) (s + v)) 0
-    place-later v =
-        pick (h .stem) s (getD (movedRow (h .steps) (h .stem) s row) (stepOf (movedHead s h .steps) (movedHead s h .stem) v) 0 ≡ getD row (stepOf (h .steps) (h .stem) (s + v)) 0) late early
+    -- the place at counter v is that at counter s + v
+    abbrev pub SameAt : ℕ → Type 0
+    SameAt v =
+        placeOn (movedRow (h .steps) (h .stem) s row) (movedHead s h .steps) (movedHead s h .stem) v ≡ placeOn row (h .steps) (h .stem) (s + v)
+
+    pub place-later : (v : ℕ) → SameAt v
+    place-later v = pick (h .stem) s (SameAt v) late early
       where
-        early : s ≤ h .stem → getD (movedRow (h .steps) (h .stem) s row) (stepOf (movedHead s h .steps) (movedHead s h .stem) v) 0 ≡ getD row (stepOf (h .steps) (h .stem) (s + v)) 0
+        early : s ≤ h .stem → SameAt v
         early p =
             ap₂ (λ (x : List ℕ) (g : Head). getD x (stepOf (g .steps) (g .stem) v) 0) (row-early (h .steps) (h .stem) s row p) (head-early p)
             ∙ getD-drop s row (stepOf (h .steps - s) (h .stem - s) v) 0 ∙ ap (λ (i : ℕ). getD row i 0) (step-shift (h .steps) (h .stem) s v some p)
 
-        late : h .stem < s → getD (movedRow (h .steps) (h .stem) s row) (stepOf (movedHead s h .steps) (movedHead s h .stem) v) 0 ≡ getD row (stepOf (h .steps) (h .stem) (s + v)) 0
+        late : h .stem < s → SameAt v
         late p =
             let w : ℕ = stepOf lap 0 v in
             let low : w < lap = step-below lap 0 (omega arith) v in

@@ -1,6 +1,7 @@
 -- definitions
 pub mod Moved
 pub mod Replaced
+pub mod Judgement
 -- promises
 pub mod Promises
 -- laws

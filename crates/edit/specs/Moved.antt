@@ -19,13 +19,13 @@ turned k lap = drop k lap ++ take k lap
 unfoldable pub movedRow : ℕ → ℕ → ℕ → List ℕ → List ℕ
 movedRow h l s row = cond (leb s l) (drop s row) (turned ((s - l) % (h - l)) (drop l row))
 
--- the same of h and l; "d stays"
+-- for s up to l both h and l fall by s; beyond it h is the lap's length, and l is 0; "d stays"
 unfoldable pub movedHead : ℕ → Head → Head
 movedHead s h = cond (leb s (h .stem)) (headOf (h .steps - s) (h .stem - s) (h .drift)) (headOf (h .steps - h .stem) 0 (h .drift))
 
 abbrev pub moved : ℕ → Numbers → Numbers
 moved s p = record { head = movedHead s (p .head); rows = map (movedRow (p .head .steps) (p .head .stem) s) (p .rows) }
 
--- "floor and plan as for reading; 18 if the lent buffer is shorter than the result"
+-- "floor and plan as for reading; 18 if the lent buffer is shorter than the result"; "starts aren't compared", nor lanes
 unfoldable pub moveOn : List ℕ → List ℕ → ℕ → List ℕ → Outcome
 moveOn floor plan s out = afterReading (λ v. unchanged v out) (λ f p. written AboutPlan (planFile (moved s p)) out) floor plan

@@ -23,24 +23,24 @@ abbrev pub replaced : ℕ → List ℕ → Numbers → Numbers
 replaced c row p = record { head = p .head; rows = set (p .rows) c row }
 
 -- "4 length not h (0, 0), 9 (cart, lowest step)"
-abbrev pub newRowVerdict : ℕ → RowAnswer → Verdict
-newRowVerdict c Fits = Accepted
-newRowVerdict c WrongLength = AboutPlan (refused 4 0 0)
-newRowVerdict c (Absent s) = AboutPlan (refused 9 c s)
+abbrev pub placesVerdict : ℕ → RowAnswer → Verdict
+placesVerdict c Fits = Accepted
+placesVerdict c WrongLength = AboutPlan (refused 4 0 0)
+placesVerdict c (Absent s) = AboutPlan (refused 9 c s)
 
 -- a row for cart c: 4 and 9, then 10 and 11
-abbrev pub fitVerdict : List ℕ → Floor → Head → ℕ → List ℕ → Verdict
-fitVerdict floor f h c row = andThen (newRowVerdict c (judgedRow row (h .steps) (f .places))) (cartVerdict floor c row (h .steps) (h .stem))
+abbrev pub newRowVerdict : List ℕ → Floor → Head → ℕ → List ℕ → Verdict
+newRowVerdict floor f h c row = andThen (placesVerdict c (judgedRow row (h .steps) (f .places))) (cartVerdict floor c row (h .steps) (h .stem))
 
 -- "19 no such cart (cart, 0)", carts being numbered from 0
 abbrev pub cartRowVerdict : List ℕ → Floor → Numbers → ℕ → List ℕ → Verdict
-cartRowVerdict floor f p c row = cond (leb (f .carts) c) (AboutPlan (refused 19 c 0)) (fitVerdict floor f (p .head) c row)
+cartRowVerdict floor f p c row = cond (leb (f .carts) c) (AboutPlan (refused 19 c 0)) (newRowVerdict floor f (p .head) c row)
 
--- "floor, plan and its moves", then the new row
+-- the moves of all carts, then the new row
 abbrev pub replaceVerdict : List ℕ → Floor → Numbers → ℕ → List ℕ → Verdict
 replaceVerdict floor f p c row = andThen (movesVerdict floor f p) (cartRowVerdict floor f p c row)
 
--- where cart c's row of so many steps lies in a plan's file: behind the head's ten bytes and the records of the rows before it
+-- where cart c's row of so many steps lies in a plan's file: behind the head's ten bytes, the rows before it, and its own length and kind
 abbrev pub rowAt : ℕ → ℕ → ℕ
 rowAt steps c = 10 + c * (4 + steps) + 4
 
@@ -48,6 +48,7 @@ rowAt steps c = 10 + c * (4 + steps) + 4
 abbrev pub replacedIn : List ℕ → ℕ → ℕ → List ℕ → Verdict → Outcome
 replacedIn plan steps c row v = record { answer = v; out = cond (isAccepted v) (stored plan (rowAt steps c) row) plan }
 
+-- "floor, plan and its moves; 19 .., 4 .., 9 .., 10, 11"
 unfoldable pub replaceRow : List ℕ → List ℕ → ℕ → List ℕ → Outcome
 replaceRow floor plan c row =
     afterReading (λ v. unchanged v plan) (λ f p. replacedIn plan (p .head .steps) c row (replaceVerdict floor f p c row)) floor plan

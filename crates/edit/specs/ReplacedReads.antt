@@ -7,11 +7,11 @@ use mathlib.Core.List.{List, []}
 use lib.Dec.{eqb, leb}
 use lib.ListN.{length, getD, set, length-set}
 use lib.Seq.{getD-set-same, getD-set-other}
-use borrow.Author.Tests.{eqb-true, eqb-false, leb-false}
+use borrow.Author.Tests.{eqb-true, eqb-false, leb-false, lt-leb}
 use Rattle.endian.specs.Little.{Bytes}
 use Rattle.refusal.specs.Codes.{refused}
-use Rattle.refusal.specs.Stages.{isAccepted, andThen}
-use Rattle.refusal.specs.Accepting.{accepted-is, both-accepted}
+use Rattle.refusal.specs.Stages.{isAccepted}
+use Rattle.refusal.specs.Accepting.{accepted-is, both-accepted, goes-on}
 use Rattle.refusal.specs.Outcome.{Outcome, Gives, unchanged}
 use Rattle.refusal.specs.declared.Verdict.{Verdict}
 use Rattle.refusal.specs.declared.Verdict.the-variants.{Accepted, Plan as AboutPlan}
@@ -19,27 +19,29 @@ use Rattle.record.specs.All.{AllOf, all-of}
 use Rattle.record.specs.Buffer.{stored}
 use Rattle.floor.specs.Located.{accepts}
 use Rattle.floor.specs.declared.Floor.{Floor}
-use Rattle.plan.specs.Plan.{Numbers, accepted, readPlan, judgedPlaces, judgedRow}
+use Rattle.plan.specs.Plan.{Numbers, accepted, readPlan, judgedRow}
 use Rattle.plan.specs.Numbers.{planFile}
 use Rattle.plan.specs.Valid.{Valid}
 use Rattle.plan.specs.Passed.{RowFits, row-fits}
 use Rattle.plan.specs.RoundTrip.{valid, bytes-back}
-use Rattle.plan.specs.Complete.{file-reads}
+use Rattle.plan.specs.After.{ReadAs}
+use Rattle.plan.specs.Complete.{file-reads, row-accepted}
 use Rattle.plan.specs.Read.{Went, no-floor, no-plan, on, went, read-on}
 use Rattle.plan.specs.declared.RowAnswer.{RowAnswer}
 use Rattle.plan.specs.declared.RowAnswer.the-variants.{Fits, WrongLength, Absent}
-use Rattle.moves.specs.Carts.{cartVerdict, rowVerdict, movesVerdict, checkedMoves}
-use Rattle.moves.specs.Unending.{Passes, all-pass, none-refused}
-use Rattle.edit.specs.Replaced.{replaced, newRowVerdict, fitVerdict, cartRowVerdict, replaceVerdict, rowAt, replacedIn, replaceRow}
+use Rattle.moves.specs.Carts.{cartVerdict, movesVerdict}
+use Rattle.moves.specs.Promises.{AllUnending, CartUnending}
+use Rattle.moves.specs.Unending.{Passes, all-pass, none-refused, cart-accepted, all-accepted, moves-read}
+use Rattle.edit.specs.Replaced.{replaced, placesVerdict, newRowVerdict, cartRowVerdict, replaceVerdict, rowAt, replacedIn, replaceRow}
 use Rattle.edit.specs.RowStored.{row-stored, row-inside}
 use Rattle.edit.specs.Promises.{NewRow, RowReplaced}
 
-only-fits : (c : ℕ) (a : RowAnswer) → newRowVerdict c a ≡ Accepted → a ≡ Fits
+only-fits : (c : ℕ) (a : RowAnswer) → placesVerdict c a ≡ Accepted → a ≡ Fits
 only-fits c Fits e = refl
 only-fits c WrongLength e = let z : _≡_ {A = ℕ} 0 1 = cc in absurd (omega arith)
 only-fits c (Absent s) e = let z : _≡_ {A = ℕ} 0 1 = cc in absurd (omega arith)
 
-pub fits-if : (c steps places : ℕ) (row : List ℕ) → isAccepted (newRowVerdict c (judgedRow row steps places)) ≡ true → RowFits steps places row
+pub fits-if : (c steps places : ℕ) (row : List ℕ) → isAccepted (placesVerdict c (judgedRow row steps places)) ≡ true → RowFits steps places row
 fits-if c steps places row e = row-fits steps places row (only-fits c (judgedRow row steps places) (accepted-is _ e))
 
 -- what an accepted replacement says
@@ -56,10 +58,10 @@ module _ (floor : List ℕ) (f : Floor) (p : Numbers) (c : ℕ) (row : List ℕ)
       stages : (movesVerdict floor f p ≡ Accepted) × (cartRowVerdict floor f p c row ≡ Accepted)
       stages = both-accepted (movesVerdict floor f p) (cartRowVerdict floor f p c row) e
 
-      go : (b : Bool) → leb (f .carts) c ≡ b → cond b (AboutPlan (refused 19 c 0)) (fitVerdict floor f (p .head) c row) ≡ Accepted → Replaces floor f p c row
+      go : (b : Bool) → leb (f .carts) c ≡ b → cond b (AboutPlan (refused 19 c 0)) (newRowVerdict floor f (p .head) c row) ≡ Accepted → Replaces floor f p c row
       go true q u = let z : _≡_ {A = ℕ} 0 1 = cc in absurd (omega arith)
       go false q u =
-          let w = both-accepted (newRowVerdict c (judgedRow row (p .head .steps) (f .places))) (cartVerdict floor c row (p .head .steps) (p .head .stem)) u in
+          let w = both-accepted (placesVerdict c (judgedRow row (p .head .steps) (f .places))) (cartVerdict floor c row (p .head .steps) (p .head .stem)) u in
           record {
             moves = stages .0;
             cart = leb-false _ _ q;
@@ -115,37 +117,78 @@ module _ (floor : List ℕ) (f : Floor) (p : Numbers) (c : ℕ) (row : List ℕ)
     pub reads-replaced : f .carts ≤ 32 → readPlan f (planFile (replaced c row p)) ≡ accepted (replaced c row p)
     reads-replaced few = file-reads f (replaced c row p) few valid-replaced
 
-module _ (floor before : List ℕ) (b : Bytes floor) (b′ : Bytes before) (c : ℕ) (row : List ℕ) (v : Verdict) (after : List ℕ) (e : v ≡ Accepted) where
-  new-row : Gives (replaceRow floor before c row) v after → NewRow floor before c row after
-  unfolding replaceRow checkedMoves
-  new-row g = go (went (λ v. unchanged v before) step floor before)
+-- and what is enough for it
+pub accepted-row : (floor : List ℕ) (f : Floor) (p : Numbers) (c : ℕ) (row : List ℕ) → Replaces floor f p c row → replaceVerdict floor f p c row ≡ Accepted
+accepted-row floor f p c row w =
+    let h = p .head in
+    let fits : placesVerdict c (judgedRow row (h .steps) (f .places)) ≡ Accepted = ap (placesVerdict c) (row-accepted (h .steps) (f .places) row (w .fits)) in
+    goes-on (movesVerdict floor f p) (cartRowVerdict floor f p c row) (ap isAccepted (w .moves))
+    ∙ ap (λ (b : Bool). cond b (AboutPlan (refused 19 c 0)) (newRowVerdict floor f h c row)) (lt-leb (f .carts) c (w .cart))
+    ∙ goes-on (placesVerdict c (judgedRow row (h .steps) (f .places))) (cartVerdict floor c row (h .steps) (h .stem)) (ap isAccepted fits) ∙ w .opened
+
+module _ (floor before : List ℕ) (c : ℕ) (row : List ℕ) (v : Verdict) (after : List ℕ) (g : Gives (replaceRow floor before c row) v after) where
+  refuse : Verdict → Outcome
+  refuse v = unchanged v before
+
+  step : Floor → Numbers → Outcome
+  step f p = replacedIn before (p .head .steps) c row (replaceVerdict floor f p c row)
+
+  -- with floor and plan read: the verdict on the replacement, and what becomes of the plan
+  verdict : (f : Floor) (p : Numbers) → ReadAs floor before f p → v ≡ replaceVerdict floor f p c row
+  unfolding replaceRow refuse step
+  verdict f p w = g .answer ∙ ap (λ (o : Outcome). o .answer) (read-on refuse step floor before f p w)
+
+  left : (f : Floor) (p : Numbers) → ReadAs floor before f p → (b : Bool) → isAccepted v ≡ b → after ≡ cond b (stored before (rowAt (p .head .steps) c) row) before
+  unfolding replaceRow refuse step
+  left f p w b e =
+      g .out ∙ ap (λ (o : Outcome). o .out) (read-on refuse step floor before f p w)
+      ∙ ap (λ (t : Bool). cond t (stored before (rowAt (p .head .steps) c) row) before) (ap isAccepted (sym (verdict f p w)) ∙ e)
+
+  kept : isAccepted v ≡ false → after ≡ before
+  unfolding replaceRow refuse step
+  kept e = go (went refuse step floor before)
     where
-      step : Floor → Numbers → Outcome
-      step f p = replacedIn before (p .head .steps) c row (replaceVerdict floor f p c row)
+      go : Went refuse step floor before → after ≡ before
+      go (no-floor x q) = g .out ∙ ap (λ (o : Outcome). o .out) q
+      go (no-plan x q) = g .out ∙ ap (λ (o : Outcome). o .out) q
+      go (on f n w r) = left f n w false e
 
-      go : Went (λ (v : Verdict). unchanged v before) step floor before → NewRow floor before c row after
-      go (no-floor x q) = let u = g .answer ∙ ap (λ (o : Outcome). o .answer) q in let z : _≡_ {A = ℕ} 0 1 = cc in absurd (omega arith)
-      go (no-plan x q) = let u = g .answer ∙ ap (λ (o : Outcome). o .answer) q in let z : _≡_ {A = ℕ} 0 1 = cc in absurd (omega arith)
-      go (on f n p q r) =
-          let d = valid f before n q in
-          let few : f .carts ≤ 32 = accepts floor f b p .valid .few-carts in
-          let yes : replaceVerdict floor f n c row ≡ Accepted = sym (g .answer ∙ ap (λ (o : Outcome). o .answer) r) ∙ e in
-          let w = replaces floor f n c row yes in
-          let file : after ≡ planFile (replaced c row n) =
-          g .out ∙ ap (λ (o : Outcome). o .out) r
-          ∙ ap (λ (x : Verdict). cond (isAccepted x) (stored before (rowAt (n .head .steps) c) row) before) yes
-          ∙ ap (λ (x : List ℕ). stored x (rowAt (n .head .steps) c) row) (sym (bytes-back f before n b′ q)) ∙ stored-replaced floor f n c row d w in
-          let reads : readPlan f after ≡ accepted (replaced c row n) = ap (readPlan f) file ∙ reads-replaced floor f n c row d w few in
-          record {
-            floor-is = f;
-            numbers = n;
-            floor-read = p;
-            plan-read = q;
-            cart = w .cart;
-            reads = reads;
-            moves = read-on (λ v. v) (movesVerdict floor) floor after f (replaced c row n) p reads ∙ moves-replaced floor f n c row d w;
-          }
+  complete : (f : Floor) (p : Numbers) → ReadAs floor before f p → AllUnending floor f p → c < f .carts
+      → RowFits (p .head .steps) (f .places) row → CartUnending floor (replaced c row p) c → v ≡ Accepted
+  complete f p w all there fits new =
+      let d = valid f before p (w .plan-read) in
+      let same : getD (set (p .rows) c row) c [] ≡ row = getD-set-same (p .rows) c row [] (omega (arith, d .carts)) in
+      let opened : cartVerdict floor c row (p .head .steps) (p .head .stem) ≡ Accepted =
+      ap (λ (x : List ℕ). cartVerdict floor c x (p .head .steps) (p .head .stem)) (sym same) ∙ cart-accepted floor (replaced c row p) (d .head .stem) c new in
+      verdict f p w ∙ accepted-row floor f p c row (record { moves = all-accepted floor p (d .head .stem) f all; cart = there; fits = fits; opened = opened })
 
-pub promise : (floor before : List ℕ) (c : ℕ) (row : List ℕ) (v : Verdict) (after : List ℕ) → Bytes floor → Bytes before → Gives (replaceRow floor before c row) v after
-    → RowReplaced floor before c row v after
-promise floor before c row v after b b′ g = record { outcome = g; replaces = λ e. new-row floor before b b′ c row v after e g }
+  module _ (b : Bytes floor) (b′ : Bytes before) where
+    new-row : v ≡ Accepted → NewRow floor before c row after
+    unfolding replaceRow refuse step
+    new-row e = go (went refuse step floor before)
+      where
+        go : Went refuse step floor before → NewRow floor before c row after
+        go (no-floor x q) = let u = g .answer ∙ ap (λ (o : Outcome). o .answer) q in let z : _≡_ {A = ℕ} 0 1 = cc in absurd (omega arith)
+        go (no-plan x q) = let u = g .answer ∙ ap (λ (o : Outcome). o .answer) q in let z : _≡_ {A = ℕ} 0 1 = cc in absurd (omega arith)
+        go (on f n u r) =
+            let d = valid f before n (u .plan-read) in
+            let few : f .carts ≤ 32 = accepts floor f b (u .floor-read) .valid .few-carts in
+            let w = replaces floor f n c row (sym (verdict f n u) ∙ e) in
+            let back : stored before (rowAt (n .head .steps) c) row ≡ planFile (replaced c row n) =
+            ap (λ (x : List ℕ). stored x (rowAt (n .head .steps) c) row) (sym (bytes-back f before n b′ (u .plan-read))) ∙ stored-replaced floor f n c row d w in
+            let reads : readPlan f after ≡ accepted (replaced c row n) =
+            ap (readPlan f) (left f n u true (ap isAccepted e) ∙ back) ∙ reads-replaced floor f n c row d w few in
+            record {
+              floor-is = f;
+              numbers = n;
+              read = u;
+              cart = w .cart;
+              reads = reads;
+              moves-before = moves-read floor before f n u ∙ w .moves;
+              moves =
+                  moves-read floor after f (replaced c row n) (record { floor-read = u .floor-read; plan-read = reads })
+                  ∙ moves-replaced floor f n c row d w;
+            }
+
+    pub promise : RowReplaced floor before c row v after
+    promise = record { outcome = g; replaces = new-row; kept = kept; complete = complete }

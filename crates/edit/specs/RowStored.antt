@@ -2,13 +2,13 @@
 use Prim.Native.Nat.{ℕ, zero, suc, _+_, _*_, _≤_, _<_}
 use native.Mathlib.Nat.{suc-mul}
 use native.Mathlib.Omega.{arith}
-use mathlib.Core.Path.{_≡_, refl, sym, ap, ap₂, _∙_}
-use mathlib.Core.List.{List, [], _∷_, _++_, map, flatten, append-assoc}
-use lib.ListN.{length, take, drop, set, length-append}
+use mathlib.Core.Path.{_≡_, sym, ap, ap₂, _∙_}
+use mathlib.Core.List.{List, [], _∷_, _++_, map, append-assoc}
+use lib.ListN.{length, drop, set, length-append}
 use lib.Seq.{drop-at}
 use Rattle.endian.specs.Little.{bytes}
 use Rattle.endian.specs.RoundTrip.{length-bytes}
-use Rattle.record.specs.Record.{Record, encoded, layout}
+use Rattle.record.specs.Record.{encoded, layout}
 use Rattle.record.specs.Parts.{ofKind}
 use Rattle.record.specs.Buffer.{stored}
 use Rattle.record.specs.Stored.{stored-behind}

@@ -9,7 +9,7 @@ ghost use Rattle.refusal.specs.Outcome.{Gives, written};
 ghost use Rattle.refusal.specs.declared.Verdict.the-variants.{Plan as AboutPlan};
 ghost use Rattle.record.specs.Buffer.{stored};
 ghost use Rattle.plan.specs.Numbers.{planFile};
-ghost use Rattle.plan.specs.After.{rowsIn, numbersIn};
+ghost use Rattle.plan.specs.Plan.{rowsIn, heldNumbers};
 ghost use Rattle.plan.specs.Valid.{InRange};
 ghost use Rattle.edit.specs.Moved.{turned, movedRow, movedHead, moved};
 ghost use Rattle.edit.specs.Promises.{MovedOn};
@@ -18,17 +18,18 @@ fn moved_head(s: usize, h: Head) -> Head
     requires { ⌜ InRange h ⌝ }
     ensures { λ r. ⌜ r ≡ movedHead s h ⌝ }
 {
+    let drift = h.drift;
     if s <= h.stem {
         return Head {
             steps: h.steps - s,
             stem: h.stem - s,
-            drift: h.drift,
+            drift,
         };
     }
     Head {
         steps: h.steps - h.stem,
         stem: 0,
-        drift: h.drift,
+        drift,
     }
 }
 
@@ -41,7 +42,7 @@ fn put_turned(lap: &[u8], k: usize, out: &mut [u8], at: usize)
     record::copy_at(out, at + (lap.len() - k), &lap[..k]);
 }
 
-// Writes one row, moved on by its own length and lap, at an offset of a buffer. Every other byte stays.
+// Writes one row moved on by s, by a length and a lap of its own, at an offset of a buffer. Every other byte stays.
 fn moved_row(row: &[u8], stem: usize, s: usize, out: &mut [u8], at: usize)
     requires { ⌜ (stem < length (now row)) × (at + length (movedRow (length (now row)) stem s (now row)) ≤ length (now out)) ⌝ }
     ensures { λ _. ⌜ now (out .exit) ≡ stored (now (out .entry)) at (movedRow (length (now (row .entry))) stem s (now (row .entry))) ⌝ }
@@ -76,7 +77,7 @@ fn moved_rows(carts: usize, h: Head, block: &[u8], s: usize, size: usize) -> [u8
 fn put_moved(carts: usize, h: Head, block: &[u8], s: usize, out: &mut [u8]) -> Verdict
     requires { ⌜ InRange h ⌝ }
     requires { ⌜ (carts ≤ 32) × (length (now block) ≡ 2048) ⌝ }
-    ensures { λ v. ⌜ Gives (written AboutPlan (planFile (moved s (numbersIn carts h (now (block .entry))))) (now (out .entry))) v (now (out .exit)) ⌝ }
+    ensures { λ v. ⌜ Gives (written AboutPlan (planFile (moved s (heldNumbers carts h (now (block .entry))))) (now (out .entry))) v (now (out .exit)) ⌝ }
 {
     let m = moved_head(s, h);
     let steps = m.steps;

@@ -5,21 +5,22 @@ use plan::Head;
 use plan::RowAnswer;
 use refusal::Verdict;
 ghost use mathlib.Core.Path.{_≡_};
-ghost use Prim.Native.Nat.{ℕ, _≤_, _<_};
+ghost use Prim.Native.Nat.{ℕ, _<_};
 ghost use lib.ListN.{length};
 ghost use Rattle.floor.specs.Promises.{Accepts};
-ghost use Rattle.plan.specs.After.{numbersIn};
+ghost use Rattle.plan.specs.Plan.{heldNumbers};
 ghost use Rattle.plan.specs.Valid.{InRange};
 ghost use Rattle.plan.specs.declared.RowAnswer.the-variants.{Absent};
 ghost use Rattle.row.specs.Moves.{lanesIn};
 ghost use Rattle.row.specs.Chain.{Chained};
-ghost use Rattle.edit.specs.Replaced.{newRowVerdict, fitVerdict, replaceVerdict};
-ghost use Rattle.edit.specs.Promises.{Judged, RowReplaced};
+ghost use Rattle.edit.specs.Replaced.{placesVerdict, newRowVerdict, replaceVerdict};
+ghost use Rattle.edit.specs.Judgement.{Judged};
+ghost use Rattle.edit.specs.Promises.{RowReplaced};
 
 // A row judged on its places, as a verdict.
 fn verdict_of(c: usize, a: RowAnswer) -> Verdict
     requires { ⌜ (c < 32) × ((s : ℕ) → a ≡ Absent s → s < 64) ⌝ }
-    ensures { λ r. ⌜ r ≡ newRowVerdict c a ⌝ }
+    ensures { λ r. ⌜ r ≡ placesVerdict c a ⌝ }
 {
     match a {
         RowAnswer::Fits => Verdict::Accepted,
@@ -42,7 +43,7 @@ fn judge_fit<'a>(
     requires { ⌜ Chained (lanesIn (now s)) (now first) (now next) 0 ⌝ }
     requires { ⌜ InRange h ⌝ }
     requires { ⌜ c < f .carts ⌝ }
-    ensures { λ r. ⌜ r ≡ fitVerdict (now (s .entry)) f h c (now (row .entry)) ⌝ }
+    ensures { λ r. ⌜ r ≡ newRowVerdict (now (s .entry)) f h c (now (row .entry)) ⌝ }
 {
     let v = verdict_of(c, plan::judge_row(row, h.steps, f.places));
     if !refusal::accepts(v) {
@@ -63,7 +64,7 @@ fn judge_after<'a>(
     requires { ⌜ Accepts (now s) f ⌝ }
     requires { ⌜ InRange h ⌝ }
     requires { ⌜ length (now block) ≡ 2048 ⌝ }
-    ensures { λ r. ⌜ r ≡ replaceVerdict (now (s .entry)) f (numbersIn (f .carts) h (now (block .entry))) cart (now (row .entry)) ⌝ }
+    ensures { λ r. ⌜ r ≡ replaceVerdict (now (s .entry)) f (heldNumbers (f .carts) h (now (block .entry))) cart (now (row .entry)) ⌝ }
 {
     let links = row::linked(s, f);
     let first = links.first;

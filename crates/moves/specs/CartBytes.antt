@@ -2,8 +2,8 @@
 use Prim.Native.Nat.{ℕ, _+_, _*_, _<_}
 use native.Mathlib.Omega.{arith}
 use mathlib.Core.Path.{_≡_, sym, ap, subst, _∙_}
-use mathlib.Core.List.{List, []}
-use lib.ListN.{length, getD}
+use mathlib.Core.List.{List}
+use lib.ListN.{getD}
 use Rattle.record.specs.Laid.{part-of, field-of}
 use Rattle.floor.specs.Numbers.{numbersOf, cartAt}
 use Rattle.floor.specs.Promises.{Accepts}

@@ -11,7 +11,7 @@ use Rattle.plan.specs.Plan.{Numbers}
 use Rattle.plan.specs.After.{afterReading}
 use Rattle.row.specs.Moves.{lanesIn, cartsIn, judgedMoves}
 use Rattle.row.specs.declared.MoveAnswer.{MoveAnswer}
-use Rattle.row.specs.declared.MoveAnswer.the-variants.{Open, Start, Shut}
+use Rattle.row.specs.declared.MoveAnswer.the-variants.{Open, Elsewhere, Shut}
 
 -- "class 0 to 7, start place"
 abbrev pub classOf : List ℕ → ℕ → ℕ
@@ -21,14 +21,14 @@ abbrev pub startOf : List ℕ → ℕ → ℕ
 startOf floor c = getD (getD (cartsIn floor) c []) 1 0
 
 -- document 01's numbers of each answer: "10 first place is not the start (cart, 0), then 11 no open lane (cart, lowest step left)"
-abbrev pub moveVerdict : ℕ → MoveAnswer → Verdict
-moveVerdict c Open = Accepted
-moveVerdict c Start = AboutPlan (refused 10 c 0)
-moveVerdict c (Shut s) = AboutPlan (refused 11 c s)
+abbrev pub verdictOf : ℕ → MoveAnswer → Verdict
+verdictOf c Open = Accepted
+verdictOf c Elsewhere = AboutPlan (refused 10 c 0)
+verdictOf c (Shut s) = AboutPlan (refused 11 c s)
 
 -- a row as cart c's, by an h and l
 abbrev pub cartVerdict : List ℕ → ℕ → List ℕ → ℕ → ℕ → Verdict
-cartVerdict floor c row h l = moveVerdict c (judgedMoves (lanesIn floor) (classOf floor c) (startOf floor c) row h l)
+cartVerdict floor c row h l = verdictOf c (judgedMoves (lanesIn floor) (classOf floor c) (startOf floor c) row h l)
 
 abbrev pub rowVerdict : List ℕ → Numbers → ℕ → Verdict
 rowVerdict floor p c = cartVerdict floor c (getD (p .rows) c []) (p .head .steps) (p .head .stem)

@@ -7,21 +7,21 @@ ghost use mathlib.Core.Path.{_≡_};
 ghost use Prim.Native.Nat.{ℕ, _≤_, _<_};
 ghost use lib.ListN.{length};
 ghost use Rattle.floor.specs.Promises.{Accepts};
-ghost use Rattle.plan.specs.After.{numbersIn};
+ghost use Rattle.plan.specs.Plan.{heldNumbers};
 ghost use Rattle.row.specs.Moves.{lanesIn};
 ghost use Rattle.row.specs.Chain.{Chained};
 ghost use Rattle.row.specs.declared.MoveAnswer.the-variants.{Shut};
-ghost use Rattle.moves.specs.Carts.{moveVerdict, cartVerdict, judgedCarts};
+ghost use Rattle.moves.specs.Carts.{verdictOf, cartVerdict, judgedCarts};
 ghost use Rattle.moves.specs.Promises.{MovesChecked};
 
 // A cart's moves judged, as a verdict.
 fn verdict_of(c: usize, a: MoveAnswer) -> Verdict
     requires { ⌜ (c < 32) × ((s : ℕ) → a ≡ Shut s → s < 64) ⌝ }
-    ensures { λ r. ⌜ r ≡ moveVerdict c a ⌝ }
+    ensures { λ r. ⌜ r ≡ verdictOf c a ⌝ }
 {
     match a {
         MoveAnswer::Open => Verdict::Accepted,
-        MoveAnswer::Start => Verdict::Plan(refusal::refuse(10, c as u32, 0)),
+        MoveAnswer::Elsewhere => Verdict::Plan(refusal::refuse(10, c as u32, 0)),
         MoveAnswer::Shut(s) => Verdict::Plan(refusal::refuse(11, c as u32, s as u32)),
     }
 }
@@ -58,7 +58,7 @@ pub fn judge_carts<'a>(
     requires { ⌜ Accepts (now s) f ⌝ }
     requires { ⌜ Chained (lanesIn (now s)) (now first) (now next) 0 ⌝ }
     requires { ⌜ (h .stem < h .steps) × (h .steps ≤ 64) × (length (now block) ≡ 2048) ⌝ }
-    ensures { λ r. ⌜ r ≡ judgedCarts (now (s .entry)) (numbersIn (f .carts) h (now (block .entry))) (f .carts) 0 ⌝ }
+    ensures { λ r. ⌜ r ≡ judgedCarts (now (s .entry)) (heldNumbers (f .carts) h (now (block .entry))) (f .carts) 0 ⌝ }
 {
     let steps = h.steps;
     let mut c: usize = 0;

@@ -1,7 +1,7 @@
 -- What an operation does once floor and plan are read.
-use Prim.Native.Nat.{ℕ, zero, suc}
-use mathlib.Core.List.{List, [], _∷_}
-use lib.ListN.{take, drop}
+use Prim.Native.Nat.{ℕ}
+use mathlib.Core.Path.{_≡_}
+use mathlib.Core.List.{List}
 use Rattle.refusal.specs.declared.Verdict.{Verdict}
 use Rattle.refusal.specs.declared.Verdict.the-variants.{Floor as AboutFloor, Plan as AboutPlan}
 use Rattle.floor.specs.Floor.{readFloor}
@@ -9,7 +9,6 @@ use Rattle.floor.specs.declared.Floor.{Floor}
 use Rattle.floor.specs.declared.FloorAnswer.{FloorAnswer}
 use Rattle.floor.specs.declared.FloorAnswer.the-variants.{Read as FloorAccepted, Refused as FloorRefused}
 use Rattle.plan.specs.Plan.{Numbers, PlanAnswer, accepted, rejected, readPlan}
-use Rattle.plan.specs.declared.Head.{Head}
 
 module _ {A : Type 0} (refuse : Verdict → A) (go : Floor → Numbers → A) where
   abbrev pub afterPlan : Floor → PlanAnswer → A
@@ -24,11 +23,7 @@ module _ {A : Type 0} (refuse : Verdict → A) (go : Floor → Numbers → A) wh
   unfoldable pub afterReading : List ℕ → List ℕ → A
   afterReading floor s = afterFloor (readFloor floor) s
 
--- "cart n's row beginning at 64 times n": n rows of so many steps
-unfoldable pub rowsIn : ℕ → ℕ → List ℕ → List (List ℕ)
-rowsIn zero steps block = []
-rowsIn (suc n) steps block = take steps block ∷ rowsIn n steps (drop 64 block)
-
--- the numbers of a plan whose head and block are these
-abbrev pub numbersIn : ℕ → Head → List ℕ → Numbers
-numbersIn carts h block = record { head = h; rows = rowsIn carts (h .steps) block }
+-- floor and plan are read as these
+pub record ReadAs (floor s : List ℕ) (f : Floor) (n : Numbers) : Type 0 where
+  pub floor-read : readFloor floor ≡ FloorAccepted f
+  pub plan-read : readPlan f s ≡ accepted n

@@ -5,7 +5,7 @@ use native.Mathlib.Omega.{arith}
 use mathlib.Core.Path.{_≡_, refl, sym, ap, ap₂, _∙_}
 use mathlib.Core.List.{List, [], _∷_, _++_, map, flatten, append-assoc, append-nil}
 use lib.ListN.{length, take, drop, getD, length-append, length-replicate, replicate-append-replicate}
-use lib.Seq.{take-append-add, drop-append-add, take-at, drop-at}
+use lib.Seq.{drop-append-add, take-at, drop-at}
 use Rattle.record.specs.Buffer.{stored}
 use Rattle.record.specs.Stored.{stored-behind}
 use Rattle.record.specs.All.{All, AllOf}

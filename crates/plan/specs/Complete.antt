@@ -1,5 +1,6 @@
 -- Numbers of the table are accepted: what reading accepts is exactly what is valid.
 use Prim.Native.Nat.{ℕ, suc, _+_, _*_, _≤_, _<_}
+use native.Mathlib.Nat.{suc-mul, mul-le-mul}
 use native.Mathlib.Omega.{arith}
 use mathlib.Core.Path.{_≡_, refl, sym, ap, subst, _∙_}
 use mathlib.Core.Bool.{Bool, false, cond}
@@ -16,6 +17,7 @@ use Rattle.plan.specs.Plan.{Numbers, accepted, outOfRange, judgedPlaces,
 use Rattle.plan.specs.Numbers.{Narrow, planBytes, planFile}
 use Rattle.plan.specs.Valid.{InRange, Valid}
 use Rattle.plan.specs.RoundTrip.{length-plan}
+use Rattle.plan.specs.Passed.{RowFits}
 use Rattle.plan.specs.Judged.{good-head}
 use Rattle.plan.specs.declared.Head.{Head}
 use Rattle.plan.specs.declared.RowAnswer.{RowAnswer}
@@ -57,14 +59,17 @@ rows-fit f h (x ∷ xs) done at s p l =
     ∙ ap (λ (y : List (List ℕ)). accepted (record { head = h; rows = y })) (append-assoc done (x ∷ []) xs)
 
 -- rows of so many steps, laid out
-length-rows : (k : ℕ) (xs : List (List ℕ)) → k ≤ 64 → AllOf k xs → length (layout (map (ofKind 5) xs)) ≤ 68 * length xs
+length-rows : (k : ℕ) (xs : List (List ℕ)) → AllOf k xs → length (layout (map (ofKind 5) xs)) ≡ length xs * (4 + k)
 unfolding layout
-length-rows k [] h s = omega arith
-length-rows k (x ∷ xs) h s =
+length-rows k [] s = omega arith
+length-rows k (x ∷ xs) s =
     let a = length-append (encoded (ofKind 5 x)) (layout (map (ofKind 5) xs)) in
     let b = length-encoded (ofKind 5 x) in
-    let c = length-rows k xs h (s .1) in
-    omega (arith, s .0)
+    let c = length-rows k xs (s .1) in
+    omega (arith, s .0, suc-mul (length xs) (4 + k))
+
+few-rows : (k n : ℕ) → k ≤ 64 → n ≤ 32 → n * (4 + k) ≤ 32 * 68
+few-rows k n a b = mul-le-mul {n₁ = n} {m₁ = 4 + k} {m₂ = 68} b (omega arith)
 
 pub complete : (f : Floor) (h : Head) (rows : List ℕ) → f .carts ≤ 32 → Valid (record { head = h; rows = parts (h .steps) rows }) f
     → readPlan f (planBytes h rows) ≡ accepted (record { head = h; rows = parts (h .steps) rows })
@@ -75,7 +80,7 @@ complete f h rows m v =
     let places : All (λ (row : List ℕ). judgedPlaces (f .places) 0 row ≡ Fits) xs =
     all-of (λ (row : List ℕ). judgedPlaces (f .places) 0 row ≡ Fits) xs
     (λ i l. fits-all (f .places) 0 (getD xs i []) (λ s k. v .places i s (omega (arith, v .carts)) (omega (arith, v .steps i (omega (arith, v .carts)))))) in
-    let short : length (planBytes h rows) ≤ 65536 = omega (arith, length-plan h rows, length-rows (h .steps) xs (r .steps) sizes, v .carts) in
+    let short : length (planBytes h rows) ≤ 65536 = omega (arith, length-plan h rows, length-rows (h .steps) xs sizes, few-rows (h .steps) (length xs) (r .steps) (omega (arith, v .carts))) in
     let narrow : Narrow h = record { steps = omega (arith, r .steps); stem = omega (arith, r .steps, r .stem); drift = omega (arith, r .drift) } in
     good-head f h rows narrow short (in-range h r) ∙ rows-fit f h xs [] 10 sizes places (omega (arith, v .carts))
 
@@ -87,10 +92,19 @@ file-reads f n few v =
     ap (λ (x : List (List ℕ)). record { head = n .head; rows = x }) (parts-flatten (n .head .steps) (n .rows) (v .head .some) sizes) in
     complete f (n .head) (flatten (n .rows)) few (subst (λ (x : Numbers). Valid x f) (sym e) v) ∙ ap accepted e
 
--- it is never too long
-pub file-short : (n : Numbers) → InRange (n .head) → AllOf (n .head .steps) (n .rows) → length (n .rows) ≤ 32 → length (planFile n) ≤ 65536
-file-short n r sizes few =
+-- it has a head of ten bytes, and for each row four and its steps
+pub file-length : (n : Numbers) → 0 < n .head .steps → AllOf (n .head .steps) (n .rows) → length (planFile n) ≡ 10 + length (n .rows) * (4 + n .head .steps)
+file-length n some sizes =
     let k = n .head .steps in
     let e : length (laid 5 k (flatten (n .rows))) ≡ length (layout (map (ofKind 5) (n .rows))) =
-    ap (λ (x : List (List ℕ)). length (layout (map (ofKind 5) x))) (parts-flatten k (n .rows) (r .some) sizes) in
-    omega (arith, length-plan (n .head) (flatten (n .rows)), length-rows k (n .rows) (r .steps) sizes)
+    ap (λ (x : List (List ℕ)). length (layout (map (ofKind 5) x))) (parts-flatten k (n .rows) some sizes) in
+    omega (arith, length-plan (n .head) (flatten (n .rows)), length-rows k (n .rows) sizes)
+
+pub file-short : (n : Numbers) → InRange (n .head) → AllOf (n .head .steps) (n .rows) → length (n .rows) ≤ 32 → length (planFile n) ≤ 65536
+file-short n r sizes few = omega (arith, file-length n (r .some) sizes, few-rows (n .head .steps) (length (n .rows)) (r .steps) few)
+
+-- a row of the table's is not refused
+pub row-accepted : (steps places : ℕ) (row : List ℕ) → RowFits steps places row → judgedRow row steps places ≡ Fits
+unfolding judgedRow
+row-accepted steps places row w =
+    ap (λ (b : Bool). cond b (judgedPlaces places 0 row) WrongLength) (eq-eqb _ _ (w .size)) ∙ fits-all places 0 row (w .there)

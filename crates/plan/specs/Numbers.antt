@@ -15,7 +15,7 @@ use Rattle.plan.specs.declared.Head.{Head}
 use Rattle.plan.specs.declared.NumbersAnswer.{NumbersAnswer}
 use Rattle.plan.specs.declared.NumbersAnswer.the-variants.{Good, Refused}
 
--- the three numbers of a head that a caller gives
+-- a head by its three numbers
 abbrev pub headOf : ℕ → ℕ → ℕ → Head
 headOf h l d = record { steps = h; stem = l; drift = d }
 

@@ -131,6 +131,15 @@ blockOf rows = flatten (map padded rows) ++ zeros (64 * (32 - length rows))
 abbrev pub planOf : Numbers → Plan
 planOf n = record { head = n .head; carts = length (n .rows); block = blockOf (n .rows) }
 
+-- n rows of so many steps that a block holds
+unfoldable pub rowsIn : ℕ → ℕ → List ℕ → List (List ℕ)
+rowsIn zero steps block = []
+rowsIn (suc n) steps block = take steps block ∷ rowsIn n steps (drop 64 block)
+
+-- the numbers of a plan with so many carts whose head and block are these
+abbrev pub heldNumbers : ℕ → Head → List ℕ → Numbers
+heldNumbers carts h block = record { head = h; rows = rowsIn carts (h .steps) block }
+
 -- what reading gives: the verdict, and the floor and plan, or zeros where it refuses
 abbrev pub noPlan : Plan
 noPlan = record { head = record { steps = 0; stem = 0; drift = 0 }; carts = 0; block = zeros 2048 }

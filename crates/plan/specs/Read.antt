@@ -10,14 +10,14 @@ use Rattle.refusal.specs.Stages.{isAccepted}
 use Rattle.refusal.specs.Accepting.{accepted-is}
 use Rattle.refusal.specs.declared.Refusal.{Refusal}
 use Rattle.refusal.specs.declared.Verdict.{Verdict}
-use Rattle.refusal.specs.declared.Verdict.the-variants.{Accepted, Floor as AboutFloor, Plan as AboutPlan}
+use Rattle.refusal.specs.declared.Verdict.the-variants.{Floor as AboutFloor, Plan as AboutPlan}
 use Rattle.record.specs.All.{AllOf, all-of}
 use Rattle.floor.specs.Floor.{readFloor}
 use Rattle.floor.specs.declared.Floor.{Floor}
 use Rattle.floor.specs.declared.FloorAnswer.{FloorAnswer}
 use Rattle.floor.specs.declared.FloorAnswer.the-variants.{Read as FloorAccepted, Refused as FloorRefused}
-use Rattle.plan.specs.Plan.{Numbers, PlanAnswer, accepted, rejected, readPlan, planOf, planRead, onFloor, readBoth}
-use Rattle.plan.specs.After.{afterPlan, afterFloor, afterReading, rowsIn, numbersIn}
+use Rattle.plan.specs.Plan.{Numbers, PlanAnswer, accepted, rejected, readPlan, rowsIn, heldNumbers, planRead, onFloor, readBoth}
+use Rattle.plan.specs.After.{afterPlan, afterFloor, afterReading, ReadAs}
 use Rattle.plan.specs.Promises.{Accepts, PlanReads}
 use Rattle.plan.specs.Valid.{InRange}
 use Rattle.plan.specs.Block.{length-block, short-all}
@@ -75,14 +75,14 @@ module _ (floor s : List ℕ) (r : PlanRead) (w : Accepts floor s r) where
   pub held-head : r .plan .head ≡ w .numbers .head
   held-head = ap (λ (p : Plan). p .head) (w .held)
 
-  pub held-numbers : numbersIn (r .floor .carts) (r .plan .head) (r .plan .block) ≡ w .numbers
+  pub held-numbers : heldNumbers (r .floor .carts) (r .plan .head) (r .plan .block) ≡ w .numbers
   held-numbers =
       let n = w .numbers in
       let c = r .floor .carts in
       let rows : rowsIn c (n .head .steps) (r .plan .block) ≡ n .rows =
       same-rows _ (n .rows) (length-rows-in c (n .head .steps) (r .plan .block) ∙ sym (w .valid .carts))
       (λ i l. let m : i < c = omega (arith, w .valid .carts) in row-in c (n .head .steps) (r .plan .block) i m ∙ w .row i m) in
-      ap (λ (h : Head). numbersIn c h (r .plan .block)) held-head ∙ ap (λ (x : List (List ℕ)). record { head = n .head; rows = x }) rows
+      ap (λ (h : Head). heldNumbers c h (r .plan .block)) held-head ∙ ap (λ (x : List (List ℕ)). record { head = n .head; rows = x }) rows
 
   pub held-range : InRange (r .plan .head)
   held-range = subst InRange (sym held-head) (w .valid .head)
@@ -98,22 +98,22 @@ pub accepts-if : (floor s : List ℕ) (r : PlanRead) → PlanReads floor s r →
 accepts-if floor s r w e = w .accepted (accepted-is _ e)
 
 module _ {A : Type 0} (refuse : Verdict → A) (go : Floor → Numbers → A) (floor s : List ℕ) where
-  pub read-on : (f : Floor) (n : Numbers) → readFloor floor ≡ FloorAccepted f → readPlan f s ≡ accepted n → afterReading refuse go floor s ≡ go f n
+  pub read-on : (f : Floor) (n : Numbers) → ReadAs floor s f n → afterReading refuse go floor s ≡ go f n
   unfolding afterReading
-  read-on f n p q = ap (λ (a : FloorAnswer). afterFloor refuse go a s) p ∙ ap (afterPlan refuse go f) q
+  read-on f n w = ap (λ (a : FloorAnswer). afterFloor refuse go a s) (w .floor-read) ∙ ap (afterPlan refuse go f) (w .plan-read)
 
   -- how it goes: refused, or on with what was read
   pub data Went : Type 0 where
     no-floor : (x : Refusal) → afterReading refuse go floor s ≡ refuse (AboutFloor x) → Went
     no-plan : (x : Refusal) → afterReading refuse go floor s ≡ refuse (AboutPlan x) → Went
-    on : (f : Floor) (n : Numbers) → readFloor floor ≡ FloorAccepted f → readPlan f s ≡ accepted n → afterReading refuse go floor s ≡ go f n → Went
+    on : (f : Floor) (n : Numbers) → ReadAs floor s f n → afterReading refuse go floor s ≡ go f n → Went
 
   pub went : Went
   unfolding afterReading
   went = on-floor (readFloor floor) refl
     where
       on-plan : (f : Floor) → readFloor floor ≡ FloorAccepted f → (a : PlanAnswer) → readPlan f s ≡ a → Went
-      on-plan f p (accepted n) q = on f n p q (read-on f n p q)
+      on-plan f p (accepted n) q = let w : ReadAs floor s f n = record { floor-read = p; plan-read = q } in on f n w (read-on f n w)
       on-plan f p (rejected x) q = no-plan x (ap (λ (a : FloorAnswer). afterFloor refuse go a s) p ∙ ap (afterPlan refuse go f) q)
 
       on-floor : (a : FloorAnswer) → readFloor floor ≡ a → Went
@@ -123,7 +123,7 @@ module _ {A : Type 0} (refuse : Verdict → A) (go : Floor → Numbers → A) (f
   module _ (r : PlanRead) where
     -- accepted: on with its numbers
     pub after-accepted : (w : Accepts floor s r) → afterReading refuse go floor s ≡ go (r .floor) (w .numbers)
-    after-accepted w = read-on (r .floor) (w .numbers) (w .floor-read) (w .plan-read)
+    after-accepted w = read-on (r .floor) (w .numbers) (record { floor-read = w .floor-read; plan-read = w .plan-read })
 
     -- refused: as reading is
     pub after-refused : r ≡ readBoth floor s → isAccepted (r .verdict) ≡ false → afterReading refuse go floor s ≡ refuse (r .verdict)

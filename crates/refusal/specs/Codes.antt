@@ -25,7 +25,7 @@ firstFault (t ∷ ts) = cond (t .0) (t .1) (firstFault ts)
 abbrev pub codeAbout : ℕ → Refusal → Code
 codeAbout file r = record { about = file; number = r .number; first = r .first; second = r .second }
 
--- the numbers of a verdict: about no file, 0 and, where bytes were written, how many
+-- the numbers of a verdict: about no file, 0 and, where a result was written, its length in bytes
 abbrev pub codeOf : Verdict → Code
 codeOf Accepted = record { about = 0; number = 0; first = 0; second = 0 }
 codeOf (Written n) = record { about = 0; number = 0; first = n; second = 0 }

@@ -8,7 +8,7 @@ use borrow.Author.Tests.{lt-ltb, le-ltb}
 use lib.ListN.{length, take, drop}
 use lib.Seq.{take-append-seam}
 use Rattle.refusal.specs.Codes.{refused}
-use Rattle.refusal.specs.Outcome.{unchanged, written, Gives}
+use Rattle.refusal.specs.Outcome.{Outcome, unchanged, written, Gives}
 use Rattle.refusal.specs.declared.Refusal.{Refusal}
 use Rattle.refusal.specs.declared.Verdict.{Verdict}
 use Rattle.refusal.specs.declared.Verdict.the-variants.{Written}
@@ -26,15 +26,28 @@ gives-written about bytes before v after h e q =
     let t = le-ltb (length before) (length bytes) h in
     record { answer = e ∙ simp t; out = q ∙ simp t }
 
-module _ (about : Refusal → Verdict) (apart : (r : Refusal) (k : ℕ) → about r ≡ Written k → ⊥) (bytes before : List ℕ) (v : Verdict) (after : List ℕ) (k : ℕ) where
-  pub written-front : Gives (written about bytes before) v after → v ≡ Written k → take k after ≡ bytes
-  written-front g e = go (ltb (length before) (length bytes)) (g .answer) (g .out)
+pub written-if : (about : Refusal → Verdict) (bytes before : List ℕ) (v : Verdict) (after : List ℕ) → Gives (written about bytes before) v after
+    → length bytes ≤ length before → v ≡ Written (length bytes)
+written-if about bytes before v after g h = g .answer ∙ simp (le-ltb (length before) (length bytes) h)
+
+module _ (about : Refusal → Verdict) (apart : (r : Refusal) (k : ℕ) → about r ≡ Written k → ⊥)
+    (bytes before : List ℕ) (v : Verdict) (after : List ℕ) (k : ℕ) where
+  -- the outcome by whether the buffer is too short
+  abbrev outcome : Bool → Outcome
+  outcome b =
+      cond b (unchanged (about (refused 18 (length bytes) 0)) before) (record { answer = Written (length bytes); out = bytes ++ drop (length bytes) before })
+
+  both : Gives (written about bytes before) v after → v ≡ Written k → (k ≡ length bytes) × (take k after ≡ bytes)
+  both g e = go (ltb (length before) (length bytes)) (g .answer) (g .out)
     where
-      go : (b : Bool)
-          → v ≡ (cond b (unchanged (about (refused 18 (length bytes) 0)) before) (record { answer = Written (length bytes); out = bytes ++ drop (length bytes) before })) .answer
-          → after ≡ (cond b (unchanged (about (refused 18 (length bytes) 0)) before) (record { answer = Written (length bytes); out = bytes ++ drop (length bytes) before })) .out
-          → take k after ≡ bytes
+      go : (b : Bool) → v ≡ outcome b .answer → after ≡ outcome b .out → (k ≡ length bytes) × (take k after ≡ bytes)
       go true p q = absurd (apart (refused 18 (length bytes) 0) k (sym p ∙ e))
       go false p q =
           let n : k ≡ length bytes = cc in
-          ap₂ take n q ∙ take-append-seam bytes (drop (length bytes) before)
+          (n, ap₂ take n q ∙ take-append-seam bytes (drop (length bytes) before))
+
+  pub written-length : Gives (written about bytes before) v after → v ≡ Written k → k ≡ length bytes
+  written-length g e = both g e .0
+
+  pub written-front : Gives (written about bytes before) v after → v ≡ Written k → take k after ≡ bytes
+  written-front g e = both g e .1

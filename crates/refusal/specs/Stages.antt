@@ -1,10 +1,9 @@
 -- Stages of a check, one after the other.
 use mathlib.Core.Bool.{Bool, true, false, cond}
-use Prim.Native.Nat.{ℕ}
-use Rattle.refusal.specs.declared.Refusal.{Refusal}
 use Rattle.refusal.specs.declared.Verdict.{Verdict}
 use Rattle.refusal.specs.declared.Verdict.the-variants.{Accepted, Written, Floor, Plan, Rules}
 
+-- a result written is done, and no stage that another follows
 abbrev pub isAccepted : Verdict → Bool
 isAccepted Accepted = true
 isAccepted (Written n) = false

@@ -10,7 +10,7 @@ pub struct Refusal {
     pub second: u32,
 }
 
-// What an operation answers: accepted, or that many bytes written, or a refusal and the file that it is about.
+// What an operation answers: accepted, or a result of so many bytes written, or a refusal and the file that it is about.
 pub enum Verdict {
     Accepted,
     Written(u32),

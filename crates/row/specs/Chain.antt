@@ -8,7 +8,7 @@ use lib.ListN.{length, getD}
 abbrev pub leaves : List (List ℕ) → ℕ → ℕ
 leaves lanes j = getD (getD lanes j []) 0 0
 
--- no lane from j up to i leaves place a
+-- no lane from j on and below i leaves place a
 abbrev pub Free : List (List ℕ) → ℕ → ℕ → ℕ → Type 0
 Free lanes a j i = (m : ℕ) → j ≤ m → m < i → leaves lanes m ≡ a → ⊥
 

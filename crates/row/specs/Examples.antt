@@ -5,7 +5,7 @@ use mathlib.Core.List.{List, [], _∷_}
 use Prim.Native.Nat.{ℕ}
 use Rattle.row.specs.Lasso.{nextStep, stepOf}
 use Rattle.row.specs.Moves.{isOpen, lowestShut, judgedMoves}
-use Rattle.row.specs.declared.MoveAnswer.the-variants.{Open, Start, Shut}
+use Rattle.row.specs.declared.MoveAnswer.the-variants.{Open, Elsewhere, Shut}
 
 -- six steps, the lap from step 2 on: after 5 comes 2
 pub after-last : nextStep 6 2 5 ≡ 2
@@ -43,7 +43,7 @@ unfolding isOpen
 class-shut = refl
 
 -- 10 before 11
-pub other-start : judgedMoves two-ways 2 1 (0 ∷ 1 ∷ []) 2 0 ≡ Start
+pub other-start : judgedMoves two-ways 2 1 (0 ∷ 1 ∷ []) 2 0 ≡ Elsewhere
 unfolding judgedMoves lowestShut isOpen nextStep
 other-start = refl
 

@@ -1,6 +1,7 @@
 -- definitions
 pub mod Lasso
 pub mod Moves
+pub mod Meaning
 pub mod Chain
 -- laws
 pub mod Round

@@ -8,7 +8,7 @@ use Rattle.record.specs.Parts.{parts}
 use Rattle.floor.specs.Numbers.{numbersOf}
 use Rattle.row.specs.Lasso.{nextStep}
 use Rattle.row.specs.declared.MoveAnswer.{MoveAnswer}
-use Rattle.row.specs.declared.MoveAnswer.the-variants.{Open, Start, Shut}
+use Rattle.row.specs.declared.MoveAnswer.the-variants.{Open, Elsewhere, Shut}
 
 -- "classes (a byte each; bit c opens it to class c)"
 abbrev pub bit : ℕ → ℕ → Bool
@@ -31,12 +31,15 @@ unfoldable pub isOpen : List (List ℕ) → ℕ → ℕ → ℕ → Bool
 isOpen [] c a b = false
 isOpen (lane ∷ lanes) c a b = opens lane c a b || isOpen lanes c a b
 
--- the lowest of n steps from s on that is left by a move that is not open, "the move from h − 1 to l included"
-unfoldable pub lowestShut : List (List ℕ) → ℕ → List ℕ → ℕ → ℕ → ℕ → ℕ → MoveAnswer
-lowestShut lanes c row h l zero s = Open
-lowestShut lanes c row h l (suc n) s =
-    cond (isOpen lanes c (getD row s 0) (getD row (nextStep h l s) 0)) (lowestShut lanes c row h l n (suc s)) (Shut s)
+-- the move that leaves step s of a row of h steps whose lap begins at l, "the move from h − 1 to l included"
+abbrev pub openAt : List (List ℕ) → ℕ → List ℕ → ℕ → ℕ → ℕ → Bool
+openAt lanes class row h l s = isOpen lanes class (getD row s 0) (getD row (nextStep h l s) 0)
 
--- "10 first place is not the start, then 11 no open lane"
+-- the lowest of n steps from s on that is left by a move that is not open
+unfoldable pub lowestShut : List (List ℕ) → ℕ → List ℕ → ℕ → ℕ → ℕ → ℕ → MoveAnswer
+lowestShut lanes class row h l zero s = Open
+lowestShut lanes class row h l (suc n) s = cond (openAt lanes class row h l s) (lowestShut lanes class row h l n (suc s)) (Shut s)
+
+-- "10 first place is not the start .., then 11 no open lane"
 unfoldable pub judgedMoves : List (List ℕ) → ℕ → ℕ → List ℕ → ℕ → ℕ → MoveAnswer
-judgedMoves lanes c start row h l = cond (eqb (getD row 0 0) start) (lowestShut lanes c row h l h 0) Start
+judgedMoves lanes class start row h l = cond (eqb (getD row 0 0) start) (lowestShut lanes class row h l h 0) Elsewhere

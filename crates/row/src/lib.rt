@@ -8,7 +8,7 @@ pub use moves::judge_moves;
 // The moves of a row judged: all open, or it begins elsewhere than at the start, or the lowest step left by a move that is not open.
 pub enum MoveAnswer {
     Open,
-    Start,
+    Elsewhere,
     Shut(usize),
 }
 

@@ -3,7 +3,7 @@ use crate::MoveAnswer;
 use crate::lanes;
 use floor::Floor;
 ghost use mathlib.Core.Path.{_≡_};
-ghost use Prim.Native.Nat.{_≤_, _<_};
+ghost use Prim.Native.Nat.{_<_};
 ghost use lib.ListN.{length};
 ghost use Rattle.floor.specs.Promises.{Accepts};
 ghost use Rattle.row.specs.Lasso.{nextStep};
@@ -35,7 +35,7 @@ pub fn judge_moves<'a>(
     ensures { λ r. ⌜ r ≡ judgedMoves (lanesIn (now (s .entry))) class start (now (row .entry)) (length (now (row .entry))) stem ⌝ }
 {
     if row[0] != start {
-        return MoveAnswer::Start;
+        return MoveAnswer::Elsewhere;
     }
     let mut i = 0;
     while i < row.len() {

@@ -7,7 +7,7 @@ use Rattle.row.specs.Unending.{refused-step}
 use Rattle.row.specs.Moves.{lanesIn, judgedMoves}
 use Rattle.row.specs.FloorBytes.{file-length}
 use Rattle.moves.specs.CartBytes.{class-at, start-at, class-low}
-use Rattle.moves.specs.Carts.{moveVerdict}
+use Rattle.moves.specs.Carts.{verdictOf}
 use Rattle.moves.proofs.judge_cart.Statement.{statement}
 use Rattle.moves.proofs.judge_cart.Tie as tie
 
@@ -52,7 +52,7 @@ verdict-of-requires : tie.Need-verdict-of-requires
 verdict-of-requires c κs =
     let p = c .before .before .before .before .before .before .before .pre in
     let a = c .before .before .before .before .before .before .before .args in
-    (omega (arith, p .1 .1 .0, p .0 .valid .few-carts), λ s e. omega (arith, refused-step (lanesIn (a .s .now)) _ (a .row .now) (length (a .row .now)) (a .stem) _ s (sym (c .judge-moves .ensures) ∙ e) .1, p .1 .1 .2))
+    (omega (arith, p .1 .1 .0, p .0 .valid .few-carts), λ s e. omega (arith, refused-step (lanesIn (a .s .now)) _ (a .row .now) (length (a .row .now)) (a .stem) _ s (sym (c .judge-moves .ensures) ∙ e) .1 .below, p .1 .1 .2))
 
 returns : tie.Need-returns
 returns c =
@@ -61,7 +61,7 @@ returns c =
     let at = a .f .places * 8 + a .f .lanes * 7 + a .c * 6 + 4 in
     let k = class-at (a .s .now) (a .f) (p .0) (a .c) (p .1 .1 .0) at refl in
     let s = start-at (a .s .now) (a .f) (p .0) (a .c) (p .1 .1 .0) at refl in
-    c .verdict-of .ensures ∙ ap (moveVerdict (a .c)) (c .before .judge-moves .ensures ∙ sym (ap₂ (λ (x y : ℕ). judgedMoves (lanesIn (a .s .now)) x y (a .row .now) (length (a .row .now)) (a .stem)) k s))
+    c .verdict-of .ensures ∙ ap (verdictOf (a .c)) (c .before .judge-moves .ensures ∙ sym (ap₂ (λ (x y : ℕ). judgedMoves (lanesIn (a .s .now)) x y (a .row .now) (length (a .row .now)) (a .stem)) k s))
 
 pub judge-cart-spec : {M : Type 1} → statement M
 judge-cart-spec =

@@ -2,7 +2,7 @@ use Prim.Native.Nat.{_-_}
 use native.Mathlib.Omega.{arith}
 use mathlib.Core.Path.{sym, _∙_}
 use borrow.Author.Needs.{needs}
-use Rattle.plan.specs.After.{numbersIn}
+use Rattle.plan.specs.Plan.{heldNumbers}
 use Rattle.plan.specs.Read.{part-length}
 use Rattle.moves.specs.Judged.{carts-passed}
 use Rattle.moves.proofs.Judging.{begun, Judging, refused, onward}
@@ -69,7 +69,7 @@ returns-2 : tie.Need-returns-2 Inv-loop μ-loop
 returns-2 c =
     let a = c .before .before .before .before .before .args in
     let w = c .before .before .loop .inv in
-    sym (w .same ∙ carts-passed (a .s .now) (numbersIn (a .f .carts) (a .h) (a .block .now)) (a .f .carts) (c .before .before .loop .c) (omega (arith, c .if1 .left)))
+    sym (w .same ∙ carts-passed (a .s .now) (heldNumbers (a .f .carts) (a .h) (a .block .now)) (a .f .carts) (c .before .before .loop .c) (omega (arith, c .if1 .left)))
 
 pub judge-carts-spec : {M : Type 1} → statement M
 judge-carts-spec =

@@ -2,7 +2,7 @@ use native.Mathlib.Omega.{arith}
 use mathlib.Core.Path.{sym, ap, _∙_}
 use borrow.Author.Needs.{needs}
 use Rattle.refusal.specs.declared.Verdict.the-variants.{Plan as AboutPlan}
-use Rattle.moves.specs.Carts.{moveVerdict}
+use Rattle.moves.specs.Carts.{verdictOf}
 use Rattle.moves.proofs.verdict_of.Statement.{statement}
 use Rattle.moves.proofs.verdict_of.Tie as tie
 
@@ -34,10 +34,10 @@ returns : tie.Need-returns
 returns c = search needs
 
 returns-2 : tie.Need-returns-2
-returns-2 c = ap AboutPlan (c .refuse .ensures) ∙ ap (moveVerdict (c .before .before .before .args .c)) (sym (c .before .enum-told2 .given .1))
+returns-2 c = ap AboutPlan (c .refuse .ensures) ∙ ap (verdictOf (c .before .before .before .args .c)) (sym (c .before .enum-told2 .given .1))
 
 returns-3 : tie.Need-returns-3
-returns-3 c = ap AboutPlan (c .refuse2 .ensures) ∙ ap (moveVerdict (c .before .before .before .before .args .c)) (sym (c .before .before .a .given .1))
+returns-3 c = ap AboutPlan (c .refuse2 .ensures) ∙ ap (verdictOf (c .before .before .before .before .args .c)) (sym (c .before .before .a .given .1))
 
 pub verdict-of-spec : {M : Type 1} → statement M
 verdict-of-spec =

@@ -37,7 +37,7 @@ unfolding moveOn
 returns c =
     let a = c .before .before .before .before .before .before .args in
     let e = after-refused (λ v. unchanged v (a .out .now)) (go (a .out .now) (a .s)) (a .floor .now) (a .plan .now) _ (c .before .before .read .ensures .answer) (sym (c .before .accepts .ensures) ∙ not-is _ true (c .if1 .taken)) in
-    promise _ _ _ _ _ _ (λ i. omega (arith, c .before .before .before .before .before .shared-slice-known .given i)) (subst (λ (o : Outcome). Gives o (c .before .before .read .result .verdict) (a .out .now)) (sym e) (record { answer = refl; out = refl }))
+    promise _ _ (λ i. omega (arith, c .before .before .before .before .before .shared-slice-known .given i)) _ _ _ _ (subst (λ (o : Outcome). Gives o (c .before .before .read .result .verdict) (a .out .now)) (sym e) (record { answer = refl; out = refl }))
 
 slice-aggregate-put-moved : tie.Need-slice-aggregate-put-moved
 slice-aggregate-put-moved c = search needs
@@ -57,7 +57,7 @@ returns-2 c =
     let a = c .before .before .before .before .before .before .before .before .before .before .before .before .before .before .args in
     let w = read-it (c .before .before .before .before .before .before .before .before) in
     let e = ap (go (a .out .now) (a .s) (c .before .before .before .before .before .before .before .before .before .before .read .result .floor)) (held-numbers _ _ _ w) ∙ sym (after-accepted (λ v. unchanged v (a .out .now)) (go (a .out .now) (a .s)) (a .floor .now) (a .plan .now) _ w) in
-    promise _ _ _ _ _ _ (λ i. omega (arith, c .before .before .before .before .before .before .before .before .before .before .before .before .before .shared-slice-known .given i)) (subst (λ (o : Outcome). Gives o (c .before .before .put-moved .result) (c .before .before .put-moved .last .1 .1 .1 .1 .0)) e (c .before .before .put-moved .ensures))
+    promise _ _ (λ i. omega (arith, c .before .before .before .before .before .before .before .before .before .before .before .before .before .shared-slice-known .given i)) _ _ _ _ (subst (λ (o : Outcome). Gives o (c .before .before .put-moved .result) (c .before .before .put-moved .last .1 .1 .1 .1 .0)) e (c .before .before .put-moved .ensures))
 
 pub move-on-spec : {M : Type 1} → statement M
 move-on-spec =

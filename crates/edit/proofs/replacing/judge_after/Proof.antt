@@ -10,16 +10,15 @@ use Rattle.refusal.specs.Faults.{not-is}
 use Rattle.refusal.specs.Accepting.{stops, goes-on}
 use Rattle.refusal.specs.Stages.{isAccepted}
 use Rattle.refusal.specs.Codes.{refused}
-use Rattle.plan.specs.After.{numbersIn}
-use Rattle.plan.specs.Plan.{Numbers}
+use Rattle.plan.specs.Plan.{heldNumbers, Numbers}
 use Rattle.moves.specs.Carts.{movesVerdict}
-use Rattle.edit.specs.Replaced.{fitVerdict, cartRowVerdict}
+use Rattle.edit.specs.Replaced.{newRowVerdict, cartRowVerdict}
 use Rattle.edit.proofs.replacing.judge_after.Statement.{statement}
 use Rattle.edit.proofs.replacing.judge_after.Tie as tie
 
 -- the plan's numbers, and its moves judged
 abbrev numbers : tie.After-judge-carts → Numbers
-numbers c = let a = c .before .before .before .before .before .before .before .before .before .args in numbersIn (a .f .carts) (a .h) (a .block .now)
+numbers c = let a = c .before .before .before .before .before .before .before .before .before .args in heldNumbers (a .f .carts) (a .h) (a .block .now)
 
 abbrev moved : tie.After-judge-carts → Verdict
 moved c = movesVerdict (c .before .before .before .before .before .before .before .before .before .args .s .now) (c .before .before .before .before .before .before .before .before .before .args .f) (numbers c)
@@ -30,8 +29,8 @@ next c = cartRowVerdict (c .before .before .before .before .before .before .befo
 
 -- by whether the cart is there
 by-cart : (c : tie.After-judge-carts) (b : Bool) → leb (c .before .before .before .before .before .before .before .before .before .args .f .carts) (c .before .before .before .before .before .before .before .before .before .args .cart) ≡ b
-    → next c ≡ cond b (AboutPlan (refused 19 (c .before .before .before .before .before .before .before .before .before .args .cart) 0)) (fitVerdict (c .before .before .before .before .before .before .before .before .before .args .s .now) (c .before .before .before .before .before .before .before .before .before .args .f) (c .before .before .before .before .before .before .before .before .before .args .h) (c .before .before .before .before .before .before .before .before .before .args .cart) (c .before .before .before .before .before .before .before .before .before .args .row .now))
-by-cart c b e = ap (λ (t : Bool). cond t (AboutPlan (refused 19 (c .before .before .before .before .before .before .before .before .before .args .cart) 0)) (fitVerdict (c .before .before .before .before .before .before .before .before .before .args .s .now) (c .before .before .before .before .before .before .before .before .before .args .f) (c .before .before .before .before .before .before .before .before .before .args .h) (c .before .before .before .before .before .before .before .before .before .args .cart) (c .before .before .before .before .before .before .before .before .before .args .row .now))) e
+    → next c ≡ cond b (AboutPlan (refused 19 (c .before .before .before .before .before .before .before .before .before .args .cart) 0)) (newRowVerdict (c .before .before .before .before .before .before .before .before .before .args .s .now) (c .before .before .before .before .before .before .before .before .before .args .f) (c .before .before .before .before .before .before .before .before .before .args .h) (c .before .before .before .before .before .before .before .before .before .args .cart) (c .before .before .before .before .before .before .before .before .before .args .row .now))
+by-cart c b e = ap (λ (t : Bool). cond t (AboutPlan (refused 19 (c .before .before .before .before .before .before .before .before .before .args .cart) 0)) (newRowVerdict (c .before .before .before .before .before .before .before .before .before .args .s .now) (c .before .before .before .before .before .before .before .before .before .args .f) (c .before .before .before .before .before .before .before .before .before .args .h) (c .before .before .before .before .before .before .before .before .before .args .cart) (c .before .before .before .before .before .before .before .before .before .args .row .now))) e
 
 passed : (c : tie.Else1) → isAccepted (moved (c .before .before)) ≡ true
 passed c = ap isAccepted (sym (c .before .before .judge-carts .ensures)) ∙ sym (c .before .accepts .ensures) ∙ not-is _ false (c .if1 .left)

@@ -11,16 +11,16 @@ use Rattle.plan.specs.Passed.{RowFits, absent-below}
 use Rattle.plan.specs.Plan.{judgedRow}
 use Rattle.moves.specs.Carts.{cartVerdict}
 use Rattle.edit.specs.ReplacedReads.{fits-if}
-use Rattle.edit.specs.Replaced.{newRowVerdict}
+use Rattle.edit.specs.Replaced.{placesVerdict}
 use Rattle.edit.proofs.replacing.judge_fit.Statement.{statement}
 use Rattle.edit.proofs.replacing.judge_fit.Tie as tie
 
 -- the row judged
 abbrev judged : tie.After-verdict-of → Verdict
-judged c = newRowVerdict (c .before .before .before .before .args .c) (judgedRow (c .before .before .before .before .args .row .now) (c .before .before .before .before .args .h .steps) (c .before .before .before .before .args .f .places))
+judged c = placesVerdict (c .before .before .before .before .args .c) (judgedRow (c .before .before .before .before .args .row .now) (c .before .before .before .before .args .h .steps) (c .before .before .before .before .args .f .places))
 
 is : (c : tie.After-verdict-of) → c .verdict-of .result ≡ judged c
-is c = c .verdict-of .ensures ∙ ap (newRowVerdict (c .before .before .before .before .args .c)) (c .before .judge-row .ensures)
+is c = c .verdict-of .ensures ∙ ap (placesVerdict (c .before .before .before .before .args .c)) (c .before .judge-row .ensures)
 
 -- it is accepted, by the test of its verdict
 passed : (c : tie.Else1) → isAccepted (judged (c .before .before)) ≡ true

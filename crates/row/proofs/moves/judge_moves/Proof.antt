@@ -1,4 +1,4 @@
-use Prim.Native.Nat.{_-_}
+use Prim.Native.Nat.{_-_, _<_}
 use native.Mathlib.Omega.{arith}
 use native.Mathlib.Numerals.{add-one}
 use mathlib.Core.Path.{sym, subst, _∙_}
@@ -16,6 +16,10 @@ Inv-loop s f first next class start row stem i₀ i = Judging (lanesIn s) class 
 abbrev μ-loop : tie.MeasureT-loop
 μ-loop s f first next class start row stem i₀ i = length row - i
 
+-- the step is one of the row's
+within : (c : tie.In-loop Inv-loop μ-loop) → c .before .loop .i < length (c .before .before .before .before .before .before .args .row .now)
+within c = omega (arith, c .loop-test .taken, c .before .before .before .before .before .before .pre .1 .1 .1)
+
 shared-slice-read-if1 : tie.Need-shared-slice-read-if1 Inv-loop μ-loop
 shared-slice-read-if1 c = omega (arith, c .before .before .before .pre .1 .1 .1)
 
@@ -30,7 +34,7 @@ loop-holds c =
     begun (lanesIn (a .s .now)) (a .class) (a .start) (a .row .now) (a .stem) (c .if1 .left)
 
 next-step-requires : tie.Need-next-step-requires Inv-loop μ-loop
-next-step-requires c κs = omega (arith, c .loop-test .taken)
+next-step-requires c κs = omega (arith, within c)
 
 shared-slice-read-to : tie.Need-shared-slice-read-to Inv-loop μ-loop
 shared-slice-read-to c =
@@ -38,7 +42,7 @@ shared-slice-read-to c =
     omega (arith, c .before .next-step .ensures, next-below (length (a .row .now)) (a .stem) (c .before .before .before .before .before .before .before .before .pre .1 .1 .1) (c .before .before .before .loop .i))
 
 shared-slice-read-is-open : tie.Need-shared-slice-read-is-open Inv-loop μ-loop
-shared-slice-read-is-open c = omega (arith, c .before .before .before .loop-test .taken)
+shared-slice-read-is-open c = omega (arith, within (c .before .before .before))
 
 is-open-requires : tie.Need-is-open-requires Inv-loop μ-loop
 is-open-requires c κs =
@@ -49,19 +53,19 @@ returns-2 : tie.Need-returns-2 Inv-loop μ-loop
 returns-2 c =
     let a = c .before .before .before .before .before .before .before .before .before .before .before .args in
     let l = c .before .before .before .before .before .before .loop in
-    shut (lanesIn (a .s .now)) (a .class) (a .start) (a .row .now) (a .stem) (l .i) (l .inv) (omega (arith, c .before .before .before .before .before .loop-test .taken)) (c .before .before .before .before .next-step .result) (c .before .before .before .before .next-step .ensures) (c .before .is-open .result) (c .before .is-open .ensures) (c .if2 .taken)
+    shut (lanesIn (a .s .now)) (a .class) (a .start) (a .row .now) (a .stem) (l .i) (l .inv) (omega (arith, within (c .before .before .before .before .before))) (c .before .before .before .before .next-step .result) (c .before .before .before .before .next-step .ensures) (c .before .is-open .result) (c .before .is-open .ensures) (c .if2 .taken)
 
 add-i : tie.Need-add-i Inv-loop μ-loop
-add-i c = omega (arith, c .before .before .before .before .before .loop-test .taken)
+add-i c = omega (arith, within (c .before .before .before .before .before))
 
 loop-less : tie.Need-loop-less Inv-loop μ-loop
-loop-less c = omega (arith, c .before .before .before .before .before .loop-test .taken)
+loop-less c = omega (arith, within (c .before .before .before .before .before))
 
 loop-again : tie.Need-loop-again Inv-loop μ-loop
 loop-again c =
     let a = c .before .before .before .before .before .before .before .before .before .before .before .args in
     let l = c .before .before .before .before .before .before .loop in
-    let w = onward (lanesIn (a .s .now)) (a .class) (a .start) (a .row .now) (a .stem) (l .i) (l .inv) (omega (arith, c .before .before .before .before .before .loop-test .taken)) (c .before .before .before .before .next-step .result) (c .before .before .before .before .next-step .ensures) (c .before .is-open .result) (c .before .is-open .ensures) (c .if2 .left) in
+    let w = onward (lanesIn (a .s .now)) (a .class) (a .start) (a .row .now) (a .stem) (l .i) (l .inv) (omega (arith, within (c .before .before .before .before .before))) (c .before .before .before .before .next-step .result) (c .before .before .before .before .next-step .ensures) (c .before .is-open .result) (c .before .is-open .ensures) (c .if2 .left) in
     subst (Judging (lanesIn (a .s .now)) (a .class) (a .start) (a .row .now) (a .stem)) (sym (add-one (l .i))) w
 
 returns-3 : tie.Need-returns-3 Inv-loop μ-loop
