@@ -1,5 +1,6 @@
-/* The C interface from C: document 01's floor and plan written, compared with bytes written out by hand and read back;
- * empty buffers as null pointers; room one byte short; a refusal of each function. */
+/* The C interface from C: document 01's floor and plan written, compared with bytes written out by hand and read back, its
+ * moves checked, the plan moved on and a row replaced; empty buffers as null pointers; room one byte short; a refusal of each
+ * function. */
 #include <stdio.h>
 #include <string.h>
 
@@ -43,14 +44,21 @@ static void check(int holds, const char *name)
     }
 }
 
-static void check_verdict(struct cartplan_verdict is, uint32_t about, uint32_t number, uint32_t first, const char *name)
+static void check_numbers(struct cartplan_verdict is, uint32_t about, uint32_t number, uint32_t first, uint32_t second,
+                          const char *name)
 {
     checks++;
-    if (is.about != about || is.number != number || is.first != first || is.second != 0) {
+    if (is.about != about || is.number != number || is.first != first || is.second != second) {
         failed++;
-        printf("edge: %s: got %u %u %u %u, wanted %u %u %u 0\n", name, (unsigned)is.about, (unsigned)is.number,
-               (unsigned)is.first, (unsigned)is.second, (unsigned)about, (unsigned)number, (unsigned)first);
+        printf("edge: %s: got %u %u %u %u, wanted %u %u %u %u\n", name, (unsigned)is.about, (unsigned)is.number,
+               (unsigned)is.first, (unsigned)is.second, (unsigned)about, (unsigned)number, (unsigned)first,
+               (unsigned)second);
     }
+}
+
+static void check_verdict(struct cartplan_verdict is, uint32_t about, uint32_t number, uint32_t first, const char *name)
+{
+    check_numbers(is, about, number, first, 0, name);
 }
 
 /* Whether bytes from `from` up to ROOM still hold the fill. */
@@ -119,6 +127,69 @@ static void check_plan_written(void)
     check(untouched(out, 0), "no byte of a plan refused for room");
 }
 
+static void check_moves(void)
+{
+    uint8_t plan[PLAN_LEN];
+
+    memcpy(plan, plan_bytes, PLAN_LEN);
+    check_verdict(cartplan_check_moves(floor_bytes, FLOOR_LEN, plan, PLAN_LEN), 0, 0, 0, "moves accepted");
+    plan[22] = 1; /* cart 1's first place */
+    check_verdict(cartplan_check_moves(floor_bytes, FLOOR_LEN, plan, PLAN_LEN), 2, 10, 1, "begins elsewhere");
+    check_verdict(cartplan_check_moves(floor_bytes, FLOOR_LEN, plan, 18), 2, 7, 18, "moves with a row missing");
+    check_verdict(cartplan_check_moves(plan, PLAN_LEN, floor_bytes, FLOOR_LEN), 1, 3, 0, "files exchanged");
+    check_verdict(cartplan_check_moves(NULL, 0, NULL, 0), 1, 7, 0, "moves of nothing");
+    check(memcmp(plan, plan_bytes, 22) == 0 && plan[22] == 1 && memcmp(plan + 23, plan_bytes + 23, 3) == 0,
+          "plan unchanged by the check");
+}
+
+/* The paper's floor without its last lane, from place 1 to itself: 49 bytes. */
+static void check_shut_move(void)
+{
+    uint8_t floor[FLOOR_LEN - 7];
+
+    memcpy(floor, floor_bytes, 37);
+    memcpy(floor + 37, floor_bytes + 44, 12);
+    check_numbers(cartplan_check_moves(floor, sizeof floor, plan_bytes, PLAN_LEN), 2, 11, 0, 1, "no lane to stand on");
+}
+
+static void check_moved_on(void)
+{
+    static const uint8_t moved[PLAN_LEN] = {
+        6, 0, 4, 0, 4, 0, 0, 0, 0, 0, 4, 0, 5, 0, 1, 0, 0, 1, 4, 0, 5, 0, 1, 1, 0, 0,
+    };
+    uint8_t out[ROOM];
+
+    memset(out, FILL, ROOM);
+    check_verdict(cartplan_move_on(floor_bytes, FLOOR_LEN, plan_bytes, PLAN_LEN, 2, out, 25), 2, 18, 26, "a byte short");
+    check_verdict(cartplan_move_on(floor_bytes, FLOOR_LEN, plan_bytes, PLAN_LEN, 2, NULL, 0), 2, 18, 26, "moved to null");
+    check_verdict(cartplan_move_on(NULL, 0, plan_bytes, PLAN_LEN, 2, out, ROOM), 1, 7, 0, "moved on a null floor");
+    check_verdict(cartplan_move_on(floor_bytes, FLOOR_LEN, NULL, 0, 2, out, ROOM), 2, 7, 0, "null plan moved on");
+    check(untouched(out, 0), "no byte of a refused move-on");
+    check_verdict(cartplan_move_on(floor_bytes, FLOOR_LEN, plan_bytes, PLAN_LEN, 65534, out, ROOM), 0, 0, 26, "moved on");
+    check(memcmp(out, moved, PLAN_LEN) == 0, "the moved plan's bytes");
+    check(untouched(out, PLAN_LEN), "bytes past the moved plan");
+}
+
+static void check_replaced(void)
+{
+    static const uint8_t row[5] = {0, 1, 0, 1, 9};
+    uint8_t plan[PLAN_LEN];
+
+    memcpy(plan, plan_bytes, PLAN_LEN);
+    check_verdict(cartplan_replace_row(floor_bytes, FLOOR_LEN, plan, PLAN_LEN, 2, row, 4), 2, 19, 2, "no cart 2");
+    check_verdict(cartplan_replace_row(floor_bytes, FLOOR_LEN, plan, PLAN_LEN, UINT32_MAX, NULL, 0), 2, 19, UINT32_MAX,
+                  "no such cart, null row");
+    check_verdict(cartplan_replace_row(floor_bytes, FLOOR_LEN, plan, PLAN_LEN, 1, NULL, 0), 2, 4, 0, "null row");
+    check_verdict(cartplan_replace_row(floor_bytes, FLOOR_LEN, plan, PLAN_LEN, 1, row, 5), 2, 4, 0, "a step too many");
+    check_numbers(cartplan_replace_row(floor_bytes, FLOOR_LEN, plan, PLAN_LEN, 1, row + 1, 4), 2, 9, 1, 3, "absent place");
+    check_numbers(cartplan_replace_row(floor_bytes, FLOOR_LEN, plan, PLAN_LEN, 1, plan_bytes + 15, 4), 2, 9, 1, 3, "a row cut askew");
+    check_verdict(cartplan_replace_row(NULL, 0, plan, PLAN_LEN, 1, row, 4), 1, 7, 0, "replaced on a null floor");
+    check_verdict(cartplan_replace_row(floor_bytes, FLOOR_LEN, NULL, 0, 1, row, 4), 2, 7, 0, "null plan");
+    check(memcmp(plan, plan_bytes, PLAN_LEN) == 0, "no byte of a refused replacement");
+    check_verdict(cartplan_replace_row(floor_bytes, FLOOR_LEN, plan, PLAN_LEN, 1, row, 4), 0, 0, 0, "row replaced");
+    check(memcmp(plan, plan_bytes, 22) == 0 && memcmp(plan + 22, row, 4) == 0, "that row's bytes alone");
+}
+
 static void check_null(void)
 {
     uint8_t out[ROOM];
@@ -169,6 +240,10 @@ int main(void)
     check_layout();
     check_floor_written();
     check_plan_written();
+    check_moves();
+    check_shut_move();
+    check_moved_on();
+    check_replaced();
     check_null();
     check_refusals();
     printf("edge: %d checks, %d failed\n", checks, failed);

@@ -31,3 +31,17 @@ pub fn bytes32(n: u32) -> [u8; 4]
         (fourth % 256) as u8,
     ]
 }
+
+// A byte as an index.
+pub fn wide(b: u8) -> usize
+    ensures { λ r. ⌜ r ≡ b ⌝ }
+{
+    b as usize
+}
+
+// A two-byte number as an index or a length.
+pub fn wide16(n: u16) -> usize
+    ensures { λ r. ⌜ r ≡ n ⌝ }
+{
+    n as usize
+}

@@ -38,10 +38,10 @@ fn judge_lane(f: Floor, body: &[u8]) -> Judged
     if 1024 <= f.lanes {
         return Judged::Fault(5);
     }
-    if f.places <= wide(body[0]) {
+    if f.places <= endian::wide(body[0]) {
         return Judged::Fault(6);
     }
-    if f.places <= wide(body[1]) {
+    if f.places <= endian::wide(body[1]) {
         return Judged::Fault(6);
     }
     Judged::Good(Floor {
@@ -63,7 +63,7 @@ fn judge_cart(f: Floor, body: &[u8]) -> Judged
     if 7 < body[0] {
         return Judged::Fault(6);
     }
-    if f.places <= wide(body[1]) {
+    if f.places <= endian::wide(body[1]) {
         return Judged::Fault(6);
     }
     Judged::Good(Floor {
@@ -71,12 +71,6 @@ fn judge_cart(f: Floor, body: &[u8]) -> Judged
         lanes: f.lanes,
         carts: f.carts + 1,
     })
-}
-
-fn wide(b: u8) -> usize
-    ensures { λ r. ⌜ r ≡ b ⌝ }
-{
-    b as usize
 }
 
 // Judges a record by its kind and body, behind those already counted.

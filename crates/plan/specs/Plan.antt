@@ -147,14 +147,25 @@ noPlan = record { head = record { steps = 0; stem = 0; drift = 0 }; carts = 0; b
 abbrev pub refusedRead : Verdict → PlanRead
 refusedRead v = record { verdict = v; floor = emptyFloor; plan = noPlan }
 
+abbrev pub acceptedRead : Floor → Numbers → PlanRead
+acceptedRead f n = record { verdict = Accepted; floor = f; plan = planOf n }
+
+-- by the floor's answer and then the plan's: a refusal, or what is done with the floor and the plan's numbers
+module _ {A : Type 0} (refuse : Verdict → A) (go : Floor → Numbers → A) where
+  abbrev pub afterPlan : Floor → PlanAnswer → A
+  afterPlan f (accepted n) = go f n
+  afterPlan f (rejected r) = refuse (AboutPlan r)
+
+  abbrev pub afterFloor : FloorAnswer → List ℕ → A
+  afterFloor (FloorAccepted f) s = afterPlan f (readPlan f s)
+  afterFloor (FloorRefused r) s = refuse (AboutFloor r)
+
 abbrev pub planRead : Floor → PlanAnswer → PlanRead
-planRead f (accepted n) = record { verdict = Accepted; floor = f; plan = planOf n }
-planRead f (rejected r) = refusedRead (AboutPlan r)
+planRead f a = afterPlan refusedRead acceptedRead f a
 
 -- "Reading a plan: the floor's, then" its own
 abbrev pub onFloor : FloorAnswer → List ℕ → PlanRead
-onFloor (FloorAccepted f) s = planRead f (readPlan f s)
-onFloor (FloorRefused r) s = refusedRead (AboutFloor r)
+onFloor a s = afterFloor refusedRead acceptedRead a s
 
 unfoldable pub readBoth : List ℕ → List ℕ → PlanRead
 readBoth floor s = onFloor (readFloor floor) s

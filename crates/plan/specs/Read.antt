@@ -16,8 +16,8 @@ use Rattle.floor.specs.Floor.{readFloor}
 use Rattle.floor.specs.declared.Floor.{Floor}
 use Rattle.floor.specs.declared.FloorAnswer.{FloorAnswer}
 use Rattle.floor.specs.declared.FloorAnswer.the-variants.{Read as FloorAccepted, Refused as FloorRefused}
-use Rattle.plan.specs.Plan.{Numbers, PlanAnswer, accepted, rejected, readPlan, rowsIn, heldNumbers, planRead, onFloor, readBoth}
-use Rattle.plan.specs.After.{afterPlan, afterFloor, afterReading, ReadAs}
+use Rattle.plan.specs.Plan.{Numbers, PlanAnswer, accepted, rejected, readPlan, rowsIn, heldNumbers, afterPlan, afterFloor, planRead, onFloor, readBoth}
+use Rattle.plan.specs.After.{afterReading, ReadAs}
 use Rattle.plan.specs.Promises.{Accepts, PlanReads}
 use Rattle.plan.specs.Valid.{InRange}
 use Rattle.plan.specs.Block.{length-block, short-all}

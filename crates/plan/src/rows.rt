@@ -7,12 +7,6 @@ ghost use mathlib.Core.Bool.{cond};
 ghost use lib.Dec.{leb};
 ghost use Rattle.plan.specs.Plan.{judgedRow, rowFault};
 
-fn wide(b: u8) -> usize
-    ensures { λ r. ⌜ r ≡ b ⌝ }
-{
-    b as usize
-}
-
 // Judges a row on its body alone: so many steps, each place on the floor.
 pub fn judge_row(body: &[u8], steps: usize, places: usize) -> RowAnswer
     ensures { λ r. ⌜ r ≡ judgedRow (now (body .entry)) steps places ⌝ }
@@ -22,7 +16,7 @@ pub fn judge_row(body: &[u8], steps: usize, places: usize) -> RowAnswer
     }
     let mut i: usize = 0;
     while i < body.len() {
-        if places <= wide(body[i]) {
+        if places <= endian::wide(body[i]) {
             return RowAnswer::Absent(i);
         }
         i += 1;

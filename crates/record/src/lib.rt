@@ -14,12 +14,6 @@ pub enum Found {
     Whole { kind: u16, start: usize, end: usize },
 }
 
-fn wide(n: u16) -> usize
-    ensures { λ r. ⌜ r ≡ n ⌝ }
-{
-    n as usize
-}
-
 // The record at an offset.
 pub fn find(s: &[u8], at: usize) -> Found
     ensures { λ r. ⌜ r ≡ foundAt (now (s .entry)) at ⌝ }
@@ -31,7 +25,7 @@ pub fn find(s: &[u8], at: usize) -> Found
     if left < 4 {
         return Found::Cut;
     }
-    let size = wide(endian::number16(s[at], s[at + 1]));
+    let size = endian::wide16(endian::number16(s[at], s[at + 1]));
     if left - 4 < size {
         return Found::Cut;
     }

@@ -9,18 +9,6 @@ ghost use Rattle.floor.specs.Promises.{Accepts};
 ghost use Rattle.row.specs.Moves.{bit, isOpen, lanesIn};
 ghost use Rattle.row.specs.Chain.{Chained};
 
-fn wide(b: u8) -> usize
-    ensures { λ r. ⌜ r ≡ b ⌝ }
-{
-    b as usize
-}
-
-fn wide16(n: u16) -> usize
-    ensures { λ r. ⌜ r ≡ n ⌝ }
-{
-    n as usize
-}
-
 // Links the lanes of an accepted floor, the last lane first.
 pub fn linked(s: &[u8], f: Floor) -> Links
     requires { ⌜ Accepts (now s) f ⌝ }
@@ -34,7 +22,7 @@ pub fn linked(s: &[u8], f: Floor) -> Links
     let mut j = f.lanes;
     while 0 < j {
         j -= 1;
-        let from = wide(s[start + j * 7 + 4]);
+        let from = endian::wide(s[start + j * 7 + 4]);
         links.next[j] = links.first[from];
         links.first[from] = (j + 1) as u16;
     }
@@ -68,13 +56,13 @@ pub(crate) fn is_open<'a>(
     ensures { λ r. ⌜ r ≡ isOpen (lanesIn (now (s .entry))) class from to ⌝ }
 {
     let start = f.places * 8;
-    let mut k = wide16(first[wide(from)]);
+    let mut k = endian::wide16(first[endian::wide(from)]);
     while k != 0 {
         let at = start + (k - 1) * 7 + 4;
         if opens_to(s[at + 1], s[at + 2], class, to) {
             return true;
         }
-        k = wide16(next[k - 1]);
+        k = endian::wide16(next[k - 1]);
     }
     false
 }

@@ -28,14 +28,14 @@ shared-slice-read-number16-2 c = search needs
 number16-requires : tie.Need-number16-requires
 number16-requires c κs = search needs
 
-wide-requires : tie.Need-wide-requires
-wide-requires c κs = search needs
+wide16-requires : tie.Need-wide16-requires
+wide16-requires c κs = search needs
 
 returns-3 : tie.Need-returns-3
 returns-3 c =
     let a = c .before .before .before .before .before .before .before .before .args in
     let n = c .before .before .number16 .ensures in
-    let w = c .before .wide .ensures in
+    let w = c .before .wide16 .ensures in
     short-body (a .s .now) (a .at) (omega arith) (omega arith) (omega arith)
 
 add-number16-2 : tie.Need-add-number16-2
@@ -63,7 +63,7 @@ returns-4 : tie.Need-returns-4
 returns-4 c =
     let a = c .before .before .before .before .before .before .before .before .before .before .before .args in
     let n = c .before .before .before .before .before .number16 .ensures in
-    let w = c .before .before .before .before .wide .ensures in
+    let w = c .before .before .before .before .wide16 .ensures in
     ap₂ (λ (x y : ℕ). Whole x (a .at + 4) (a .at + 4 + y)) (c .number162 .ensures) (w ∙ n)
     ∙ whole-at (a .s .now) (a .at) (omega arith) (omega arith) (omega arith)
 
@@ -78,7 +78,7 @@ find-spec =
     add-number16
     shared-slice-read-number16-2
     number16-requires
-    wide-requires
+    wide16-requires
     returns-3
     add-number16-2
     shared-slice-read-number16-3
