@@ -1,0 +1,15 @@
+use Rattle.clause.specs.Clause.{namesClause}
+use borrow.Author.Tests.{eq-eqb, ne-eqb}
+use Rattle.clause.proofs.names_clause.Statement.{statement}
+use Rattle.clause.proofs.names_clause.Tie as tie
+
+returns : tie.Need-returns
+unfolding namesClause
+returns c = simp (eq-eqb _ _ (c .if1 .taken))
+
+returns-2 : tie.Need-returns-2
+unfolding namesClause
+returns-2 c = simp (ne-eqb _ _ (c .if1 .left))
+
+pub names-clause-spec : {M : Type 1} → statement M
+names-clause-spec = tie.close (tie.spec returns returns-2)

@@ -1,0 +1,113 @@
+-- What holds of each outcome of a reading, and of the small readers' outcomes.
+use Prim.Native.Nat.{ℕ, zero, suc, _+_, _*_, _-_, _≤_, _<_}
+use mathlib.Core.Path.{_≡_, refl, ap, subst, sym, _∙_}
+use mathlib.Core.Bool.{Bool, true, false, _&&_}
+use mathlib.Core.List.{List, [], _∷_, _++_}
+use native.Mathlib.Omega.{arith}
+use lib.ListN.{length}
+use lib.Dec.{leb, ltb, eqb}
+use borrow.Author.Tests.{ltb-true, leb-true, leb-false, eqb-true, eqb-false}
+use Rattle.grammar.specs.Grammar.{Spaces, none, space, Digits, end, digit, Number, nought, other, Percent, without, sign}
+use Rattle.grammar.specs.Reader.{pick, Got, got, no, Reader, bind, node, skip, expectAt, expect, literal, isDigit, digits, number, percent}
+use Rattle.grammar.specs.Ends.{Swap, here, there}
+
+pub data Each {A : Type 0} (P : A → ℕ → List ℕ → Type 0) (Q : ℕ → List ℕ → Type 0) : Got A → Type 0 where
+  gives : {a : A} {n : ℕ} {r : List ℕ} → P a n r → Each P Q (got a n r)
+  denies : {w : ℕ} {r : List ℕ} → Q w r → Each P Q (no w r)
+
+-- of a reading and what follows it, what holds of each outcome
+pub each-bind : {A B : Type 0} {P : B → ℕ → List ℕ → Type 0} {Q : ℕ → List ℕ → Type 0} (g : Got A) (f : A → Reader B) → Each (λ a n r. Each P Q (f a n r)) Q g → Each P Q (bind g f)
+unfolding bind
+each-bind g f (gives p) = p
+each-bind g f (denies q) = denies q
+
+pub each-map : {A : Type 0} {P P' : A → ℕ → List ℕ → Type 0} {Q Q' : ℕ → List ℕ → Type 0} {g : Got A}
+    → Each P Q g → ((a : A) (n : ℕ) (r : List ℕ) → P a n r → P' a n r) → ((w : ℕ) (r : List ℕ) → Q w r → Q' w r) → Each P' Q' g
+each-map (gives {a = a} {n = n} {r = r} p) y z = gives (y a n r p)
+each-map (denies {w = w} {r = r} q) y z = denies (z w r q)
+
+pub each-both : {A : Type 0} {P P' : A → ℕ → List ℕ → Type 0} {Q Q' : ℕ → List ℕ → Type 0} {g : Got A} → Each P Q g → Each P' Q' g → Each (λ a n r. P a n r × P' a n r) (λ w r. Q w r × Q' w r) g
+each-both (gives p) (gives q) = gives (p, q)
+each-both (denies p) (denies q) = denies (p, q)
+
+pub each-node : {A : Type 0} {P : A → ℕ → List ℕ → Type 0} {Q : ℕ → List ℕ → Type 0} (at : List ℕ) (n : ℕ) (f : ℕ → Got A)
+    → ((m : ℕ) → n ≡ suc m → Each P Q (f m)) → (n ≡ 0 → Q 14 at) → Each P Q (node at n f)
+unfolding node
+each-node at zero f y z = denies (z refl)
+each-node at (suc n) f y z = y n refl
+
+pub either : {A : Type 0} (P : A → Type 0) (b : Bool) (u v : A) → (b ≡ true → P u) → (b ≡ false → P v) → P (pick b u v)
+either P true u v f g = f refl
+either P false u v f g = g refl
+
+pub never : {A : Type 0} → false ≡ true → A
+never e = let z : _≡_ {A = ℕ} 0 1 = cc in absurd (omega arith)
+
+pub both-left : (a b : Bool) → (a && b) ≡ true → a ≡ true
+both-left true b e = refl
+both-left false b e = e
+
+pub both-right : (a b : Bool) → (a && b) ≡ true → b ≡ true
+both-right true b e = e
+both-right false b e = never e
+
+pub skip-spaces : (s : List ℕ) → Spaces s (skip s)
+unfolding skip
+skip-spaces [] = none
+skip-spaces (b ∷ s) = either (λ r. Spaces (b ∷ s) r) (eqb b 32) (skip s) (b ∷ s) (λ e. subst (λ (c : ℕ). Spaces (c ∷ s) (skip s)) (sym (eqb-true b 32 e)) (space (skip-spaces s))) (λ e. none)
+
+module _ {A : Type 0} {P : A → ℕ → List ℕ → Type 0} {Q : ℕ → List ℕ → Type 0} where
+  expect-at : (c : ℕ) (a : A) (n : ℕ) (s : List ℕ) → ((r : List ℕ) → s ≡ c ∷ r → P a n r) → Q 13 s → Each P Q (expectAt c a n s)
+  unfolding expectAt
+  expect-at c a n [] y z = denies z
+  expect-at c a n (b ∷ r) y z = either (Each P Q) (eqb b c) _ _ (λ e. gives (y r (ap (λ (x : ℕ). x ∷ r) (eqb-true b c e)))) (λ e. denies z)
+
+  pub each-expect : (c : ℕ) (a : A) (n : ℕ) (s : List ℕ) → ((r : List ℕ) → Spaces s (c ∷ r) → P a n r) → ((r : List ℕ) → Spaces s r → Q 13 r) → Each P Q (expect c a n s)
+  unfolding expect
+  each-expect c a n s y z = expect-at c a n (skip s) (λ r e. y r (subst (λ (r : List ℕ). Spaces s r) e (skip-spaces s))) (z (skip s) (skip-spaces s))
+
+  pub each-literal : (w : List ℕ) (a : A) (n : ℕ) (s : List ℕ) → ((r : List ℕ) → s ≡ w ++ r → P a n r) → ((r : List ℕ) → ((t : List ℕ) → (v : List ℕ) × Swap r v s (w ++ t)) → Q 13 r) → Each P Q (literal w a n s)
+  unfolding literal
+  each-literal [] a n s y z = gives (y s refl)
+  each-literal (c ∷ w) a n [] y z = denies (z [] (λ t. (c ∷ w ++ t, here)))
+  each-literal (c ∷ w) a n (b ∷ s) y z =
+      either (Each P Q) (eqb b c) (literal w a n s) _
+      (λ e. let h = eqb-true b c e in
+      each-literal w a n s (λ r k. y r (cc))
+      (λ r k. z r (λ t. let x = k t in (x .0, subst (λ (i : ℕ). Swap r (x .0) (b ∷ s) (i ∷ w ++ t)) h (there (x .1))))))
+      (λ e. denies (z (b ∷ s) (λ t. (c ∷ w ++ t, here))))
+
+module _ {P : ℕ → ℕ → List ℕ → Type 0} {Q : ℕ → List ℕ → Type 0} where
+  pub each-digits : (v n : ℕ) (s : List ℕ) → ((k : ℕ) (r : List ℕ) → Digits v s r k → P k n r) → Each P Q (digits v n s)
+  unfolding digits
+  each-digits v n [] y = gives (y v [] end)
+  each-digits v n (b ∷ s) y =
+      either (Each P Q) (isDigit b) (digits (v * 10 + (b - 48)) n s) _
+      (λ e. each-digits (v * 10 + (b - 48)) n s (λ k r x. y k r (digit (leb-true 48 b (both-left (leb 48 b) (leb b 57) e)) (leb-true b 57 (both-right (leb 48 b) (leb b 57) e)) x)))
+      (λ e. gives (y v (b ∷ s) end))
+
+  pub each-number : (n : ℕ) (s : List ℕ) → ((k : ℕ) (r : List ℕ) → Number s r k → P k n r) → Q 13 s → Each P Q (number n s)
+  unfolding number
+  each-number n [] y z = denies z
+  each-number n (b ∷ s) y z =
+      either (Each P Q) (eqb b 48) _ _
+      (λ e. gives (y 0 s (subst (λ (x : ℕ). Number (x ∷ s) s 0) (sym (eqb-true b 48 e)) nought)))
+      (λ e. either (Each P Q) (isDigit b) (digits (b - 48) n s) _
+      (λ d. let h = leb-true 48 b (both-left (leb 48 b) (leb b 57) d) in
+      let i = leb-true b 57 (both-right (leb 48 b) (leb b 57) d) in
+      let j = eqb-false b 48 e in
+      each-digits (b - 48) n s (λ k r x. y k r (other (omega arith) i x)))
+      (λ d. denies z))
+
+pub each-percent : {P : Bool → ℕ → List ℕ → Type 0} {Q : ℕ → List ℕ → Type 0} (n : ℕ) (s : List ℕ) → ((p : Bool) (r : List ℕ) → Percent s r p → P p n r) → Each P Q (percent n s)
+unfolding percent
+each-percent n [] y = gives (y false [] without)
+each-percent {P} {Q} n (b ∷ s) y =
+    either (Each P Q) (eqb b 37) _ _ (λ e. gives (y true s (subst (λ (x : ℕ). Percent (x ∷ s) s true) (sym (eqb-true b 37 e)) sign))) (λ e. gives (y false (b ∷ s) without))
+
+-- these count no nodes
+pub literal-keeps : {A : Type 0} (w : List ℕ) (a : A) (n : ℕ) (s : List ℕ) → Each (λ a₁ m r. n ≡ m) (λ k r. Unit {0}) (literal w a n s)
+literal-keeps w a n s = each-literal w a n s (λ r e. refl) (λ r f. tt)
+
+pub number-keeps : (n : ℕ) (s : List ℕ) → Each (λ k m r. n ≡ m) (λ w r. Unit {0}) (number n s)
+number-keeps n s = each-number n s (λ k r x. refl) tt

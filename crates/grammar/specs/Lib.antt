@@ -1,0 +1,16 @@
+-- definitions
+pub mod Grammar
+pub mod Limits
+pub mod Reader
+pub mod Nodes
+-- promises
+pub mod Promises
+-- laws
+pub mod Each
+pub mod Ends
+pub mod Sound
+pub mod Accepts
+pub mod Short
+pub mod Agree
+pub mod Complete
+pub mod Steps

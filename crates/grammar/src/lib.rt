@@ -1,0 +1,1 @@
+// The grammar of a rule sheet: definitions and laws, and no code.
