@@ -7,7 +7,8 @@ use mathlib.Core.List.{List, [], _∷_}
 use lib.ListN.{length, getD, drop, drop-of-length-le}
 use lib.Seq.{drop-cons}
 use Rattle.grammar.specs.Reader.{skip}
-use Rattle.sheet.specs.Operator.{OperatorAt}
+use Rattle.grammar.specs.Grammar.{U, R}
+use Rattle.sheet.specs.Operator.{OperatorAt, Reaches}
 use Rattle.sheet.specs.Leaves.{Expected}
 use Rattle.sheet.specs.declared.Part.{Part}
 
@@ -74,3 +75,10 @@ is-there s r c i fine l is e = record {
       (refl, ap (λ (k : ℕ). drop k s) (add-one i) ∙ ap (drop 1) same, refl, refl);
   missing = λ h z. absurd (z (drop (suc i) s) (there s (r .at) c i is l e));
 }
+
+-- `U` or `R`, or neither
+pub an-until : (s : List ℕ) (r : Part) (i : ℕ) → OperatorAt s r 85 i → i < length s → Reaches s r (record { at = i; kind = 8 })
+an-until s r i o l = record { no-until = λ h. absurd (omega arith); no-release = λ h. absurd (omega arith); found = λ h. (U, o, refl) }
+
+pub a-release : (s : List ℕ) (r : Part) (u i : ℕ) → OperatorAt s r 85 u → length s ≤ u → OperatorAt s r 82 i → Reaches s r (record { at = i; kind = 9 })
+a-release s r u i o out p = record { no-until = λ h. (u, o, out); no-release = λ h. p; found = λ h. (R, p, refl) }

@@ -8,10 +8,12 @@ pub mod Operator
 pub mod Counts
 -- laws
 pub mod Digits
+pub mod Room
 pub mod Joined
 pub mod Chained
 pub mod Ended
 pub mod Reached
 pub mod Small
 pub mod Counted
+pub mod LeafParts
 pub mod Offsets

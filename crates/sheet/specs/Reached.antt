@@ -16,12 +16,8 @@ use Rattle.sheet.specs.Leaves.{Refused}
 use Rattle.sheet.specs.Parts.{Held, PartIs}
 use Rattle.sheet.specs.More.{WithNode}
 use Rattle.sheet.specs.Joined.{two-parts}
-use Rattle.sheet.specs.Operator.{OperatorAt}
+use Rattle.sheet.specs.Operator.{OperatorAt, reachOp}
 use Rattle.sheet.specs.declared.Part.{Part}
-
-abbrev pub reachOp : Reach → Op₂
-reachOp U = until₂
-reachOp R = release₂
 
 -- a byte that is neither goes no further
 neither : (b : ℕ) → (b ≡ 85 → ⊥) → (b ≡ 82 → ⊥) → onward b ≡ stop

@@ -28,7 +28,7 @@ prefixOp finally = ev₁
 prefixOp globally = gl₁
 
 -- a prefix operator's node by its byte, 0 for any other byte
-abbrev choose : Bool → Bool → Bool → Bool → ℕ
+abbrev pub choose : Bool → Bool → Bool → Bool → ℕ
 choose w x y z = pick w 2 (pick x 3 (pick y 4 (pick z 5 0)))
 
 unfoldable pub prefixKind : ℕ → ℕ

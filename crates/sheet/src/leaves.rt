@@ -1,5 +1,6 @@
 // Single tokens: an operator, a byte that ends a part, `true`, a mark.
 use crate::Part;
+use crate::ReachAt;
 use crate::nodes::put;
 use crate::nodes::refused;
 use crate::tokens::number;
@@ -11,7 +12,7 @@ ghost use lib.ListN.{length, drop};
 ghost use Rattle.grammar.specs.Nodes.{topN, markN};
 ghost use Rattle.record.specs.Buffer.{stored};
 ghost use Rattle.grammar.specs.Reader.{marks};
-ghost use Rattle.sheet.specs.Operator.{OperatorAt};
+ghost use Rattle.sheet.specs.Operator.{OperatorAt, Reaches};
 ghost use Rattle.sheet.specs.Leaves.{LeafIs, Expected, ByteAt, wordGot};
 
 // The offset of an operator behind a part that was read; the sheet's length if there is none.
@@ -29,6 +30,18 @@ pub(crate) fn operator_at(s: &[u8], r: Part, c: u8) -> usize
         return s.len();
     }
     i
+}
+
+// `U` or `R` behind a part that was read; the sheet's length if there is neither.
+pub(crate) fn reach_at(s: &[u8], r: Part) -> ReachAt
+    ensures { λ k. ⌜ Reaches (now (s .entry)) r k ⌝ }
+{
+    let u = operator_at(s, r, b'U');
+    if u < s.len() {
+        return ReachAt { at: u, kind: 8 };
+    }
+    let at = operator_at(s, r, b'R');
+    ReachAt { at, kind: 9 }
 }
 
 // A part up to behind the byte that has to follow it.

@@ -2,6 +2,7 @@
 mod counts;
 mod leaves;
 mod nodes;
+mod parts;
 mod tokens;
 
 // What reading a part gives: the refusal's number, or 0; the offset behind the part, or the refused one; the nodes still
@@ -27,4 +28,10 @@ pub struct Limit {
     pub at: usize,
     pub value: usize,
     pub percent: bool,
+}
+
+// `U` or `R` behind a part: its offset and its node's kind, or the sheet's length.
+pub struct ReachAt {
+    pub at: usize,
+    pub kind: u8,
 }

@@ -1,0 +1,71 @@
+-- Leaves as parts: a mark, and a count at its `[`.
+use Prim.Native.Nat.{ℕ, zero, suc, _+_, _-_, _*_, _≤_, _<_}
+use native.Mathlib.Omega.{arith}
+use mathlib.Core.Path.{_≡_, refl, sym, ap, subst, _∙_}
+use mathlib.Core.Bool.{Bool, true, false}
+use mathlib.Core.List.{List, [], _∷_}
+use lib.Dec.{eqb}
+use lib.ListN.{length, getD, drop}
+use lib.Seq.{drop-cons}
+use borrow.Author.Tests.{eq-eqb, ne-eqb}
+use Rattle.record.specs.Buffer.{stored}
+use Rattle.grammar.specs.Grammar.{Form, Threshold, Clause}
+use Rattle.grammar.specs.Limits.{markNodes}
+use Rattle.grammar.specs.Nodes.{Node, markN, flat, flatMark}
+use Rattle.grammar.specs.Reader.{Got, got, no, bind, node, marks, inners, countBy, counts, ors}
+use Rattle.sheet.specs.Leaves.{Refused, LeafIs}
+use Rattle.sheet.specs.Parts.{Held, PartIs}
+use Rattle.sheet.specs.Counts.{countGot}
+use Rattle.sheet.specs.Joined.{nodes-one}
+use Rattle.sheet.specs.declared.Part.{Part}
+
+pub mark-part : (s : List ℕ) (n left : ℕ) (before : List ℕ) (r : Part) (after : List ℕ) (g : Got ℕ) → LeafIs markN s n left before r after g
+    → PartIs markNodes flatMark s n left before r after (bind g (λ x m t. got (Form.leaf x) m t))
+unfolding bind flat flatMark
+mark-part s n left before r after (no w t) h = h
+mark-part s n left before r after (got x m t) h = record {
+  fine = h .fine;
+  behind = h .behind;
+  inside = h .inside;
+  allowed = h .allowed;
+  slots = h .slots;
+  kept = h .kept;
+  block = h .block ∙ ap (stored before (4 * n)) (sym (nodes-one (markN x)));
+}
+
+module _ (s : List ℕ) (level left i : ℕ) (l : i < length s) where
+  -- what a count gives, as a leaf of a clause
+  abbrev pub countLeaf : Got Clause
+  countLeaf = bind (counts level left (drop i s)) (λ x m t. got (Form.leaf x) m t)
+
+  sees : counts level left (drop i s) ≡ countBy level (eqb (getD s i 0) 91) left (getD s i 0) (drop (suc i) s)
+  unfolding counts
+  sees = ap (counts level left) (drop-cons s i 0 l)
+
+  pub no-count : (getD s i 0 ≡ 91 → ⊥) → countLeaf ≡ no 13 (drop i s)
+  unfolding countBy bind
+  no-count n =
+      ap (λ (g : Got Threshold). bind g (λ x m t. got (Form.leaf x) m t)) (sees ∙ ap (λ (b : Bool). countBy level b left (getD s i 0) (drop (suc i) s)) (ne-eqb (getD s i 0) 91 n))
+      ∙ ap (no 13) (sym (drop-cons s i 0 l))
+
+  module _ (e : getD s i 0 ≡ 91) where
+    begins : countLeaf ≡ bind (countBy level true left (getD s i 0) (drop (suc i) s)) (λ x m t. got (Form.leaf x) m t)
+    begins = ap (λ (g : Got Threshold). bind g (λ x m t. got (Form.leaf x) m t)) (sees ∙ ap (λ (b : Bool). countBy level b left (getD s i 0) (drop (suc i) s)) (eq-eqb (getD s i 0) 91 e))
+
+    pub count-shut : level ≡ 0 → countLeaf ≡ no 14 (drop i s)
+    unfolding countBy bind
+    count-shut z =
+        begins ∙ ap (λ (d : ℕ). bind (countBy d true left (getD s i 0) (drop (suc i) s)) (λ x m t. got (Form.leaf x) m t)) z ∙ ap (no 14) (sym (drop-cons s i 0 l))
+
+    module _ (d : ℕ) (deep : level ≡ suc d) where
+      opened : countLeaf ≡ bind (countBy (suc d) true left (getD s i 0) (drop (suc i) s)) (λ x m t. got (Form.leaf x) m t)
+      opened = begins ∙ ap (λ (j : ℕ). bind (countBy j true left (getD s i 0) (drop (suc i) s)) (λ x m t. got (Form.leaf x) m t)) deep
+
+      pub count-spent : left ≡ 0 → countLeaf ≡ no 14 (drop i s)
+      unfolding countBy node bind
+      count-spent z =
+          opened ∙ ap (λ (m : ℕ). bind (countBy (suc d) true m (getD s i 0) (drop (suc i) s)) (λ x m t. got (Form.leaf x) m t)) z ∙ ap (no 14) (sym (drop-cons s i 0 l))
+
+      pub count-is : (m : ℕ) → left ≡ suc m → countLeaf ≡ countGot (ors (λ j. marks) d m (drop (suc i) s))
+      unfolding countBy node inners
+      count-is m z = opened ∙ ap (λ (j : ℕ). bind (countBy (suc d) true j (getD s i 0) (drop (suc i) s)) (λ x m t. got (Form.leaf x) m t)) z
