@@ -6,6 +6,9 @@ pub mod Parts
 pub mod More
 pub mod Operator
 pub mod Counts
+pub mod Rules
+-- promises
+pub mod Promises
 -- laws
 pub mod Digits
 pub mod Room
@@ -16,4 +19,5 @@ pub mod Reached
 pub mod Small
 pub mod Counted
 pub mod LeafParts
+pub mod Lines
 pub mod Offsets

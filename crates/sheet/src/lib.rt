@@ -3,7 +3,11 @@ mod counts;
 mod leaves;
 mod nodes;
 mod parts;
+mod reading;
 mod tokens;
+
+pub use reading::read;
+pub use reading::read_clause;
 
 // What reading a part gives: the refusal's number, or 0; the offset behind the part, or the refused one; the nodes still
 // allowed; and how many nodes stand in the block, the last of them the part's own.
