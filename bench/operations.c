@@ -1,4 +1,4 @@
-/* Does one operation with the floor and the plan of a folder so many times; its three arguments are the folder, the operation
+/* Does one operation with the floor, the plan and the rules of a folder so many times; its three arguments are the folder, the operation
  * and how often. bench/run counts the instructions of one call as the difference of two runs. */
 #include "cartplan.h"
 
@@ -8,8 +8,8 @@
 
 enum { ROOM = 65537 };
 
-static uint8_t floor_file[ROOM], plan_file[ROOM], out[ROOM];
-static size_t floor_len, plan_len;
+static uint8_t floor_file[ROOM], plan_file[ROOM], rules_file[ROOM], out[ROOM];
+static size_t floor_len, plan_len, rules_len;
 
 static size_t load(const char *folder, const char *name, uint8_t *buffer)
 {
@@ -32,6 +32,11 @@ static struct cartplan_verdict read_plan(void)
     return cartplan_read_plan(floor_file, floor_len, plan_file, plan_len);
 }
 
+static struct cartplan_verdict read_rules(void)
+{
+    return cartplan_read_rules(rules_file, rules_len);
+}
+
 static struct cartplan_verdict check_moves(void)
 {
     return cartplan_check_moves(floor_file, floor_len, plan_file, plan_len);
@@ -52,8 +57,8 @@ static const struct {
     const char *name;
     struct cartplan_verdict (*call)(void);
 } operations[] = {
-    {"read_floor", read_floor}, {"read_plan", read_plan},     {"check_moves", check_moves},
-    {"move_on", move_on},       {"replace_row", replace_row},
+    {"read_floor", read_floor},   {"read_plan", read_plan}, {"read_rules", read_rules},
+    {"check_moves", check_moves}, {"move_on", move_on},     {"replace_row", replace_row},
 };
 
 int main(int argc, char **argv)
@@ -61,8 +66,8 @@ int main(int argc, char **argv)
     if (argc != 4) return 2;
     floor_len = load(argv[1], "floor", floor_file);
     plan_len = load(argv[1], "plan", plan_file);
-    if (plan_len < 14) return 2;
-    memcpy(out, plan_file + 14, plan_file[4]);
+    rules_len = load(argv[1], "rules", rules_file);
+    if (plan_len >= 14) memcpy(out, plan_file + 14, plan_file[4]);
     for (size_t i = 0; i < sizeof operations / sizeof *operations; i++) {
         if (strcmp(argv[2], operations[i].name) != 0) continue;
         uint32_t refused = 0;

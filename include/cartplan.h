@@ -47,6 +47,10 @@ struct cartplan_verdict cartplan_write_plan(const uint8_t *floor, size_t floor_l
                                             const uint8_t *rows, size_t rows_len,
                                             uint8_t *out, size_t out_len);
 
+/* Reads a rule sheet. Refused: 12 (0, 0) for more than 16,384 bytes, 7 (0, 0) for an empty sheet, then at the lowest byte
+ * offset 13, 14 or 15. */
+struct cartplan_verdict cartplan_read_rules(const uint8_t *rules, size_t rules_len);
+
 /* Checks the moves of a plan. The refusals of reading come first; then, carts in order: 10 (cart, 0) for a row that does not
  * begin at the cart's start, 11 (cart, step) for the lowest step that the cart leaves by no lane open to its class, the move
  * from step h - 1 to l included. */
@@ -68,6 +72,17 @@ struct cartplan_verdict cartplan_move_on(const uint8_t *floor, size_t floor_len,
 struct cartplan_verdict cartplan_replace_row(const uint8_t *floor, size_t floor_len,
                                              uint8_t *plan, size_t plan_len,
                                              uint32_t cart, const uint8_t *row, size_t row_len);
+
+/* A part of a sheet: its first byte's offset, and its length in bytes. */
+struct cartplan_span {
+    size_t offset, length;
+};
+
+/* The clause that a verdict picks, from its line's first byte to the last before the line end. verdict: the four numbers of a
+ * cartplan_verdict in 16 bytes, each lowest byte first. For a verdict that names no clause (only refusals 16 and 17 of the
+ * rules do), for any other length than 16, or for a clause that the sheet lacks: offset 0, length 0. The sheet is not judged. */
+struct cartplan_span cartplan_clause(const uint8_t *rules, size_t rules_len,
+                                     const uint8_t *verdict, size_t verdict_len);
 
 #ifdef __cplusplus
 }

@@ -1,6 +1,6 @@
 /* The C interface from C: document 01's floor and plan written, compared with bytes written out by hand and read back, its
- * moves checked, the plan moved on and a row replaced; empty buffers as null pointers; room one byte short; a refusal of each
- * function. */
+ * moves checked, the plan moved on and a row replaced; a sheet read and a clause picked; empty buffers as null pointers; room
+ * one byte short; a refusal of each function. */
 #include <stdio.h>
 #include <string.h>
 
@@ -190,6 +190,41 @@ static void check_replaced(void)
     check(memcmp(plan, plan_bytes, 22) == 0 && memcmp(plan + 22, row, 4) == 0, "that row's bytes alone");
 }
 
+static const uint8_t sheet[] = "G [m0,1]\n !true\n";
+#define SHEET_LEN (sizeof sheet - 1)
+
+static void check_sheet(void)
+{
+    check_verdict(cartplan_read_rules(sheet, SHEET_LEN), 0, 0, 0, "sheet read");
+    check_verdict(cartplan_read_rules(sheet, SHEET_LEN - 1), 3, 13, SHEET_LEN - 1, "no byte 10 at the end");
+    check_verdict(cartplan_read_rules(sheet + 2, SHEET_LEN - 2), 0, 0, 0, "a count alone");
+    check_verdict(cartplan_read_rules(sheet + 3, SHEET_LEN - 3), 3, 13, 0, "a mark outside a count");
+    check_verdict(cartplan_read_rules(NULL, 0), 3, 7, 0, "null sheet");
+}
+
+static void check_span(struct cartplan_span is, size_t offset, size_t length, const char *name)
+{
+    check(is.offset == offset && is.length == length, name);
+}
+
+static void check_clause(void)
+{
+    uint8_t verdict[16] = {3, 0, 0, 0, 17, 0, 0, 0, 1, 0, 0, 0, 9, 0, 0, 0};
+
+    check(sizeof(struct cartplan_span) == 2 * sizeof(size_t), "a span is two numbers");
+    check(offsetof(struct cartplan_span, offset) == 0, "offset stands first");
+    check_span(cartplan_clause(sheet, SHEET_LEN, verdict, 16), 9, 6, "clause 1 with its space");
+    check_span(cartplan_clause(sheet, SHEET_LEN, verdict, 15), 0, 0, "a verdict cut");
+    check_span(cartplan_clause(sheet, SHEET_LEN, NULL, 0), 0, 0, "null verdict");
+    check_span(cartplan_clause(NULL, 0, verdict, 16), 0, 0, "clause of a null sheet");
+    verdict[8] = 2;
+    check_span(cartplan_clause(sheet, SHEET_LEN, verdict, 16), 0, 0, "no clause 2");
+    verdict[8] = 0;
+    check_span(cartplan_clause(sheet, SHEET_LEN, verdict, 16), 0, 8, "clause 0");
+    verdict[4] = 13;
+    check_span(cartplan_clause(sheet, SHEET_LEN, verdict, 16), 0, 0, "13 names no clause");
+}
+
 static void check_null(void)
 {
     uint8_t out[ROOM];
@@ -244,6 +279,8 @@ int main(void)
     check_shut_move();
     check_moved_on();
     check_replaced();
+    check_sheet();
+    check_clause();
     check_null();
     check_refusals();
     printf("edge: %d checks, %d failed\n", checks, failed);

@@ -13,6 +13,7 @@ use Rattle.plan.specs.Promises.{PlanWritten}
 use Rattle.plan.specs.declared.Head.{Head}
 use Rattle.moves.specs.Promises.{MovesChecked}
 use Rattle.edit.specs.Promises.{MovedOn, RowReplaced}
+use Rattle.sheet.specs.Promises.{RulesRead}
 
 -- cartplan_read_floor
 abbrev pub readFloorCode : List ℕ → Code
@@ -35,6 +36,10 @@ FloorWrittenCode n before c after = Coded (λ v. FloorWritten n before v after) 
 -- cartplan_write_plan
 abbrev pub PlanWrittenCode : List ℕ → Head → List ℕ → List ℕ → Code → List ℕ → Type 0
 PlanWrittenCode floor h rows before c after = Coded (λ v. PlanWritten floor h rows before v after) c
+
+-- cartplan_read_rules
+abbrev pub RulesReadCode : List ℕ → Code → Type 0
+RulesReadCode rules c = Coded (RulesRead rules) c
 
 -- cartplan_check_moves
 abbrev pub MovesCheckedCode : List ℕ → List ℕ → Code → Type 0

@@ -1,9 +1,11 @@
 // The functions that the table controllers call from C: include/cartplan.h.
+use clause::Span;
 use refusal::Code;
 ghost use mathlib.Core.Path.{_≡_};
 ghost use Rattle.floor.specs.Numbers.{numbers};
 ghost use Rattle.plan.specs.Numbers.{headOf};
-ghost use Rattle.controller.specs.Edge.{readFloorCode, readPlanCode, FloorWrittenCode, PlanWrittenCode, MovesCheckedCode, MovedOnCode, RowReplacedCode};
+ghost use Rattle.clause.specs.Promises.{Picked};
+ghost use Rattle.controller.specs.Edge.{readFloorCode, readPlanCode, FloorWrittenCode, PlanWrittenCode, RulesReadCode, MovesCheckedCode, MovedOnCode, RowReplacedCode};
 
 // Reads a floor.
 #[no_mangle]
@@ -51,6 +53,14 @@ pub extern "C" fn cartplan_write_plan(
     refusal::code_of(plan::write(floor, h, l, d, rows, out))
 }
 
+// Reads a rule sheet.
+#[no_mangle]
+pub extern "C" fn cartplan_read_rules(rules: &[u8]) -> Code
+    ensures { λ c. ⌜ RulesReadCode (now (rules .entry)) c ⌝ }
+{
+    refusal::code_of(sheet::read(rules))
+}
+
 // Checks the moves of a plan.
 #[no_mangle]
 pub extern "C" fn cartplan_check_moves(floor: &[u8], plan: &[u8]) -> Code
@@ -73,4 +83,12 @@ pub extern "C" fn cartplan_replace_row(floor: &[u8], plan: &mut [u8], cart: u32,
     ensures { λ c. ⌜ RowReplacedCode (now (floor .entry)) (now (plan .entry)) cart (now (row .entry)) c (now (plan .exit)) ⌝ }
 {
     refusal::code_of(edit::replace_row(floor, plan, cart, row))
+}
+
+// Where the clause that a verdict picks lies in a sheet.
+#[no_mangle]
+pub extern "C" fn cartplan_clause(rules: &[u8], verdict: &[u8]) -> Span
+    ensures { λ r. ⌜ Picked (now (rules .entry)) (now (verdict .entry)) r ⌝ }
+{
+    clause::find_span(rules, verdict)
 }
