@@ -1,11 +1,13 @@
 -- What the reader of a sheet promises, in the words of the grammar and the limits alone.
-use Prim.Native.Nat.{ℕ, suc, _≤_, _<_}
-use mathlib.Core.Path.{_≡_}
+use Prim.Native.Nat.{ℕ, suc, _+_, _-_, _≤_, _<_}
+use native.Mathlib.Omega.{arith}
+use mathlib.Core.Path.{_≡_, subst}
 use mathlib.Core.Logic.{_⊎_}
-use mathlib.Core.List.{List, _++_}
+use mathlib.Core.List.{List, [], _++_}
 use lib.ListN.{length, take, drop}
 use Rattle.grammar.specs.Grammar.{Clause, Number, Sheet}
-use Rattle.grammar.specs.Limits.{Sized, Fits}
+use Rattle.grammar.specs.Limits.{nodes, countNodes, Sized, Fits}
+use Rattle.grammar.specs.Nodes.{Node, flatClause, Stands, StandsCount, clause-stands, clause-length}
 use Rattle.grammar.specs.Reader.{accepted, refused, readSheet}
 use Rattle.grammar.specs.Accepts.{Accepted, Whole, sound, begun-13, allowed-14, allowed-15}
 use Rattle.grammar.specs.Complete.{TooLarge, Coded, complete, stuck-13, over-14, large-15, codes, long-12}
@@ -26,6 +28,9 @@ pub record Promises (s : List ℕ) : Type 0 where
   -- accepted: exactly the sheets of the grammar within the limits, and each as it is there
   pub sound : (cs : List Clause) → readSheet s ≡ accepted cs → Accepted s cs
   pub complete : (cs : List Clause) (d : Sheet s cs) → Fits d → length cs ≤ 32 → 0 < length s → length s ≤ 16384 → readSheet s ≡ accepted cs
+  -- a clause's nodes, whatever stands behind them: as many as the limit counts, each operand before its operator, the last for the clause
+  pub count : (c : Clause) → length (flatClause c 0) ≡ nodes countNodes c
+  pub standing : (c : Clause) (q : List Node) → Stands StandsCount (flatClause c 0 ++ q) (nodes countNodes c - 1) c
   -- 12 for what is too long, before all else; no refusals but 7, 12, 13, 14 and 15
   pub long-12 : 16384 < length s → readSheet s ≡ refused 12 0
   pub codes : (w k : ℕ) → readSheet s ≡ refused w k → Coded s w k
@@ -43,6 +48,8 @@ pub promises : (s : List ℕ) → Promises s
 promises s = record {
   sound = sound s;
   complete = complete s;
+  count = λ c. clause-length c 0;
+  standing = λ c q. let e : 0 + nodes countNodes c ≡ nodes countNodes c = omega arith in subst (λ (n : ℕ). Stands StandsCount (flatClause c 0 ++ q) (n - 1) c) e (clause-stands c [] q);
   long-12 = long-12 s;
   codes = codes s;
   first-13 = begun-13 s;

@@ -15,6 +15,7 @@ use Rattle.sheet.specs.Block.{nodeBytes}
 use Rattle.sheet.specs.Leaves.{LeafIs, ByteAt, wordGot}
 use Rattle.sheet.specs.Tokens.{NumIs}
 use Rattle.sheet.specs.Digits.{relabel, number-any, Only13, number-13}
+use Rattle.sheet.specs.Placed.{refused-at}
 use Rattle.sheet.specs.declared.Num.{Num}
 use Rattle.sheet.specs.declared.Part.{Part}
 
@@ -40,14 +41,7 @@ pub refused-leaf : {A : Type 0} (node : A → Node) (s : List ℕ) (n left : ℕ
     → (w ≡ 0 → ⊥) → i ≤ length s → g ≡ no w (drop i s) → LeafIs node s n left before r before g
 refused-leaf node s n left before r w i g e some l q =
     subst (LeafIs node s n left before r before) (sym q)
-    (record {
-      number = ap (λ (x : Part). x .fault) e;
-      some = λ z. some (sym (ap (λ (x : Part). x .fault) e) ∙ z);
-      none = ap (λ (x : Part). x .left) e;
-      behind = ap (λ (x : Part). drop (x .at) s) e;
-      inside = subst (λ (x : Part). x .at ≤ length s) (sym e) l;
-      block = refl;
-    })
+    (refused-at s before r before w i e some l refl)
 
 -- a token with its node
 pub placed-leaf : {A : Type 0} (node : A → Node) (s : List ℕ) (n left : ℕ) (before : List ℕ) (r : Part) (after : List ℕ) (x : A) (i : ℕ) (g : Got A)

@@ -1,37 +1,27 @@
 -- Leaves as parts: a mark, and a count at its `[`.
-use Prim.Native.Nat.{ℕ, zero, suc, _+_, _-_, _*_, _≤_, _<_}
-use native.Mathlib.Omega.{arith}
-use mathlib.Core.Path.{_≡_, refl, sym, ap, subst, _∙_}
-use mathlib.Core.Bool.{Bool, true, false}
-use mathlib.Core.List.{List, [], _∷_}
+use Prim.Native.Nat.{ℕ, suc, _<_}
+use mathlib.Core.Path.{_≡_, refl, sym, ap, _∙_}
+use mathlib.Core.Bool.{Bool, true}
+use mathlib.Core.List.{List}
 use lib.Dec.{eqb}
 use lib.ListN.{length, getD, drop}
 use lib.Seq.{drop-cons}
 use borrow.Author.Tests.{eq-eqb, ne-eqb}
-use Rattle.record.specs.Buffer.{stored}
 use Rattle.grammar.specs.Grammar.{Form, Threshold, Clause}
 use Rattle.grammar.specs.Limits.{markNodes}
-use Rattle.grammar.specs.Nodes.{Node, markN, flat, flatMark}
+use Rattle.grammar.specs.Nodes.{markN, flat, flatMark}
 use Rattle.grammar.specs.Reader.{Got, got, no, bind, node, marks, inners, countBy, counts, ors}
-use Rattle.sheet.specs.Leaves.{Refused, LeafIs}
-use Rattle.sheet.specs.Parts.{Held, PartIs}
+use Rattle.sheet.specs.Leaves.{LeafIs}
+use Rattle.sheet.specs.Parts.{PartIs}
 use Rattle.sheet.specs.Counts.{countGot}
-use Rattle.sheet.specs.Joined.{nodes-one}
+use Rattle.sheet.specs.Placed.{placed-part}
 use Rattle.sheet.specs.declared.Part.{Part}
 
 pub mark-part : (s : List ℕ) (n left : ℕ) (before : List ℕ) (r : Part) (after : List ℕ) (g : Got ℕ) → LeafIs markN s n left before r after g
     → PartIs markNodes flatMark s n left before r after (bind g (λ x m t. got (Form.leaf x) m t))
 unfolding bind flat flatMark
 mark-part s n left before r after (no w t) h = h
-mark-part s n left before r after (got x m t) h = record {
-  fine = h .fine;
-  behind = h .behind;
-  inside = h .inside;
-  allowed = h .allowed;
-  slots = h .slots;
-  kept = h .kept;
-  block = h .block ∙ ap (stored before (4 * n)) (sym (nodes-one (markN x)));
-}
+mark-part s n left before r after (got x m t) h = placed-part markN markNodes flatMark s n left before r after x (Form.leaf x) m t refl h
 
 module _ (s : List ℕ) (level left i : ℕ) (l : i < length s) where
   -- what a count gives, as a leaf of a clause

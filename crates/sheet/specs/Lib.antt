@@ -13,6 +13,7 @@ pub mod Promises
 pub mod Digits
 pub mod Room
 pub mod Joined
+pub mod Placed
 pub mod Chained
 pub mod Ended
 pub mod Reached

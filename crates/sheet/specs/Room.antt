@@ -1,16 +1,16 @@
 -- What a part that was read leaves room for.
-use Prim.Native.Nat.{ℕ, suc, _+_, _≤_, _<_}
+use Prim.Native.Nat.{ℕ, _+_, _≤_, _<_}
 use native.Mathlib.Omega.{arith}
-use mathlib.Core.Path.{_≡_, refl, sym, ap, subst, _∙_}
+use mathlib.Core.Path.{_≡_, sym, subst}
 use mathlib.Core.Bool.{Bool, true, false}
-use mathlib.Core.List.{List, [], _∷_}
+use mathlib.Core.List.{List}
 use lib.ListN.{length, drop}
-use Rattle.grammar.specs.Grammar.{Form, top, leaf, neg, and, or, next, until, release, ev, gl, Threshold, counted}
-use Rattle.grammar.specs.Limits.{nodes, markNodes, countNodes}
-use Rattle.grammar.specs.Nodes.{Node, flat, inner-flat, clause-flat}
+use Rattle.grammar.specs.Grammar.{Form, top, leaf, neg, and, or, next, until, release, ev, gl, counted}
+use Rattle.grammar.specs.Limits.{nodes}
+use Rattle.grammar.specs.Nodes.{flat, inner-flat, clause-flat}
 use Rattle.grammar.specs.Reader.{Got, got, no}
-use Rattle.sheet.specs.Leaves.{Refused}
-use Rattle.sheet.specs.Parts.{Held, PartIs, LeafOf, leafNodes, leafFlat}
+use Rattle.sheet.specs.Parts.{PartIs, LeafOf, leafNodes, leafFlat}
+use Rattle.sheet.specs.Placed.{refused-at}
 use Rattle.sheet.specs.declared.Part.{Part}
 
 pub flat-size : (inner : Bool) (a : Form (LeafOf inner)) (b : ℕ) → length (flat (leafNodes inner) (leafFlat inner) a b) ≡ nodes (leafNodes inner) a
@@ -53,14 +53,7 @@ pub refused-part : (inner : Bool) (s : List ℕ) (n left : ℕ) (before : List �
     → PartIs (leafNodes inner) (leafFlat inner) s n left before r block g
 refused-part inner s n left before r block w i g e some l b q =
     subst (PartIs (leafNodes inner) (leafFlat inner) s n left before r block) (sym q)
-    (record {
-      number = ap (λ (x : Part). x .fault) e;
-      some = λ z. some (sym (ap (λ (x : Part). x .fault) e) ∙ z);
-      none = ap (λ (x : Part). x .left) e;
-      behind = ap (λ (x : Part). drop (x .at) s) e;
-      inside = subst (λ (x : Part). x .at ≤ length s) (sym e) l;
-      block = b;
-    })
+    (refused-at s before r block w i e some l b)
 
 -- where a part ends is in the text
 pub part-inside : (inner : Bool) (s : List ℕ) (n left : ℕ) (before : List ℕ) (r : Part) (block : List ℕ) (g : Got (Form (LeafOf inner)))

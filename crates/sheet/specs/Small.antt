@@ -1,5 +1,5 @@
 -- A smallest part, by its first byte.
-use Prim.Native.Nat.{ℕ, zero, suc, _+_, _-_, _*_, _≤_}
+use Prim.Native.Nat.{ℕ, zero, suc, _+_, _-_, _≤_}
 use native.Mathlib.Omega.{arith}
 use mathlib.Core.Path.{_≡_, refl, sym, ap, subst, _∙_}
 use mathlib.Core.Bool.{Bool, true, false}
@@ -7,7 +7,6 @@ use mathlib.Core.List.{List, [], _∷_, _++_}
 use lib.Dec.{eqb}
 use lib.ListN.{length, drop}
 use borrow.Author.Tests.{eqb-true, ne-eqb}
-use Rattle.record.specs.Buffer.{stored}
 use Rattle.grammar.specs.Grammar.{Form, top, Prefix, not, next, finally, globally, prefixByte, prefixed}
 use Rattle.grammar.specs.Limits.{nodes}
 use Rattle.grammar.specs.Nodes.{Node, topN, oneN, Op₁, neg₁, next₁, ev₁, gl₁, flat}
@@ -17,7 +16,8 @@ use Rattle.sheet.specs.Block.{oneByte}
 use Rattle.sheet.specs.Leaves.{LeafIs, Expected, wordGot}
 use Rattle.sheet.specs.Parts.{PartIs}
 use Rattle.sheet.specs.More.{WithNode}
-use Rattle.sheet.specs.Joined.{nodes-one, one-part}
+use Rattle.sheet.specs.Joined.{one-part}
+use Rattle.sheet.specs.Placed.{placed-part}
 use Rattle.sheet.specs.Ended.{ended-part}
 use Rattle.sheet.specs.declared.Part.{Part}
 
@@ -144,15 +144,7 @@ module _ {L : Type 0} (leafNodes : L → ℕ) (leafFlat : L → ℕ → List Nod
       where
         noded : (m : ℕ) (u : List ℕ) → LeafIs (λ (u : Unit {0}). topN) s n left before r after (node (drop i s) m (λ m₁. got tt m₁ u)) → P r after (node (drop i s) m (λ m₁. got top m₁ u))
         noded zero u k = k
-        noded (suc m) u k = record {
-          fine = k .fine;
-          behind = k .behind;
-          inside = k .inside;
-          allowed = k .allowed;
-          slots = k .slots;
-          kept = k .kept;
-          block = k .block ∙ ap (stored before (4 * n)) (sym (nodes-one topN));
-        }
+        noded (suc m) u k = placed-part (λ (u : Unit {0}). topN) leafNodes leafFlat s n left before r after tt top m u refl k
 
         go : (g : Got (Unit {0})) → LeafIs (λ (u : Unit {0}). topN) s n left before r after (bind g (λ u m r₁. node (drop i s) m (λ m₁. got tt m₁ r₁)))
             → P r after (bind g (λ u m r₁. node (drop i s) m (λ m₁. got top m₁ r₁)))
