@@ -1,0 +1,6 @@
+-- definitions
+pub mod Threshold
+pub mod Meaning
+pub mod Rules
+-- worked cases
+pub mod Cases
