@@ -1,0 +1,6 @@
+-- definitions
+pub mod Mask
+-- laws
+pub mod EachBit
+pub mod Combined
+pub mod Turned
