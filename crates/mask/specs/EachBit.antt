@@ -10,8 +10,8 @@ use lib.Dec.{eqb}
 use Rattle.mask.specs.Mask.{on}
 
 -- a digit is 0 or 1
-digit : (P : ℕ → Type 0) → P 0 → P 1 → (n : ℕ) → P (n % 2)
-digit P p q n = go (n % 2) (mod-lt n (omega arith))
+pub binary : (P : ℕ → Type 0) → P 0 → P 1 → (n : ℕ) → P (n % 2)
+binary P p q n = go (n % 2) (mod-lt n (omega arith))
   where
     go : (m : ℕ) → m < 2 → P m
     go zero h = p
@@ -24,7 +24,7 @@ Tells f g m n = eqb (f m n) 1 ≡ g (eqb m 1) (eqb n 1)
 
 module _ (op f : ℕ → ℕ → ℕ) (g : Bool → Bool → Bool) (shift : (a b k : ℕ) → op a b / 2 ^ k ≡ op (a / 2 ^ k) (b / 2 ^ k)) (step : (a b : ℕ) → op a b % 2 ≡ f (a % 2) (b % 2)) (none : Tells f g 0 0) (right : Tells f g 0 1) (left : Tells f g 1 0) (both : Tells f g 1 1) where
   tells : (a b : ℕ) → Tells f g (a % 2) (b % 2)
-  tells a b = digit (λ m. Tells f g m (b % 2)) (digit (Tells f g 0) none right b) (digit (Tells f g 1) left both b) a
+  tells a b = binary (λ m. Tells f g m (b % 2)) (binary (Tells f g 0) none right b) (binary (Tells f g 1) left both b) a
 
   bitwise : (a b s : ℕ) → on (op a b) s ≡ g (on a s) (on b s)
   unfolding on
@@ -40,7 +40,7 @@ pub on-or : (a b s : ℕ) → on (bitOr a b) s ≡ (on a s || on b s)
 on-or = bitwise bitOr max (λ x y. x || y) or-shr (λ a b. omega (arith, or-step a b, or-digit a b)) refl refl refl refl
 
 differ-lt : (a b : ℕ) → differ (a % 2) (b % 2) < 2
-differ-lt a b = digit (λ m. differ m (b % 2) < 2) (omega arith) (digit (λ n. differ 1 n < 2) (omega arith) (omega arith) b) a
+differ-lt a b = binary (λ m. differ m (b % 2) < 2) (omega arith) (binary (λ n. differ 1 n < 2) (omega arith) (omega arith) b) a
 
 pub on-xor : (a b s : ℕ) → on (bitXor a b) s ≡ xor (on a s) (on b s)
 unfolding xor

@@ -1,4 +1,4 @@
--- The row of what comes a step later, and of what stays true for a while.
+-- The row of what comes a step later.
 use Prim.Native.Nat.{ℕ, zero, suc, _+_, _*_, _-_, _/_, _%_, _^_, _≤_, _<_}
 use mathlib.Core.Path.{_≡_, refl, sym, ap, ap₂, subst, _∙_}
 use mathlib.Core.Bool.{Bool, false, _&&_, _||_, or-false, and-true}
@@ -48,14 +48,9 @@ module _ (a h l : ℕ) (low : a < 2 ^ h) (some : l < h) (few : h ≤ 64) where
       subst (λ (x : ℕ). Row h (bitOr (a / 2) x) (λ s. on a (nextStep h l s))) (sym last-is)
       (record { low = or-lt h (a / 2) last (omega (arith, low)) last-lt; at = turns })
 
--- the rows of counter s + i, and of all counters from s to s + i
-pub record Going (h l a i here all : ℕ) : Type 0 where
-  pub later : Row h here (λ s. on a (stepOf h l (s + i)))
-  pub so-far : Row h all (window h l (on a) i)
-
 module _ (h l : ℕ) (some : l < h) where
   -- counters go on from the next step
-  on-from-next : (s i : ℕ) → s < h → stepOf h l (nextStep h l s + i) ≡ stepOf h l (s + suc i)
+  pub on-from-next : (s i : ℕ) → s < h → stepOf h l (nextStep h l s + i) ≡ stepOf h l (s + suc i)
   on-from-next s zero p =
       let e : nextStep h l s + 0 ≡ nextStep h l s = omega arith in
       let f : suc s ≡ s + 1 = omega arith in
@@ -64,22 +59,3 @@ module _ (h l : ℕ) (some : l < h) where
       let e : nextStep h l s + suc i ≡ suc (nextStep h l s + i) = omega arith in
       let f : suc (s + suc i) ≡ s + suc (suc i) = omega arith in
       ap (stepOf h l) e ∙ step-next h l some (nextStep h l s + i) ∙ ap (nextStep h l) (on-from-next s i p) ∙ sym (step-next h l some (s + suc i)) ∙ ap (stepOf h l) f
-
-  same : (s : ℕ) → s < h → stepOf h l (s + 0) ≡ s
-  same s p = let e : s + 0 ≡ s = omega arith in ap (stepOf h l) e ∙ step-low h l s p
-
-  pub begun : (a : ℕ) → a < 2 ^ h → Going h l a 0 a a
-  unfolding window every
-  begun a low = record {
-    later = record { low = low; at = λ s p. ap (on a) (sym (same s p)) };
-    so-far = record { low = low; at = λ s p. sym (and-true (on a (stepOf h l (s + 0))) ∙ ap (on a) (same s p)) };
-  }
-
-  pub again : (a i here all next : ℕ) → Going h l a i here all → Row h next (λ s. on here (nextStep h l s)) → Going h l a (suc i) next (bitAnd next all)
-  unfolding window every
-  again a i here all next g r =
-      let on-now : (s : ℕ) → s < h → on next s ≡ on a (stepOf h l (s + suc i)) = λ s p. r .at s p ∙ g .later .at (nextStep h l s) (next-below h l some s) ∙ ap (on a) (on-from-next s i p) in
-      record {
-        later = record { low = r .low; at = on-now };
-        so-far = record { low = and-lt h next all (r .low) (g .so-far .low); at = λ s p. on-and next all s ∙ ap₂ (λ (x y : Bool). x && y) (on-now s p) (g .so-far .at s p) };
-      }

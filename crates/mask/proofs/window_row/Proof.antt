@@ -5,12 +5,12 @@ use mathlib.Core.Path.{_≡_, sym, subst}
 use lib.Bits.{bitAnd}
 use Rattle.cltl.specs.Rules.{window}
 use Rattle.mask.specs.Mask.{on, Row}
-use Rattle.mask.specs.Turned.{Going, begun, again}
+use Rattle.mask.proofs.Staying.{Staying, begun, again}
 use Rattle.mask.proofs.window_row.Statement.{statement}
 use Rattle.mask.proofs.window_row.Tie as tie
 
 abbrev Inv-loop : tie.InvT-loop
-Inv-loop a h l d here₀ all₀ i₀ here all i = (i ≤ d) × Going h l a i here all
+Inv-loop a h l d here₀ all₀ i₀ here all i = (i ≤ d) × Staying h l a i here all
 
 abbrev μ-loop : tie.MeasureT-loop
 μ-loop a h l d here₀ all₀ i₀ here all i = d - i
@@ -32,7 +32,7 @@ loop-again c =
     let a = c .before .before .before .args in
     let v = c .before .before .loop in
     let n = c .next-row in
-    (omega arith, subst (λ (i : ℕ). Going (a .h) (a .l) (a .a) i (n .result) (bitAnd (n .result) (v .all))) (sym (add-one (v .i))) (again (a .h) (a .l) (omega arith) (a .a) (v .i) (v .here) (v .all) (n .result) (v .inv .1) (n .ensures)))
+    (omega arith, subst (λ (i : ℕ). Staying (a .h) (a .l) (a .a) i (n .result) (bitAnd (n .result) (v .all))) (sym (add-one (v .i))) (again (a .h) (a .l) (omega arith) (a .a) (v .i) (v .here) (v .all) (n .result) (v .inv .1) (n .ensures)))
 
 returns : tie.Need-returns Inv-loop μ-loop
 returns c =
