@@ -23,14 +23,16 @@ module _ (h l : ℕ) where
       let t : ℕ = nextStep h l s in
       mix-mono p (a s) (a′ s) (b s) (b′ s) (fix h l p a b n t) (fix h l p a′ b′ n t) (f s) (g s) (fix-mono p a b a′ b′ f g n t) x
 
-  -- each is the other's negation
-  pub fix-not : (p : Bool) (a b a′ b′ : ℕ → Bool) → ((s : ℕ) → a′ s ≡ not (a s)) → ((s : ℕ) → b′ s ≡ not (b s)) → (n s : ℕ)
-      → fix h l (not p) a′ b′ n s ≡ not (fix h l p a b n s)
-  unfolding fix
-  fix-not p a b a′ b′ f g zero s = refl
-  fix-not p a b a′ b′ f g (suc n) s = rw (f s, g s, fix-not p a b a′ b′ f g n (nextStep h l s)) (mix-not p (a s) (b s) (fix h l p a b n (nextStep h l s)))
-
   module _ (ok : l < h) where
+    -- each is the other's negation
+    pub fix-not : (p : Bool) (a b a′ b′ : ℕ → Bool) → ((s : ℕ) → s < h → a′ s ≡ not (a s)) → ((s : ℕ) → s < h → b′ s ≡ not (b s)) → (n s : ℕ) → s < h
+        → fix h l (not p) a′ b′ n s ≡ not (fix h l p a b n s)
+    unfolding fix
+    fix-not p a b a′ b′ f g zero s q = refl
+    fix-not p a b a′ b′ f g (suc n) s q =
+        let t : ℕ = nextStep h l s in
+        rw (f s q, g s q, fix-not p a b a′ b′ f g n t (next-below h l ok s)) (mix-not p (a s) (b s) (fix h l p a b n t))
+
     -- what is ever reached from v on is reached before e, if e leaves room for a lap after v and after the run-in
     abbrev Near : (ℕ → Type 0) → ℕ → ℕ → ℕ → Type 0
     Near B v e u = (x : ℕ) × (v ≤ x) × (x ≤ u) × (x < e) × B x
@@ -102,7 +104,7 @@ module _ (h l : ℕ) where
     same true a b s n m q n₁ n₂ m₁ m₂ = same-true a b s n m q n₁ n₂ m₁ m₂
     same false a b s n m q n₁ n₂ m₁ m₂ =
         let f : (n : ℕ) → fix h l false a b n s ≡ not (fix h l true (λ s. not (a s)) (λ s. not (b s)) n s) =
-        (λ n. fix-not true (λ s. not (a s)) (λ s. not (b s)) a b (λ s. sym (Bool·not-not (a s))) (λ s. sym (Bool·not-not (b s))) n s) in
+        (λ n. fix-not true (λ s. not (a s)) (λ s. not (b s)) a b (λ s _. sym (Bool·not-not (a s))) (λ s _. sym (Bool·not-not (b s))) n s q) in
         f n ∙ ap not (same-true (λ s. not (a s)) (λ s. not (b s)) s n m q n₁ n₂ m₁ m₂) ∙ sym (f m)
 
     -- to the end and once round the lap is enough

@@ -9,3 +9,10 @@ pub mod Basics
 pub mod Pace
 pub mod Lap
 pub mod Operators
+pub mod Tally
+pub mod Hindmost
+pub mod Inner
+pub mod Quorum
+pub mod Sound
+pub mod Monotone
+pub mod Exact

@@ -7,7 +7,7 @@ use lib.Dec.{T, not-T}
 use native.Mathlib.Omega.{arith}
 use Rattle.grammar.specs.Grammar.{Form, top, leaf, neg, and, or, next, until, release, ev, gl}
 use Rattle.row.specs.Lasso.{nextStep, stepOf}
-use Rattle.row.specs.Round.{step-next}
+use Rattle.row.specs.Round.{step-next, step-below, next-below}
 use Rattle.cltl.specs.Meaning.{Until, Always, Holds}
 use Rattle.cltl.specs.Rules.{join, fix, judge, hasNext}
 use Rattle.cltl.specs.Pace.{Pace, until-map, pull, push}
@@ -63,19 +63,23 @@ module _ (h l : ℕ) (ok : l < h) (lo : ℕ → ℕ) (pace : Pace lo) where
     sound false (gl a) e t x = λ u. u (run-until _ _ t x (λ w _. tt) (λ w. sound false a e w))
 
 -- where each leaf's rule for its negation is the negation of its rule, so is each form's
-module _ (h l : ℕ) {L : Type 0} (rule : Bool → L → ℕ → Bool) (opp : (p : Bool) (x : L) (s : ℕ) → rule (not p) x s ≡ not (rule p x s)) where
-  pub dual : (p : Bool) (c : Form L) (s : ℕ) → judge h l rule (not p) c s ≡ not (judge h l rule p c s)
+module _ (h l : ℕ) (ok : l < h) {L : Type 0} (rule : Bool → L → ℕ → Bool)
+    (opp : (p : Bool) (x : L) (s : ℕ) → s < h → rule (not p) x s ≡ not (rule p x s)) where
+  abbrev Jd : Bool → Form L → ℕ → Bool
+  Jd p a s = judge h l rule p a s
+
+  pub dual : (p : Bool) (c : Form L) (s : ℕ) → s < h → judge h l rule (not p) c s ≡ not (judge h l rule p c s)
   unfolding judge
-  dual p top s = refl
-  dual p (leaf x) s = opp p x s
-  dual p (neg a) s = dual (not p) a s
-  dual p (and a b) s = rw (dual p a s, dual p b s) (join-not p (judge h l rule p a s) (judge h l rule p b s))
-  dual p (or a b) s = rw (dual p a s, dual p b s) (join-not (not p) (judge h l rule p a s) (judge h l rule p b s))
-  dual p (next a) s = dual p a (nextStep h l s)
-  dual p (until a b) s = fix-not h l p _ _ _ _ (λ s. dual p a s) (λ s. dual p b s) h s
-  dual p (release a b) s = fix-not h l (not p) _ _ _ _ (λ s. dual p a s) (λ s. dual p b s) h s
-  dual p (ev a) s = fix-not h l p _ _ _ _ (λ s. refl) (λ s. dual p a s) h s
-  dual p (gl a) s = fix-not h l (not p) _ _ _ _ (λ s. refl) (λ s. dual p a s) h s
+  dual p top s q = refl
+  dual p (leaf x) s q = opp p x s q
+  dual p (neg a) s q = dual (not p) a s q
+  dual p (and a b) s q = rw (dual p a s q, dual p b s q) (join-not p (Jd p a s) (Jd p b s))
+  dual p (or a b) s q = rw (dual p a s q, dual p b s q) (join-not (not p) (Jd p a s) (Jd p b s))
+  dual p (next a) s q = dual p a (nextStep h l s) (next-below h l ok s)
+  dual p (until a b) s q = fix-not h l ok p _ _ _ _ (λ s q. dual p a s q) (λ s q. dual p b s q) h s q
+  dual p (release a b) s q = fix-not h l ok (not p) _ _ _ _ (λ s q. dual p a s q) (λ s q. dual p b s q) h s q
+  dual p (ev a) s q = fix-not h l ok p _ _ _ _ (λ s q. refl) (λ s q. dual p a s q) h s q
+  dual p (gl a) s q = fix-not h l ok (not p) _ _ _ _ (λ s q. refl) (λ s q. dual p a s q) h s q
 
 module _ (h l : ℕ) {L : Type 0} (rule rule′ : Bool → L → ℕ → Bool) (imp : (p : Bool) (x : L) (s : ℕ) → T (rule p x s) → T (rule′ p x s)) where
   pub judge-mono : (p : Bool) (c : Form L) (s : ℕ) → T (judge h l rule p c s) → T (judge h l rule′ p c s)
@@ -97,13 +101,13 @@ counters = record { up = λ t. omega arith; one = λ t. omega arith; grows = λ 
 
 module _ (h l : ℕ) (ok : l < h) {L : Type 0} (rule : Bool → L → ℕ → Bool) (Leaf : L → ℕ → Type 0)
     (leaf-sound : (p : Bool) (x : L) (t : ℕ) → T (rule p x (stepOf h l t)) → Val p (Leaf x t))
-    (opp : (p : Bool) (x : L) (s : ℕ) → rule (not p) x s ≡ not (rule p x s)) where
+    (opp : (p : Bool) (x : L) (s : ℕ) → s < h → rule (not p) x s ≡ not (rule p x s)) where
   pub exact-sound : (p : Bool) (c : Form L) (t : ℕ) → T (judge h l rule p c (stepOf h l t)) → Val p (Holds Leaf c t)
   exact-sound p c t x = sound h l ok (λ t. t) counters rule Leaf leaf-sound p c (λ _ t. refl) t x
 
   pub exact-complete : (p : Bool) (c : Form L) (t : ℕ) → Val p (Holds Leaf c t) → T (judge h l rule p c (stepOf h l t))
   exact-complete true c t v =
-      ⊎-elim (λ x. x) (λ x. absurd (exact-sound false c t (rw (dual h l rule opp true c (stepOf h l t)) x) v))
+      ⊎-elim (λ x. x) (λ x. absurd (exact-sound false c t (rw (dual h l ok rule opp true c (stepOf h l t) (step-below h l ok t)) x) v))
       (T-or-not (judge h l rule true c (stepOf h l t)))
   exact-complete false c t v =
-      rw (dual h l rule opp true c (stepOf h l t)) (not-T (judge h l rule true c (stepOf h l t)) (λ x. v (exact-sound true c t x)))
+      rw (dual h l ok rule opp true c (stepOf h l t) (step-below h l ok t)) (not-T (judge h l rule true c (stepOf h l t)) (λ x. v (exact-sound true c t x)))
