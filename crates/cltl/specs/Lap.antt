@@ -80,6 +80,13 @@ module _ (h l : ℕ) where
           let r = near (λ w. At b w → ⊥) (λ w p x. subst (λ (s : ℕ). T (b s) → ⊥) (step-lap h l ok w p) x) v (v + h) (omega arith) (omega arith) (u .0 - v) (u .0) (u .1) (omega arith) (u .2) in
           stays-not h v (r .0) t (r .1) (r .3) (r .4) (λ w p q. u .3 w p (omega arith))
 
+      -- b for ever is enough, with no need of a
+      pub forever : (n v : ℕ) → ((u : ℕ) → v ≤ u → At b u) → T (fix h l false a b n (stepOf h l v))
+      unfolding fix
+      forever zero v f = tt
+      forever (suc n) v f =
+          and-i (b (stepOf h l v)) _ (f v (le-refl v)) (or-r (a (stepOf h l v)) _ (rw (step-next h l ok) at (forever n (suc v) (λ u q. f u (omega arith)))))
+
       found : (n v u : ℕ) → v ≤ u → u < v + n → At b u → ((w : ℕ) → v ≤ w → w < u → At a w) → T (fix h l true a b n (stepOf h l v))
       unfolding fix
       found zero v u p q y z = absurd (omega arith)

@@ -2,6 +2,8 @@
 pub mod Threshold
 pub mod Meaning
 pub mod Rules
+-- promises
+pub mod Promises
 -- worked cases
 pub mod Cases
 -- laws
@@ -9,6 +11,7 @@ pub mod Basics
 pub mod Pace
 pub mod Lap
 pub mod Operators
+pub mod Wording
 pub mod Tally
 pub mod Hindmost
 pub mod Inner
@@ -16,3 +19,5 @@ pub mod Quorum
 pub mod Sound
 pub mod Monotone
 pub mod Exact
+pub mod Standing
+pub mod Complete

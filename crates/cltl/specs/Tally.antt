@@ -59,6 +59,13 @@ not-all P (suc n) i h p (suc m) a =
     (λ y. let r = tally-most (λ j. false) P n (λ j q t _. t) (suc m) y in omega arith)
     a
 
+pub at-least-map : (P Q : ℕ → Type 0) (n : ℕ) → ((i : ℕ) → i < n → P i → Q i) → (m : ℕ) → AtLeast P m n → AtLeast Q m n
+at-least-map P Q n f zero a = tt
+at-least-map P Q zero f (suc m) a = absurd a
+at-least-map P Q (suc n) f (suc m) a =
+    ⊎-elim (λ y. inl (f n (le-refl (suc n)) (y .0), at-least-map P Q n (λ i p. f i (omega arith)) m (y .1)))
+    (λ y. inr (at-least-map P Q n (λ i p. f i (omega arith)) (suc m) y)) a
+
 pub every-at : (f : ℕ → Bool) (n i : ℕ) → i < n → T (every f n) → T (f i)
 unfolding every
 every-at f zero i h t = absurd (omega arith)
