@@ -46,6 +46,16 @@ pub on-xor : (a b s : ℕ) → on (bitXor a b) s ≡ xor (on a s) (on b s)
 unfolding xor
 on-xor = bitwise bitXor differ (λ x y. xor x y) xor-shr (λ a b. omega (arith, xor-step a b, differ-lt a b)) refl refl refl refl
 
+except : (x y : Bool) → xor x (x && y) ≡ (x && not y)
+unfolding xor
+except true true = refl
+except true false = refl
+except false y = refl
+
+-- a without the bits of b
+pub on-except : (a b s : ℕ) → on (bitXor a (bitAnd a b)) s ≡ (on a s && not (on b s))
+on-except a b s = on-xor a (bitAnd a b) s ∙ ap (xor (on a s)) (on-and a b s) ∙ except (on a s) (on b s)
+
 -- moved down
 pub on-shr : (a k s : ℕ) → on (a / 2 ^ k) s ≡ on a (k + s)
 unfolding on

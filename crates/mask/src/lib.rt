@@ -1,9 +1,12 @@
 // Truth rows over a lasso of h steps, whose lap begins at l, as masks: bit s is the truth at step s.
 mod planes;
+mod until;
 
 pub use planes::add_row;
 pub use planes::reached;
 pub use planes::start_planes;
+pub use until::fix_row;
+pub use until::until_row;
 ghost use mathlib.Core.Bool.{true, not};
 ghost use mathlib.Core.Path.{_≡_};
 ghost use Prim.Native.Nat.{ℕ, _<_, _≤_, _^_};
