@@ -1,11 +1,11 @@
 -- The starred cases of document 01, computed over rows and trees.
-use Prim.Native.Nat.{ℕ, zero, suc, _+_, _-_, _/_, _%_, _^_}
+use Prim.Native.Nat.{ℕ, _-_, _/_, _%_, _^_}
 use mathlib.Core.Path.{_≡_, refl}
 use mathlib.Core.Bool.{Bool, true, false}
 use mathlib.Core.List.{List, [], _∷_}
 use lib.ListN.{getD}
 use lib.Dec.{eqb}
-use Rattle.grammar.specs.Grammar.{Form, top, leaf, neg, next, ev, gl, Inner, Threshold, counted, Clause}
+use Rattle.grammar.specs.Grammar.{leaf, neg, next, ev, gl, counted, Clause}
 use Rattle.row.specs.Lasso.{nextStep, stepOf}
 use Rattle.cltl.specs.Threshold.{threshold, quota}
 use Rattle.cltl.specs.Meaning.{Rows}
