@@ -54,6 +54,11 @@ pub steps :
 unfolding plan rowsOf rules count quorum quota threshold window inner mark judge nextStep stepOf fix tally every
 steps = (refl, refl, refl, refl, refl, refl)
 
+-- the window turns into the lap: cart 1 is on m1 at step 3 and not at step 0, which comes after it
+pub turned : (kept (at-least 1 1) 0 3 ≡ true) × (kept (at-least 1 1) 1 3 ≡ false)
+unfolding plan rowsOf rules count quorum quota threshold window inner mark judge nextStep stepOf fix tally every
+turned = (refl, refl)
+
 -- percentages are rounded up
 pub rounded : (threshold 25 true 12 ≡ 3) × (threshold 25 true 13 ≡ 4) × (threshold 100 true 32 ≡ 32) × (threshold 0 true 32 ≡ 0) × (threshold 1 true 1 ≡ 1)
 unfolding threshold
