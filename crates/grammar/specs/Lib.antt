@@ -14,3 +14,5 @@ pub mod Short
 pub mod Agree
 pub mod Complete
 pub mod Steps
+-- worked cases
+pub mod Examples

@@ -1,0 +1,61 @@
+-- Without drift the rules are exactly truth in step, "next" included.
+use Prim.Native.Nat.{ℕ, _+_, _-_, _≤_, _<_}
+use mathlib.Core.Path.{_≡_, sym, ap, subst, _∙_}
+use mathlib.Core.Bool.{Bool, true, false, not, Bool·not-not}
+use mathlib.Core.Logic.{_⊎_, ⊎-elim, _↔_}
+use native.Mathlib.Omega.{arith}
+use lib.Dec.{T}
+use Rattle.grammar.specs.Grammar.{Inner, Threshold, counted, Clause}
+use Rattle.row.specs.Lasso.{stepOf}
+use Rattle.cltl.specs.Threshold.{threshold, quota}
+use Rattle.cltl.specs.Meaning.{Rows, Proper, inStep, Counts, InStepAt}
+use Rattle.cltl.specs.Rules.{tally, inner, count, rules}
+use Rattle.cltl.specs.Basics.{lt-or-le, bool-opp}
+use Rattle.cltl.specs.Operators.{Val, exact-sound, exact-complete}
+use Rattle.cltl.specs.Inner.{inner-opp}
+use Rattle.cltl.specs.Quorum.{quorum-none, none-quorum}
+use Rattle.cltl.specs.Tally.{tally-not}
+use Rattle.cltl.specs.Hindmost.{least-at}
+use Rattle.cltl.specs.Sound.{count-sound}
+
+module _ (P : Rows) (proper : Proper P) where
+  -- the carts that satisfy inner text, or its negation, at a step
+  abbrev having : Bool → Inner → ℕ → ℕ
+  having p a s = tally (λ i. inner P i p a s) (P .carts)
+
+  count-none : (p : Bool) (a : Inner) (k : ℕ) (percent : Bool) (s : ℕ) → s < P .h
+      → (T (count P 0 p (counted a k percent) s) → quota p (threshold k percent (P .carts)) (P .carts) ≤ having p a s)
+      × (quota p (threshold k percent (P .carts)) (P .carts) ≤ having p a s → T (count P 0 p (counted a k percent) s))
+  unfolding count
+  count-none p a k percent s q = (
+    λ y. quorum-none (P .h) (P .l) (P .carts) _ (λ i. inner P i p a) s (proper .some) y q,
+    λ y. none-quorum (P .h) (P .l) (P .carts) _ (λ i. inner P i p a) s q y,
+  )
+
+  count-opp : (x : Threshold) (s : ℕ) → s < P .h → count P 0 false x s ≡ not (count P 0 true x s)
+  unfolding quota
+  count-opp (counted a k percent) s q =
+      let m : ℕ = threshold k percent (P .carts) in
+      let e : having false a s + having true a s ≡ P .carts = tally-not _ _ (λ i. inner-opp P proper i a s q) (P .carts) in
+      let yes = count-none true a k percent s q in
+      let no = count-none false a k percent s q in
+      bool-opp (count P 0 false (counted a k percent) s) (count P 0 true (counted a k percent) s)
+      (λ x y. let x′ = no .0 x in let y′ = yes .0 y in omega arith)
+      (λ f. no .1 (⊎-elim (λ g. omega arith) (λ g. absurd (f (yes .1 g))) (lt-or-le (having true a s) m)))
+
+  count-opps : (p : Bool) (x : Threshold) (s : ℕ) → s < P .h → count P 0 (not p) x s ≡ not (count P 0 p x s)
+  count-opps true x s q = count-opp x s q
+  count-opps false x s q = sym (Bool·not-not (count P 0 true x s)) ∙ ap not (sym (count-opp x s q))
+
+  step-sound : (p : Bool) (x : Threshold) (t : ℕ) → T (count P 0 p x (stepOf (P .h) (P .l) t)) → Val p (Counts P (inStep (P .carts) .at) x t)
+  step-sound p x t y =
+      let b = least-at (P .carts) 0 (proper .some) (inStep (P .carts)) t in
+      count-sound P proper 0 (inStep (P .carts)) p x t (subst (λ (v : ℕ). T (count P 0 p x (stepOf (P .h) (P .l) v))) (b .2) y)
+
+  -- at every moment
+  pub rules-exact : (c : Clause) (t : ℕ) → T (rules P 0 c (stepOf (P .h) (P .l) t)) ↔ InStepAt P c t
+  unfolding rules
+  rules-exact c t = (
+    λ x. exact-sound (P .h) (P .l) (proper .lap) (count P 0) (Counts P (inStep (P .carts) .at)) step-sound count-opps true c t x,
+    λ v. exact-complete (P .h) (P .l) (proper .lap) (count P 0) (Counts P (inStep (P .carts) .at)) step-sound count-opps true c t v,
+  )

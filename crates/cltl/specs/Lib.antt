@@ -1,0 +1,23 @@
+-- definitions
+pub mod Threshold
+pub mod Meaning
+pub mod Rules
+-- promises
+pub mod Promises
+-- worked cases
+pub mod Cases
+-- laws
+pub mod Basics
+pub mod Pace
+pub mod Lap
+pub mod Operators
+pub mod Wording
+pub mod Tally
+pub mod Hindmost
+pub mod Inner
+pub mod Quorum
+pub mod Sound
+pub mod Monotone
+pub mod Exact
+pub mod Standing
+pub mod Complete

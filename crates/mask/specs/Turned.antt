@@ -1,0 +1,61 @@
+-- The row of what comes a step later.
+use Prim.Native.Nat.{ℕ, zero, suc, _+_, _*_, _-_, _/_, _%_, _^_, _≤_, _<_}
+use mathlib.Core.Path.{_≡_, refl, sym, ap, ap₂, subst, _∙_}
+use mathlib.Core.Bool.{Bool, false, _&&_, _||_, or-false, and-true}
+use native.Mathlib.Omega.{arith}
+use native.Mathlib.Nat.{mod-eq-of-lt}
+use lib.Bits.{bitAnd, bitOr, and-mask, and-lt, or-lt}
+use lib.Pow.{pow-pos, pow-mono, shl-lt, shr-le}
+use Rattle.row.specs.Lasso.{nextStep, stepOf}
+use Rattle.row.specs.Round.{pick, next-low, next-last, next-below, step-low, step-next}
+use Rattle.cltl.specs.Rules.{window, every}
+use Rattle.mask.specs.Mask.{on, Row}
+use Rattle.mask.specs.EachBit.{on-and, on-or, on-shr, on-beyond, on-moved, on-under}
+
+-- the lap's first bit moved up to the last step
+module _ (a h l : ℕ) (low : a < 2 ^ h) (some : l < h) (few : h ≤ 64) where
+  last : ℕ
+  last = a / 2 ^ l % 2 * 2 ^ (h - 1)
+
+  last-lt : last < 2 ^ h
+  unfolding last
+  last-lt =
+      let e : 1 + (h - 1) ≡ h = omega arith in
+      subst (λ (k : ℕ). last < 2 ^ k) e (shl-lt 1 (h - 1) (omega arith))
+
+  last-is : bitAnd (a / 2 ^ l) 1 * 2 ^ (h - 1) % 2 ^ 64 ≡ last
+  unfolding last
+  last-is =
+      ap (λ (t : ℕ). t * 2 ^ (h - 1) % 2 ^ 64) (and-mask (a / 2 ^ l) 1)
+      ∙ mod-eq-of-lt (omega (arith, last-lt, pow-mono {i = h} {j = 64} few))
+
+  -- "After step h − 1 comes step l"
+  turns : (s : ℕ) → s < h → on (bitOr (a / 2) last) s ≡ on a (nextStep h l s)
+  unfolding last
+  turns s p =
+      let n : 1 + s ≡ suc s = omega arith in
+      let e : on (a / 2) s ≡ on a (suc s) = on-shr a 1 s ∙ ap (on a) n in
+      on-or (a / 2) last s
+      ∙ pick (suc s) h (_≡_ {A = Bool} (on (a / 2) s || on last s) (on a (nextStep h l s)))
+      (λ q. ap₂ (λ (x y : Bool). x || y) e (on-under (a / 2 ^ l % 2) (h - 1) s (omega arith)) ∙ or-false (on a (suc s)) ∙ ap (on a) (sym (next-low h l s q)))
+      (λ q.
+      let k : s ≡ h - 1 = omega arith in
+      ap₂ (λ (x y : Bool). x || y) (e ∙ on-beyond a h (suc s) low q) (ap (on last) k ∙ on-moved a l (h - 1))
+      ∙ ap (on a) (sym (next-last h l s q)))
+
+  pub turned : Row h (bitOr (a / 2) (bitAnd (a / 2 ^ l) 1 * 2 ^ (h - 1) % 2 ^ 64)) (λ s. on a (nextStep h l s))
+  turned =
+      subst (λ (x : ℕ). Row h (bitOr (a / 2) x) (λ s. on a (nextStep h l s))) (sym last-is)
+      (record { low = or-lt h (a / 2) last (omega (arith, low)) last-lt; at = turns })
+
+module _ (h l : ℕ) (some : l < h) where
+  -- counters go on from the next step
+  pub on-from-next : (s i : ℕ) → s < h → stepOf h l (nextStep h l s + i) ≡ stepOf h l (s + suc i)
+  on-from-next s zero p =
+      let e : nextStep h l s + 0 ≡ nextStep h l s = omega arith in
+      let f : suc s ≡ s + 1 = omega arith in
+      ap (stepOf h l) e ∙ step-low h l (nextStep h l s) (next-below h l some s) ∙ ap (nextStep h l) (sym (step-low h l s p)) ∙ sym (step-next h l some s) ∙ ap (stepOf h l) f
+  on-from-next s (suc i) p =
+      let e : nextStep h l s + suc i ≡ suc (nextStep h l s + i) = omega arith in
+      let f : suc (s + suc i) ≡ s + suc (suc i) = omega arith in
+      ap (stepOf h l) e ∙ step-next h l some (nextStep h l s + i) ∙ ap (nextStep h l) (on-from-next s i p) ∙ sym (step-next h l some (s + suc i)) ∙ ap (stepOf h l) f
