@@ -1,0 +1,4 @@
+-- definitions
+pub mod Check
+-- promises
+pub mod Promises
