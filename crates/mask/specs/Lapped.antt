@@ -3,7 +3,6 @@ use Prim.Native.Nat.{ℕ, zero, suc, _+_, _-_, _≤_, _<_}
 use mathlib.Core.Path.{_≡_, refl, sym, ap, ap₂, _∙_}
 use mathlib.Core.Bool.{Bool, true, false, not, _&&_, _||_, and-true, and-false, and-assoc, or-false, Bool·not-not}
 use native.Mathlib.Omega.{arith}
-use Rattle.row.specs.Lasso.{nextStep}
 use Rattle.row.specs.Round.{next-low, next-last}
 use Rattle.cltl.specs.Rules.{fix}
 use Rattle.cltl.specs.Lap.{enough, fix-not, fix-cong}

@@ -1,5 +1,5 @@
-use mathlib.Core.Path.{ap, _∙_}
-use native.Mathlib.Omega.{arith}
+use Prim.Native.Nat.{ℕ, _<_}
+use mathlib.Core.Path.{_≡_, ap, _∙_}
 use borrow.Author.Needs.{needs}
 use Rattle.mask.specs.Mask.{on, signed}
 use Rattle.mask.specs.Lapped.{signed-fix}
@@ -25,11 +25,12 @@ returns c =
     let b = c .before .before .flagged2 in
     let u = c .before .until-row in
     let r = c .flagged3 .ensures in
+    let back : (s : ℕ) → s < x .h → on (c .flagged3 .result) s ≡ signed (x .p) (on (u .result) s) = r .at in
     let some = c .before .before .before .before .pre .0 .0 in
     record {
       low = r .low;
       at = λ s p.
-          r .at s p ∙ ap (signed (x .p)) (u .ensures .at s p)
+          back s p ∙ ap (signed (x .p)) (u .ensures .at s p)
           ∙ signed-fix (x .h) (x .l) some (x .p) (on (x .a)) (on (x .b)) (on (a .result)) (on (b .result)) (a .ensures .at) (b .ensures .at) (x .h) s p;
     }
 
