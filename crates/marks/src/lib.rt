@@ -1,0 +1,1 @@
+// The rows of every mark for every cart, made once for a plan.
