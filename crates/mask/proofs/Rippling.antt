@@ -7,7 +7,8 @@ use lib.Bits.{bitAnd, bitXor}
 use lib.ListN.{length, take, drop, getD, set, length-set}
 use lib.Seq.{take-all, drop-length, take-suc-set, drop-set-lt, drop-cons, append-snoc}
 use Rattle.mask.specs.Planes.{Added}
-use Rattle.mask.specs.Counting.{ripple, added}
+use Rattle.mask.specs.Carry.{ripple}
+use Rattle.mask.specs.Counting.{added}
 
 -- i planes are done, and the carry goes on over the others
 pub record Rippling (old : List ℕ) (w : ℕ) (planes : List ℕ) (carry i : ℕ) : Type 0 where

@@ -8,7 +8,6 @@ pub use planes::start_planes;
 pub use until::fix_row;
 pub use until::until_row;
 ghost use mathlib.Core.Bool.{true, not};
-ghost use mathlib.Core.Path.{_≡_};
 ghost use Prim.Native.Nat.{ℕ, _<_, _≤_, _^_};
 ghost use Rattle.row.specs.Lasso.{nextStep};
 ghost use Rattle.cltl.specs.Rules.{join, window};
