@@ -1,5 +1,5 @@
 -- Rows of one truth, negated and joined.
-use Prim.Native.Nat.{ℕ, _+_, _-_, _/_, _^_, _≤_, _<_}
+use Prim.Native.Nat.{ℕ, _+_, _-_, _/_, _%_, _^_, _≤_, _<_}
 use mathlib.Core.Path.{_≡_, refl, sym, ap, subst, _∙_}
 use mathlib.Core.Bool.{Bool, true, false, not, xor, _&&_, _||_, and-true, and-false, or-false}
 use native.Mathlib.Omega.{arith}
@@ -7,7 +7,7 @@ use lib.Bits.{bitAnd, bitOr, bitXor, and-lt, or-lt, xor-lt}
 use lib.Pow.{pow-pos, ones-split, ones-lt, high}
 use Rattle.cltl.specs.Rules.{join}
 use Rattle.mask.specs.Mask.{on, Row}
-use Rattle.mask.specs.EachBit.{on-and, on-or, on-xor, on-zero, on-ones}
+use Rattle.mask.specs.EachBit.{on-and, on-or, on-xor, on-one, on-none, on-zero, on-ones}
 
 -- true at every step: the highest h of 64 ones moved down
 pub all-true : (h : ℕ) → h ≤ 64 → Row h ((2 ^ 64 - 1) / 2 ^ (64 - h)) (λ s. true)
@@ -43,14 +43,14 @@ module _ (h l r gap : ℕ) (low : r < 2 ^ h) where
   abbrev Turn : ℕ → Type 0
   Turn x = Row h x (λ s. on r s || (not (on gap s) && on r l))
 
-  pub turn-true : (c : ℕ) → on r l ≡ true → Row h c (λ s. not (on gap s)) → Turn (bitOr r c)
+  pub turn-true : (c : ℕ) → r / 2 ^ l % 2 ≡ 1 → Row h c (λ s. not (on gap s)) → Turn (bitOr r c)
   turn-true c e row = record {
     low = or-lt h r c low (row .low);
-    at = λ s p. on-or r c s ∙ ap (λ (x : Bool). on r s || x) (row .at s p ∙ sym (ap (λ (x : Bool). not (on gap s) && x) e ∙ and-true (not (on gap s))));
+    at = λ s p. on-or r c s ∙ ap (λ (x : Bool). on r s || x) (row .at s p ∙ sym (ap (λ (x : Bool). not (on gap s) && x) (on-one r l e) ∙ and-true (not (on gap s))));
   }
 
-  pub turn-false : on r l ≡ false → Turn r
+  pub turn-false : r / 2 ^ l % 2 ≡ 0 → Turn r
   turn-false e = record {
     low = low;
-    at = λ s p. sym (ap (λ (x : Bool). on r s || (not (on gap s) && x)) e ∙ ap (λ (x : Bool). on r s || x) (and-false (not (on gap s))) ∙ or-false (on r s));
+    at = λ s p. sym (ap (λ (x : Bool). on r s || (not (on gap s) && x)) (on-none r l e) ∙ ap (λ (x : Bool). on r s || x) (and-false (not (on gap s))) ∙ or-false (on r s));
   }

@@ -1,6 +1,6 @@
 -- Operations on masks go bit by bit.
 use Prim.Native.Nat.{ℕ, zero, suc, _+_, _*_, _-_, _/_, _%_, _^_, _≤_, _<_, min, max}
-use mathlib.Core.Path.{_≡_, refl, sym, ap, ap₂, subst, _∙_}
+use mathlib.Core.Path.{_≡_, refl, sym, ap, _∙_}
 use mathlib.Core.Bool.{Bool, true, false, not, xor, _&&_, _||_}
 use native.Mathlib.Omega.{arith}
 use native.Mathlib.Nat.{min-le-left, max-le, mod-lt, div-eq-of-lt, pow-suc, mul-assoc}
@@ -17,6 +17,14 @@ binary P p q n = go (n % 2) (mod-lt n (omega arith))
     go zero h = p
     go (suc zero) h = q
     go (suc (suc m)) h = absurd (omega arith)
+
+pub on-one : (a s : ℕ) → a / 2 ^ s % 2 ≡ 1 → on a s ≡ true
+unfolding on
+on-one a s e = ap (λ (x : ℕ). eqb x 1) e
+
+pub on-none : (a s : ℕ) → a / 2 ^ s % 2 ≡ 0 → on a s ≡ false
+unfolding on
+on-none a s e = ap (λ (x : ℕ). eqb x 1) e
 
 -- an operation f on digits that tells as g does
 abbrev Tells : (ℕ → ℕ → ℕ) → (Bool → Bool → Bool) → ℕ → ℕ → Type 0

@@ -3,11 +3,10 @@ use Prim.Native.Nat.{ℕ, zero, suc, _+_, _-_, _≤_, _<_}
 use mathlib.Core.Path.{_≡_, refl, sym, ap, ap₂, _∙_}
 use mathlib.Core.Bool.{Bool, true, false, not, _&&_, _||_, and-true, and-false, and-assoc, or-false, Bool·not-not}
 use native.Mathlib.Omega.{arith}
-use Rattle.row.specs.Lasso.{nextStep}
 use Rattle.row.specs.Round.{next-low, next-last}
 use Rattle.cltl.specs.Rules.{fix}
 use Rattle.cltl.specs.Lap.{enough, fix-not, fix-cong}
-use Rattle.mask.specs.Mask.{signed}
+use Rattle.mask.specs.Mask.{on, Row, signed}
 use Rattle.mask.specs.Straight.{holds, reaches}
 
 -- a step in front of a way whose second part begins where y ends
@@ -98,7 +97,14 @@ module _ (a b : ℕ → Bool) where
     lapped s p = sym (enough h l some true a b s p) ∙ to-end (h - l) s p ∙ ap (λ (x : Bool). reaches a b (h - s) s || (holds a (h - s) s && x)) lap-alone
 
 -- release is the negation of until, of negations
-pub signed-fix : (h l : ℕ) → l < h → (p : Bool) (a b a′ b′ : ℕ → Bool) → ((s : ℕ) → s < h → a′ s ≡ signed p (a s)) → ((s : ℕ) → s < h → b′ s ≡ signed p (b s)) → (n s : ℕ) → s < h
+signed-fix : (h l : ℕ) → l < h → (p : Bool) (a b a′ b′ : ℕ → Bool) → ((s : ℕ) → s < h → a′ s ≡ signed p (a s)) → ((s : ℕ) → s < h → b′ s ≡ signed p (b s)) → (n s : ℕ) → s < h
     → signed p (fix h l true a′ b′ n s) ≡ fix h l p a b n s
 signed-fix h l some true a b a′ b′ f g n s q = fix-cong h l some true a′ b′ a b f g n s q
 signed-fix h l some false a b a′ b′ f g n s q = sym (fix-not h l some true a′ b′ a b (λ t r. sym (ap not (f t r) ∙ Bool·not-not (a t))) (λ t r. sym (ap not (g t r) ∙ Bool·not-not (b t))) n s q)
+
+pub signed-row : (h l : ℕ) → l < h → (p : Bool) (a b a′ b′ u r : ℕ) → Row h a′ (λ s. signed p (on a s)) → Row h b′ (λ s. signed p (on b s)) → Row h u (fix h l true (on a′) (on b′) h)
+    → Row h r (λ s. signed p (on u s)) → Row h r (fix h l p (on a) (on b) h)
+signed-row h l some p a b a′ b′ u r f g until back = record {
+  low = back .low;
+  at = λ s q. back .at s q ∙ ap (signed p) (until .at s q) ∙ signed-fix h l some p (on a) (on b) (on a′) (on b′) (f .at) (g .at) h s q;
+}

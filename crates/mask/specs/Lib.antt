@@ -1,6 +1,7 @@
 -- definitions
 pub mod Mask
 pub mod Planes
+pub mod Carry
 pub mod Straight
 -- laws
 pub mod EachBit

@@ -1,8 +1,5 @@
-use mathlib.Core.Path.{ap, _∙_}
-use native.Mathlib.Omega.{arith}
 use borrow.Author.Needs.{needs}
-use Rattle.mask.specs.Mask.{on, signed}
-use Rattle.mask.specs.Lapped.{signed-fix}
+use Rattle.mask.specs.Lapped.{signed-row}
 use Rattle.mask.proofs.until.fix_row.Statement.{statement}
 use Rattle.mask.proofs.until.fix_row.Tie as tie
 
@@ -24,14 +21,8 @@ returns c =
     let a = c .before .before .before .flagged in
     let b = c .before .before .flagged2 in
     let u = c .before .until-row in
-    let r = c .flagged3 .ensures in
-    let some = c .before .before .before .before .pre .0 .0 in
-    record {
-      low = r .low;
-      at = λ s p.
-          r .at s p ∙ ap (signed (x .p)) (u .ensures .at s p)
-          ∙ signed-fix (x .h) (x .l) some (x .p) (on (x .a)) (on (x .b)) (on (a .result)) (on (b .result)) (a .ensures .at) (b .ensures .at) (x .h) s p;
-    }
+    let r = c .flagged3 in
+    signed-row (x .h) (x .l) (c .before .before .before .before .pre .0 .0) (x .p) (x .a) (x .b) (a .result) (b .result) (u .result) (r .result) (a .ensures) (b .ensures) (u .ensures) (r .ensures)
 
 pub fix-row-spec : {M : Type 1} → statement M
 fix-row-spec =
