@@ -2,3 +2,6 @@
 pub mod Check
 -- promises
 pub mod Promises
+-- laws
+pub mod Stages
+pub mod Claims
