@@ -1,7 +1,7 @@
 -- "Checking a plan: floor, plan, moves, sheet as above; then 16 with d above 0, X outside a count (lowest clause, 0); then 17, lowest clause
 -- not true (clause, step)."
-use Prim.Native.Nat.{ℕ, zero, suc}
-use mathlib.Core.Bool.{Bool, cond}
+use Prim.Native.Nat.{ℕ, suc}
+use mathlib.Core.Bool.{cond}
 use mathlib.Core.List.{List, [], _∷_}
 use lib.Dec.{eqb}
 use lib.ListN.{getD}
@@ -15,12 +15,13 @@ use Rattle.plan.specs.Plan.{Numbers}
 use Rattle.plan.specs.After.{afterReading}
 use Rattle.row.specs.Moves.{bit}
 use Rattle.moves.specs.Carts.{movesVerdict}
-use Rattle.grammar.specs.Grammar.{Form, top, leaf, neg, and, or, next, until, release, ev, gl, Clause}
+use Rattle.grammar.specs.Grammar.{Clause}
 use Rattle.grammar.specs.Reader.{Read, readSheet}
 use Rattle.grammar.specs.Reader as reader
 use Rattle.sheet.specs.Rules.{rulesVerdict}
 use Rattle.cltl.specs.Meaning.{Rows}
 use Rattle.cltl.specs.Rules.{rules, hasNext}
+use Rattle.cltl.specs.Step.{failing}
 
 -- the number of place q: "one bit for each mark m0 (lowest) to m31"
 abbrev pub marksAt : List ℕ → ℕ → ℕ
@@ -39,34 +40,16 @@ abbrev pub clausesOf : Read → List Clause
 clausesOf (reader.accepted cs) = cs
 clausesOf (reader.refused w k) = []
 
--- the lowest of n steps from s on at which the test fails
-unfoldable pub lowest : (ℕ → Bool) → ℕ → ℕ → ℕ
-lowest f zero s = s
-lowest f (suc n) s = cond (f s) (lowest f n (suc s)) s
-
 -- 16, from clause n on: "X outside a count (lowest clause, 0)"
 unfoldable pub nextVerdict : ℕ → List Clause → Verdict
 nextVerdict n [] = Accepted
 nextVerdict n (c ∷ cs) = cond (hasNext c) (AboutRules (refused 16 n 0)) (nextVerdict (suc n) cs)
 
 module _ (P : Rows) (d : ℕ) where
-  -- "The step is the lowest where the body fails if the clause's outermost operator is G, else 0."
-  unfoldable pub failing : Clause → ℕ
-  failing top = 0
-  failing (leaf x) = 0
-  failing (neg a) = 0
-  failing (and a b) = 0
-  failing (or a b) = 0
-  failing (next a) = 0
-  failing (until a b) = 0
-  failing (release a b) = 0
-  failing (ev a) = 0
-  failing (gl a) = lowest (λ s. rules P d a s) (P .h) 0
-
   -- 17, from clause n on: "A plan is kept if every clause is true at step 0."
   unfoldable pub keptVerdict : ℕ → List Clause → Verdict
   keptVerdict n [] = Accepted
-  keptVerdict n (c ∷ cs) = cond (rules P d c 0) (keptVerdict (suc n) cs) (AboutRules (refused 17 n (failing c)))
+  keptVerdict n (c ∷ cs) = cond (rules P d c 0) (keptVerdict (suc n) cs) (AboutRules (refused 17 n (failing P d c)))
 
   -- 16 "with d above 0", then 17
   abbrev pub clausesVerdict : List Clause → Verdict

@@ -1,36 +1,32 @@
 -- The check keeps its promises.
-use Prim.Native.Nat.{ℕ, _+_, _≤_, _<_}
+use Prim.Native.Nat.{ℕ, _≤_}
 use native.Mathlib.Omega.{arith}
 use mathlib.Core.Path.{_≡_, refl, sym, ap, subst, _∙_}
-use mathlib.Core.Bool.{Bool}
 use mathlib.Core.Logic.{_⊎_, inl, inr, ⊎-elim}
-use mathlib.Core.List.{List, [], _∷_, _++_, flatten}
+use mathlib.Core.List.{List, [], _∷_}
 use lib.Dec.{T}
-use lib.ListN.{length, take, drop}
 use Rattle.endian.specs.Little.{bytes, Bytes}
 use Rattle.refusal.specs.declared.Verdict.{Verdict}
 use Rattle.refusal.specs.declared.Verdict.the-variants.{Accepted}
 use Rattle.record.specs.All.{All}
-use Rattle.record.specs.Record.{Record, encoded, layout}
-use Rattle.record.specs.Parts.{ofKind}
+use Rattle.record.specs.Record.{encoded, layout}
 use Rattle.record.specs.Buffer.{stored}
 use Rattle.floor.specs.Located.{accepts}
 use Rattle.floor.specs.declared.Floor.{Floor}
 use Rattle.plan.specs.Plan.{Numbers, readPlan}
 use Rattle.plan.specs.Plan as plan
 use Rattle.plan.specs.Valid.{Valid}
-use Rattle.plan.specs.Numbers.{headOf, headBytes, rowRecords, planBytes, planFile}
+use Rattle.plan.specs.Numbers.{headOf, planFile}
 use Rattle.plan.specs.After.{ReadAs}
 use Rattle.plan.specs.Complete.{file-reads}
 use Rattle.plan.specs.RoundTrip.{valid, bytes-back}
-use Rattle.plan.specs.declared.Head.{Head}
 use Rattle.grammar.specs.Grammar.{Clause}
 use Rattle.grammar.specs.Reader.{accepted, readSheet}
-use Rattle.cltl.specs.Meaning.{Rows, Proper, Run, TrueOf, TrueInStep}
+use Rattle.cltl.specs.Meaning.{Proper, Run, TrueOf, TrueInStep}
 use Rattle.cltl.specs.Rules.{rules}
 use Rattle.cltl.specs.Promises as cltl
 use Rattle.plancheck.specs.Check.{planRows, clausesOf, checked}
-use Rattle.plancheck.specs.Promises.{Plain, Readable, Ahead, PlanChecked}
+use Rattle.plancheck.specs.Promises.{Plain, Readable, PlanChecked}
 use Rattle.plancheck.specs.Stages.{Kept, accepted-as, as-accepted, accepted-read}
 
 all-map : {Q R : Clause → Type 0} → ((c : Clause) → Q c → R c) → (cs : List Clause) → All Q cs → All R cs

@@ -1,7 +1,6 @@
 -- What the check of a plan promises: the whole claim.
-use Prim.Native.Nat.{ℕ, _≤_, _<_}
+use Prim.Native.Nat.{ℕ, _≤_}
 use mathlib.Core.Path.{_≡_}
-use mathlib.Core.Bool.{Bool}
 use mathlib.Core.Logic.{_⊎_, _↔_}
 use mathlib.Core.List.{List}
 use lib.Dec.{T}
@@ -16,7 +15,7 @@ use Rattle.plan.specs.After.{ReadAs}
 use Rattle.moves.specs.Promises.{AllUnending}
 use Rattle.grammar.specs.Grammar.{Clause}
 use Rattle.grammar.specs.Reader.{accepted, readSheet}
-use Rattle.cltl.specs.Meaning.{Rows, Run, TrueOf, TrueInStep}
+use Rattle.cltl.specs.Meaning.{Run, TrueOf, TrueInStep}
 use Rattle.cltl.specs.Rules.{rules, hasNext}
 use Rattle.plancheck.specs.Check.{planRows, checked}
 

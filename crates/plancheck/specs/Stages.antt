@@ -1,14 +1,14 @@
 -- What is accepted, stage by stage.
-use Prim.Native.Nat.{ℕ, zero, suc, _≤_, _<_}
+use Prim.Native.Nat.{ℕ, suc, _<_}
 use native.Mathlib.Omega.{arith}
-use mathlib.Core.Path.{_≡_, refl, sym, ap, subst, _∙_}
+use mathlib.Core.Path.{_≡_, refl, sym, ap, _∙_}
 use mathlib.Core.Bool.{Bool, true, false, cond}
-use mathlib.Core.Logic.{_⊎_, inl, inr, ⊎-elim}
+use mathlib.Core.Logic.{_⊎_, inl, inr}
 use mathlib.Core.List.{List, [], _∷_}
 use lib.Dec.{T, eqb}
 use borrow.Author.Tests.{eq-eqb, eqb-true}
 use Rattle.refusal.specs.Codes.{refused}
-use Rattle.refusal.specs.Stages.{isAccepted, andThen}
+use Rattle.refusal.specs.Stages.{andThen}
 use Rattle.refusal.specs.Accepting.{both-accepted}
 use Rattle.refusal.specs.declared.Refusal.{Refusal}
 use Rattle.refusal.specs.declared.Verdict.{Verdict}
@@ -20,7 +20,6 @@ use Rattle.plan.specs.After.{ReadAs}
 use Rattle.plan.specs.Read.{Went, no-floor, no-plan, on, went, read-on}
 use Rattle.plan.specs.RoundTrip.{valid}
 use Rattle.moves.specs.Carts.{movesVerdict}
-use Rattle.moves.specs.Promises.{AllUnending}
 use Rattle.moves.specs.Unending.{all-unending, all-accepted}
 use Rattle.grammar.specs.Grammar.{Clause}
 use Rattle.grammar.specs.Reader.{Read, accepted, readSheet}
@@ -28,8 +27,8 @@ use Rattle.grammar.specs.Reader as reader
 use Rattle.sheet.specs.Rules.{readVerdict, rulesVerdict}
 use Rattle.cltl.specs.Meaning.{Rows}
 use Rattle.cltl.specs.Rules.{rules, hasNext}
-use Rattle.plancheck.specs.Check.{planRows, clausesOf, nextVerdict, failing, keptVerdict, clausesVerdict, stages, checked}
-use Rattle.plancheck.specs.Promises.{Plain, Readable, Ahead}
+use Rattle.plancheck.specs.Check.{planRows, clausesOf, nextVerdict, keptVerdict, clausesVerdict, stages, checked}
+use Rattle.plancheck.specs.Promises.{Plain, Ahead}
 
 not-refused : {x : Refusal} → AboutRules x ≡ Accepted → ⊥
 not-refused e = let z : _≡_ {A = ℕ} 0 1 = cc in omega arith
