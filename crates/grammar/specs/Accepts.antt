@@ -9,7 +9,7 @@ use lib.ListN.{length, take, drop}
 use lib.Dec.{leb, ltb, eqb}
 use borrow.Author.Tests.{ltb-true, ltb-false, leb-true, leb-false, eqb-true, eqb-false}
 use Rattle.grammar.specs.Grammar.{Form, top, Spaces, none, space, Number, nought, Percent, without, sign, Rank, small, Part, word, one-small, one-until, one-and, Mark, mark, Inner, Threshold, counted, Count, count, Clause, Sheet, done, line}
-use Rattle.grammar.specs.Limits.{level, nodes, InRange, markLevel, markNodes, MarkOk, countLevel, countNodes, CountOk, most, Fits}
+use Rattle.grammar.specs.Limits.{level, nodes, InRange, markLevel, markNodes, MarkOk, countLevel, countNodes, CountOk, most, Fits, FewLines, FewBytes}
 use Rattle.grammar.specs.Reader.{pick, Got, got, no, Reader, bind, node, skip, expect, number, percent, ors, markBy, marks, inners, threshold, countBy, counts, clauses, clauseLine, lines, Read, accepted, refused, outcome, start, readSheet}
 use Rattle.grammar.specs.Ends.{Swap, here, there, SameByte, same-byte, Keeps, keeps-13, keeps-15, swap-trans, swap-short, Framed, frame-spaces, frame-token, frame-number, frame-percent, frame, frame-mark, frame-count}
 use Rattle.grammar.specs.Each.{Each, gives, denies, each-bind, each-map, each-node, either, never, skip-spaces, each-expect, each-number, each-percent}
@@ -231,9 +231,9 @@ swap-take {u} {v} (there {c = c} {s = s} x) =
 pub record Accepted (s : List ℕ) (cs : List Clause) : Type 0 where
   pub sheet : Sheet s cs
   pub fits : Fits sheet
-  pub few : length cs ≤ 32
+  pub few : FewLines cs
   pub some : 0 < length s
-  pub short : length s ≤ 16384
+  pub short : FewBytes s
 
 outcome-sound : (s : List ℕ) (cs : List Clause) (len : ℕ) (g : Got (List Clause)) → Each (λ cs m r. SheetReads 32 s cs) (SheetRefuses 32 s) g → outcome len g ≡ accepted cs → SheetReads 32 s cs
 unfolding outcome

@@ -9,7 +9,7 @@ use lib.ListN.{length, take, drop}
 use lib.Dec.{leb, ltb, eqb}
 use borrow.Author.Tests.{ltb-true, ltb-false, leb-true, leb-false, eqb-true, eqb-false, ne-eqb, le-ltb, lt-ltb}
 use Rattle.grammar.specs.Grammar.{Form, top, Spaces, none, space, Digits, Number, nought, other, Percent, without, sign, Rank, small, Part, Mark, mark, Inner, Threshold, counted, Count, count, Clause, Sheet, done, line}
-use Rattle.grammar.specs.Limits.{level, nodes, InRange, markLevel, markNodes, MarkOk, countLevel, countNodes, CountOk, most, Sized, Ranged, Fits}
+use Rattle.grammar.specs.Limits.{level, nodes, InRange, markLevel, markNodes, MarkOk, countLevel, countNodes, CountOk, most, Sized, Ranged, Fits, FewLines, FewBytes}
 use Rattle.grammar.specs.Reader.{pick, Got, got, no, Reader, bind, node, skip, isDigit, expect, digits, number, percent, kind, Kind, ors, markBy, marks, inners, threshold, countBy, counts, clauses, clauseLine, lines, Read, accepted, refused, outcome, start, readSheet}
 use Rattle.grammar.specs.Ends.{Swap, here, there, SameByte, same-byte, swap-short, swap-trans, frame-number, frame-percent, frame-count}
 use Rattle.grammar.specs.Each.{Each, gives, denies, each-bind, each-map, each-both, each-node, either, each-digits, each-percent, number-keeps}
@@ -226,22 +226,22 @@ whole : (s : List ℕ) → Swap [] [] s s
 whole [] = here
 whole (b ∷ s) = there (whole s)
 
-outcome-complete : (s : List ℕ) (cs : List Clause) (d : Sheet s cs) (len : ℕ) (g : Got (List Clause)) → Reading [] [] neither 32 s cs d g → Fits d → length cs ≤ 32 → outcome len g ≡ accepted cs
+outcome-complete : (s : List ℕ) (cs : List Clause) (d : Sheet s cs) (len : ℕ) (g : Got (List Clause)) → Reading [] [] neither 32 s cs d g → Fits d → FewLines cs → outcome len g ≡ accepted cs
 unfolding outcome
 outcome-complete s cs d len g (gives {a = x} p) f h = ⊎-elim (λ e. ap accepted e) (λ e. absurd (omega arith)) p
 outcome-complete s cs d len g (denies q) f h = let z = q .only (f .0, h) (f .1) in absurd (omega arith)
 
-start-complete : (s : List ℕ) (cs : List Clause) (d : Sheet s cs) → Fits d → length cs ≤ 32 → 0 < length s → start s ≡ accepted cs
+start-complete : (s : List ℕ) (cs : List Clause) (d : Sheet s cs) → Fits d → FewLines cs → 0 < length s → start s ≡ accepted cs
 unfolding start
 start-complete [] cs d f h i = absurd (omega arith)
 start-complete (b ∷ s) cs d f h i = outcome-complete (b ∷ s) cs d (length (b ∷ s)) (lines 32 (b ∷ s)) (lines-agrees [] [] neither 32 (b ∷ s) (b ∷ s) cs d (whole (b ∷ s))) f h
 
-pub complete : (s : List ℕ) (cs : List Clause) (d : Sheet s cs) → Fits d → length cs ≤ 32 → 0 < length s → length s ≤ 16384 → readSheet s ≡ accepted cs
+pub complete : (s : List ℕ) (cs : List Clause) (d : Sheet s cs) → Fits d → FewLines cs → 0 < length s → FewBytes s → readSheet s ≡ accepted cs
 unfolding readSheet
 complete s cs d f h i j = ap (λ (x : Bool). pick x (refused 12 0) (start s)) (le-ltb 16384 (length s) j) ∙ start-complete s cs d f h i
 
 -- so a sheet within the limits means one thing
-pub unambiguous : (s : List ℕ) (cs cs' : List Clause) (d : Sheet s cs) (e : Sheet s cs') → Fits d → Fits e → length cs ≤ 32 → length cs' ≤ 32 → 0 < length s → length s ≤ 16384 → cs ≡ cs'
+pub unambiguous : (s : List ℕ) (cs cs' : List Clause) (d : Sheet s cs) (e : Sheet s cs') → Fits d → Fits e → FewLines cs → FewLines cs' → 0 < length s → FewBytes s → cs ≡ cs'
 unambiguous s cs cs' d e f g h i j k = let x = complete s cs d f h j k in let y = complete s cs' e g i j k in cc
 
 ---- With a byte that is refused by 13 no sheet of the grammar goes on, and with one refused by 14 none within the limits.
@@ -257,7 +257,7 @@ pub record Refused (s : List ℕ) (k w : ℕ) : Type 0 where
   pub stuck : w ≡ 13 → k < length s → (t : List ℕ) (cs : List Clause) → Sheet (take (suc k) s ++ t) cs → ⊥
   pub ends : w ≡ 13 → (cs : List Clause) → Sheet s cs → ⊥
   -- none that is within the limits on levels, nodes and lines does
-  pub over : w ≡ 14 → (t : List ℕ) (cs : List Clause) (d : Sheet (take (suc k) s ++ t) cs) → Sized d → length cs ≤ 32 → ⊥
+  pub over : w ≡ 14 → (t : List ℕ) (cs : List Clause) (d : Sheet (take (suc k) s ++ t) cs) → Sized d → FewLines cs → ⊥
   pub there : w ≡ 14 → k < length s
 
 denied : {A : Type 0} {P : A → ℕ → List ℕ → Type 0} {Q : ℕ → List ℕ → Type 0} {w : ℕ} {r : List ℕ} → Each P Q (no w r) → Q w r
@@ -311,7 +311,7 @@ pub stuck-13 : (s : List ℕ) (k : ℕ) → readSheet s ≡ refused 13 k → (k 
 stuck-13 s k e = let r = read-refused s k 13 (λ z. omega arith) (λ z. omega arith) e in (r .stuck refl, r .ends refl)
 
 -- (d) no sheet within the limits on levels, nodes and lines begins with the bytes up to one that is refused by 14.
-pub over-14 : (s : List ℕ) (k : ℕ) → readSheet s ≡ refused 14 k → (k < length s) × ((t : List ℕ) (cs : List Clause) (d : Sheet (take (suc k) s ++ t) cs) → Sized d → length cs ≤ 32 → ⊥)
+pub over-14 : (s : List ℕ) (k : ℕ) → readSheet s ≡ refused 14 k → (k < length s) × ((t : List ℕ) (cs : List Clause) (d : Sheet (take (suc k) s ++ t) cs) → Sized d → FewLines cs → ⊥)
 over-14 s k e = let r = read-refused s k 14 (λ z. omega arith) (λ z. omega arith) e in (r .there refl, r .over refl)
 
 ---- A number refused by 15.
@@ -435,7 +435,7 @@ outcome-code len w k g N (denies {w = v} q) e = let i : v ≡ w = cc in subst Co
 
 -- 12 for what is too long, before all else; 7 for the empty sheet; else 13, 14 or 15
 abbrev pub Coded : List ℕ → ℕ → ℕ → Type 0
-Coded s w k = ((w ≡ 12) × (k ≡ 0) × (16384 < length s)) ⊎ (((w ≡ 7) × (k ≡ 0) × (length s ≡ 0)) ⊎ Code w)
+Coded s w k = ((w ≡ 12) × (k ≡ 0) × (FewBytes s → ⊥)) ⊎ (((w ≡ 7) × (k ≡ 0) × (length s ≡ 0)) ⊎ Code w)
 
 start-code : (s : List ℕ) (w k : ℕ) → start s ≡ refused w k → Coded s w k
 unfolding start
@@ -446,8 +446,8 @@ pub codes : (s : List ℕ) (w k : ℕ) → readSheet s ≡ refused w k → Coded
 unfolding readSheet
 codes s w k =
     either (λ x. x ≡ refused w k → Coded s w k) (ltb 16384 (length s)) (refused 12 0) (start s)
-    (λ h e. let i : 12 ≡ w = cc in let j : 0 ≡ k = cc in inl (sym i, sym j, ltb-true 16384 (length s) h)) (λ h e. start-code s w k e)
+    (λ h e. let i : 12 ≡ w = cc in let j : 0 ≡ k = cc in let l = ltb-true 16384 (length s) h in inl (sym i, sym j, λ f. omega arith)) (λ h e. start-code s w k e)
 
-pub long-12 : (s : List ℕ) → 16384 < length s → readSheet s ≡ refused 12 0
+pub long-12 : (s : List ℕ) → (FewBytes s → ⊥) → readSheet s ≡ refused 12 0
 unfolding readSheet
-long-12 s h = ap (λ (x : Bool). pick x (refused 12 0) (start s)) (lt-ltb 16384 (length s) h)
+long-12 s h = ap (λ (x : Bool). pick x (refused 12 0) (start s)) (lt-ltb 16384 (length s) (omega arith))

@@ -6,7 +6,7 @@ use mathlib.Core.Logic.{_⊎_}
 use mathlib.Core.List.{List, [], _++_}
 use lib.ListN.{length, take, drop}
 use Rattle.grammar.specs.Grammar.{Clause, Number, Sheet}
-use Rattle.grammar.specs.Limits.{nodes, countNodes, Sized, Fits}
+use Rattle.grammar.specs.Limits.{nodes, countNodes, Sized, Fits, FewLines, FewBytes}
 use Rattle.grammar.specs.Nodes.{Node, flatClause, Stands, StandsCount, clause-stands, clause-length}
 use Rattle.grammar.specs.Reader.{accepted, refused, readSheet}
 use Rattle.grammar.specs.Accepts.{Accepted, Whole, sound, begun-13, allowed-14, allowed-15}
@@ -22,17 +22,17 @@ Never p = (t : List ℕ) (cs : List Clause) → Sheet (p ++ t) cs → ⊥
 
 -- none that is within the limits on levels, nodes and lines does
 abbrev pub Beyond : List ℕ → Type 0
-Beyond p = (t : List ℕ) (cs : List Clause) (d : Sheet (p ++ t) cs) → Sized d → length cs ≤ 32 → ⊥
+Beyond p = (t : List ℕ) (cs : List Clause) (d : Sheet (p ++ t) cs) → Sized d → FewLines cs → ⊥
 
 pub record Promises (s : List ℕ) : Type 0 where
   -- accepted: exactly the sheets of the grammar within the limits, and each as it is there
   pub sound : (cs : List Clause) → readSheet s ≡ accepted cs → Accepted s cs
-  pub complete : (cs : List Clause) (d : Sheet s cs) → Fits d → length cs ≤ 32 → 0 < length s → length s ≤ 16384 → readSheet s ≡ accepted cs
+  pub complete : (cs : List Clause) (d : Sheet s cs) → Fits d → FewLines cs → 0 < length s → FewBytes s → readSheet s ≡ accepted cs
   -- a clause's nodes, whatever stands behind them: as many as the limit counts, each operand before its operator, the last for the clause
   pub count : (c : Clause) → length (flatClause c 0) ≡ nodes countNodes c
   pub standing : (c : Clause) (q : List Node) → Stands StandsCount (flatClause c 0 ++ q) (nodes countNodes c - 1) c
   -- 12 for what is too long, before all else; no refusals but 7, 12, 13, 14 and 15
-  pub long-12 : 16384 < length s → readSheet s ≡ refused 12 0
+  pub long-12 : (FewBytes s → ⊥) → readSheet s ≡ refused 12 0
   pub codes : (w k : ℕ) → readSheet s ≡ refused w k → Coded s w k
   -- 13: the first byte that no sheet of the grammar could have after the bytes before it, or the length
   pub first-13 : (k : ℕ) → readSheet s ≡ refused 13 k → (k ≤ length s) × Begins (take k s)
