@@ -9,8 +9,9 @@ use lib.ListN.{length, take, drop}
 use lib.Dec.{leb, ltb, eqb}
 use borrow.Author.Tests.{ltb-true, ltb-false, leb-true, leb-false, eqb-true, eqb-false}
 use Rattle.grammar.specs.Grammar.{Form, top, Spaces, none, space, Number, nought, Percent, without, sign, Rank, small, Part, word, one-small, one-until, one-and, Mark, mark, Inner, Threshold, counted, Count, count, Clause, Sheet, done, line}
-use Rattle.grammar.specs.Limits.{level, nodes, InRange, markLevel, markNodes, MarkOk, countLevel, countNodes, CountOk, most, Fits, FewLines, FewBytes}
+use Rattle.grammar.specs.Limits.{level, nodes, InRange, markLevel, markNodes, MarkOk, countLevel, countNodes, CountOk, most, Fits}
 use Rattle.grammar.specs.Reader.{pick, Got, got, no, Reader, bind, node, skip, expect, number, percent, ors, markBy, marks, inners, threshold, countBy, counts, clauses, clauseLine, lines, Read, accepted, refused, outcome, start, readSheet}
+use Rattle.grammar.specs.Answers.{Accepted, Begins, Whole}
 use Rattle.grammar.specs.Ends.{Swap, here, there, SameByte, same-byte, Keeps, keeps-13, keeps-15, swap-trans, swap-short, Framed, frame-spaces, frame-token, frame-number, frame-percent, frame, frame-mark, frame-count}
 use Rattle.grammar.specs.Each.{Each, gives, denies, each-bind, each-map, each-node, either, never, skip-spaces, each-expect, each-number, each-percent}
 use Rattle.grammar.specs.Sound.{spaces-short, Reads, Refuses, Completes, Good, LeafReads, GoodLeaf, token-refuses, true-refuses, part-short, ors-good}
@@ -227,14 +228,7 @@ swap-take {u} {v} (there {c = c} {s = s} x) =
     let e : suc (length s) - length u ≡ suc (length s - length u) = omega arith in
     rw e (ap (λ (l : List ℕ). c ∷ l) (swap-take x))
 
--- (a) What is accepted is a sheet of the grammar, within the limits.
-pub record Accepted (s : List ℕ) (cs : List Clause) : Type 0 where
-  pub sheet : Sheet s cs
-  pub fits : Fits sheet
-  pub few : FewLines cs
-  pub some : 0 < length s
-  pub short : FewBytes s
-
+---- (a) What is accepted is a sheet of the grammar, within the limits.
 outcome-sound : (s : List ℕ) (cs : List Clause) (len : ℕ) (g : Got (List Clause)) → Each (λ cs m r. SheetReads 32 s cs) (SheetRefuses 32 s) g → outcome len g ≡ accepted cs → SheetReads 32 s cs
 unfolding outcome
 outcome-sound s cs len g (gives {a = x} p) e = let h : x ≡ cs = cc in subst (λ (y : List Clause). SheetReads 32 s y) h p
@@ -289,9 +283,9 @@ unfolding readSheet
 read-begun s k w h i = either (λ x. x ≡ refused w k → Begun s k w) (ltb 16384 (length s)) (refused 12 0) (start s) (λ q e. absurd (i (cc))) (λ q e. start-begun s k w h e)
 
 -- (c), one half: what stands before a byte that is refused by 13 is the beginning of a sheet of the grammar.
-pub begun-13 : (s : List ℕ) (k : ℕ) → readSheet s ≡ refused 13 k → (k ≤ length s) × ((t : List ℕ) × (cs : List Clause) × Sheet (take k s ++ t) cs)
+pub begun-13 : (s : List ℕ) (k : ℕ) → readSheet s ≡ refused 13 k → (k ≤ length s) × Begins (take k s)
 begun-13 s k e = go (read-begun s k 13 (λ z. omega arith) (λ z. omega arith) e) where
-  go : Begun s k 13 → (k ≤ length s) × ((t : List ℕ) × (cs : List Clause) × Sheet (take k s ++ t) cs)
+  go : Begun s k 13 → (k ≤ length s) × Begins (take k s)
   go (begun h v cs d z) = (h, (v, cs, d))
   go (line-33 h cs d f z) = absurd (omega arith)
 
@@ -303,24 +297,16 @@ take-on (suc k) (c ∷ s) t b w e = ap (λ (x : List ℕ). c ∷ x) (take-on k s
 
 -- (d), one half: a token that is refused by 14 may stand there in the grammar, or it is the 33rd line's first byte.
 pub allowed-14 : (s : List ℕ) (k : ℕ) → readSheet s ≡ refused 14 k
-    → ((t : List ℕ) × (cs : List Clause) × Sheet (take (suc k) s ++ t) cs) ⊎ ((cs : List Clause) × Sheet (take k s) cs × (length cs ≡ 32))
+    → Begins (take (suc k) s) ⊎ ((cs : List Clause) × Sheet (take k s) cs × (length cs ≡ 32))
 allowed-14 s k e = go (read-begun s k 14 (λ z. omega arith) (λ z. omega arith) e) where
-  byte : (r v : List ℕ) → drop k s ≡ r → SameByte r v → (cs : List Clause) → Sheet (take k s ++ v) cs → (t : List ℕ) × (cs : List Clause) × Sheet (take (suc k) s ++ t) cs
+  byte : (r v : List ℕ) → drop k s ≡ r → SameByte r v → (cs : List Clause) → Sheet (take k s ++ v) cs → Begins (take (suc k) s)
   byte r v h (same-byte {b = b} {w = w} {w' = t}) cs d = (t, cs, subst (λ (x : List ℕ). Sheet x cs) (take-on k s t b w h) d)
 
-  go : Begun s k 14 → ((t : List ℕ) × (cs : List Clause) × Sheet (take (suc k) s ++ t) cs) ⊎ ((cs : List Clause) × Sheet (take k s) cs × (length cs ≡ 32))
+  go : Begun s k 14 → Begins (take (suc k) s) ⊎ ((cs : List Clause) × Sheet (take k s) cs × (length cs ≡ 32))
   go (begun h v cs d z) = inl (byte (drop k s) v refl (z .0 refl) cs d)
   go (line-33 h cs d f z) = inr (cs, d, f)
 
 -- (e), one half: a number that is refused by 15 may stand there whole in the grammar.
-pub record Whole (s : List ℕ) (k : ℕ) : Type 0 where
-  pub last : ℕ
-  pub value : ℕ
-  pub number : Number (drop k s) (drop last s) value
-  pub rest : List ℕ
-  pub clauses : List Clause
-  pub sheet : Sheet (take last s ++ rest) clauses
-
 goes-whole : (s r : List ℕ) → GoesOn 32 s 15 r → Whole s (length s - length r)
 goes-whole s r (on {s' = s'} {cs = cs} x d z) =
     let y = z .1 refl in

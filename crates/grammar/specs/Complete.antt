@@ -11,11 +11,12 @@ use borrow.Author.Tests.{ltb-true, ltb-false, leb-true, leb-false, eqb-true, eqb
 use Rattle.grammar.specs.Grammar.{Form, top, Spaces, none, space, Digits, Number, nought, other, Percent, without, sign, Rank, small, Part, Mark, mark, Inner, Threshold, counted, Count, count, Clause, Sheet, done, line}
 use Rattle.grammar.specs.Limits.{level, nodes, InRange, markLevel, markNodes, MarkOk, countLevel, countNodes, CountOk, most, Sized, Ranged, Fits, FewLines, FewBytes}
 use Rattle.grammar.specs.Reader.{pick, Got, got, no, Reader, bind, node, skip, isDigit, expect, digits, number, percent, kind, Kind, ors, markBy, marks, inners, threshold, countBy, counts, clauses, clauseLine, lines, Read, accepted, refused, outcome, start, readSheet}
+use Rattle.grammar.specs.Answers.{Coded, Code, Never, Beyond, TooLarge}
 use Rattle.grammar.specs.Ends.{Swap, here, there, SameByte, same-byte, swap-short, swap-trans, frame-number, frame-percent, frame-count}
 use Rattle.grammar.specs.Each.{Each, gives, denies, each-bind, each-map, each-both, each-node, either, each-digits, each-percent, number-keeps}
 use Rattle.grammar.specs.Sound.{spaces-short, part-short}
 use Rattle.grammar.specs.Accepts.{SheetReads, SheetRefuses, GoesOn, on, full, lines-good, swap-drop}
-use Rattle.grammar.specs.Short.{Code, skip-short, Within, Inside, Shrinks, Shrinks₁, expect-inside, expect-short, percent-short, marks-short, inners-short, threshold-short, counts-short, clauses-short, lines-short}
+use Rattle.grammar.specs.Short.{skip-short, Within, Inside, Shrinks, Shrinks₁, expect-inside, expect-short, percent-short, marks-short, inners-short, threshold-short, counts-short, clauses-short, lines-short}
 use Rattle.grammar.specs.Agree.{SameHead, neither, both, near-step, near-nil, Follow, HeadNot, head-not, follow-digit, Near, Past, Close, token, arrive, Match, Match₁, Fault, limit, range, out, gone, fault-map, beyond, skipped, expect-agrees, number-agrees, percent-agrees, number-least, percent-same, restOf, tokenEnd, number-rest, number-nought, number-on, digits-length, percent-rest, percent-length, Agrees, AgreesLeaf, ors-agrees}
 
 number-head : {s t : List ℕ} {k : ℕ} → Number s t k → HeadNot (λ b. eqb b 32) s
@@ -254,10 +255,10 @@ swap-on {b} {w} (there {c = c} {s = s} y) x =
 
 pub record Refused (s : List ℕ) (k w : ℕ) : Type 0 where
   -- no sheet of the grammar begins with the first k bytes and the byte at k; nor is this text one
-  pub stuck : w ≡ 13 → k < length s → (t : List ℕ) (cs : List Clause) → Sheet (take (suc k) s ++ t) cs → ⊥
+  pub stuck : w ≡ 13 → k < length s → Never (take (suc k) s)
   pub ends : w ≡ 13 → (cs : List Clause) → Sheet s cs → ⊥
   -- none that is within the limits on levels, nodes and lines does
-  pub over : w ≡ 14 → (t : List ℕ) (cs : List Clause) (d : Sheet (take (suc k) s ++ t) cs) → Sized d → FewLines cs → ⊥
+  pub over : w ≡ 14 → Beyond (take (suc k) s)
   pub there : w ≡ 14 → k < length s
 
 denied : {A : Type 0} {P : A → ℕ → List ℕ → Type 0} {Q : ℕ → List ℕ → Type 0} {w : ℕ} {r : List ℕ} → Each P Q (no w r) → Q w r
@@ -307,11 +308,11 @@ unfolding readSheet
 read-refused s k w h i = either (λ x. x ≡ refused w k → Refused s k w) (ltb 16384 (length s)) (refused 12 0) (start s) (λ q e. absurd (i (cc))) (λ q e. start-refused s k w h e)
 
 -- (c) the other half: no sheet of the grammar begins with the bytes up to one that is refused by 13; at the text's end, the text is none.
-pub stuck-13 : (s : List ℕ) (k : ℕ) → readSheet s ≡ refused 13 k → (k < length s → (t : List ℕ) (cs : List Clause) → Sheet (take (suc k) s ++ t) cs → ⊥) × ((cs : List Clause) → Sheet s cs → ⊥)
+pub stuck-13 : (s : List ℕ) (k : ℕ) → readSheet s ≡ refused 13 k → (k < length s → Never (take (suc k) s)) × ((cs : List Clause) → Sheet s cs → ⊥)
 stuck-13 s k e = let r = read-refused s k 13 (λ z. omega arith) (λ z. omega arith) e in (r .stuck refl, r .ends refl)
 
 -- (d) no sheet within the limits on levels, nodes and lines begins with the bytes up to one that is refused by 14.
-pub over-14 : (s : List ℕ) (k : ℕ) → readSheet s ≡ refused 14 k → (k < length s) × ((t : List ℕ) (cs : List Clause) (d : Sheet (take (suc k) s ++ t) cs) → Sized d → FewLines cs → ⊥)
+pub over-14 : (s : List ℕ) (k : ℕ) → readSheet s ≡ refused 14 k → (k < length s) × Beyond (take (suc k) s)
 over-14 s k e = let r = read-refused s k 14 (λ z. omega arith) (λ z. omega arith) e in (r .there refl, r .over refl)
 
 ---- A number refused by 15.
@@ -358,18 +359,6 @@ token-of {s} x =
     let z = percent-got (percent 0 (y .0)) (each-percent 0 (y .0) (λ p r w. w)) in
     let e : z .0 ≡ tokenEnd s = sym (ap (λ (l : List ℕ). restOf (percent 0 l)) (y .3) ∙ z .3) in
     record { middle = y .0; value = y .1; sign = z .1; number = y .2; percent = subst (λ (l : List ℕ). Percent (y .0) l (z .1)) e (z .2) }
-
--- from k on stands a number, with its `%` if it has one, up to `last`: no sheet whose numbers are in range begins with the bytes up to there
-pub record TooLarge (s : List ℕ) (k : ℕ) : Type 0 where
-  pub middle : ℕ
-  pub last : ℕ
-  pub value : ℕ
-  pub sign : Bool
-  pub number : Number (drop k s) (drop middle s) value
-  pub percent : Percent (drop middle s) (drop last s) sign
-  pub later : k < last
-  pub inside : last ≤ length s
-  pub wide : (t : List ℕ) (cs : List Clause) (d : Sheet (take last s ++ t) cs) → Ranged d → ⊥
 
 at-number : (s r : List ℕ) → lines 32 s ≡ no 15 r → (v t : List ℕ) → Swap r v s t → (r₁ : List ℕ) (k : ℕ) → Number r r₁ k → TooLarge s (length s - length r)
 at-number s r e v t x r₁ k y =
@@ -432,10 +421,6 @@ outcome-code : (len w k : ℕ) (g : Got (List Clause)) (N : ℕ) → Each (λ cs
 unfolding outcome
 outcome-code len w k g N (gives p) e = let z : _≡_ {A = ℕ} 0 1 = cc in absurd (omega arith)
 outcome-code len w k g N (denies {w = v} q) e = let i : v ≡ w = cc in subst Code i (q .1)
-
--- 12 for what is too long, before all else; 7 for the empty sheet; else 13, 14 or 15
-abbrev pub Coded : List ℕ → ℕ → ℕ → Type 0
-Coded s w k = ((w ≡ 12) × (k ≡ 0) × (FewBytes s → ⊥)) ⊎ (((w ≡ 7) × (k ≡ 0) × (length s ≡ 0)) ⊎ Code w)
 
 start-code : (s : List ℕ) (w k : ℕ) → start s ≡ refused w k → Coded s w k
 unfolding start

@@ -3,9 +3,11 @@ pub mod Grammar
 pub mod Limits
 pub mod Reader
 pub mod Nodes
+pub mod Answers
 -- promises
 pub mod Promises
 -- laws
+pub mod Standing
 pub mod Each
 pub mod Ends
 pub mod Sound

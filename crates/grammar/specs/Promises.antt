@@ -4,25 +4,15 @@ use native.Mathlib.Omega.{arith}
 use mathlib.Core.Path.{_≡_, subst}
 use mathlib.Core.Logic.{_⊎_}
 use mathlib.Core.List.{List, [], _++_}
-use lib.ListN.{length, take, drop}
-use Rattle.grammar.specs.Grammar.{Clause, Number, Sheet}
-use Rattle.grammar.specs.Limits.{nodes, countNodes, Sized, Fits, FewLines, FewBytes}
-use Rattle.grammar.specs.Nodes.{Node, flatClause, Stands, StandsCount, clause-stands, clause-length}
+use lib.ListN.{length, take}
+use Rattle.grammar.specs.Grammar.{Clause, Sheet}
+use Rattle.grammar.specs.Limits.{nodes, countNodes, Fits, FewLines, FewBytes}
+use Rattle.grammar.specs.Nodes.{Node, flatClause, Stands, StandsCount}
+use Rattle.grammar.specs.Standing.{clause-stands, clause-length}
 use Rattle.grammar.specs.Reader.{accepted, refused, readSheet}
-use Rattle.grammar.specs.Accepts.{Accepted, Whole, sound, begun-13, allowed-14, allowed-15}
-use Rattle.grammar.specs.Complete.{TooLarge, Coded, complete, stuck-13, over-14, large-15, codes, long-12}
-
--- a sheet of the grammar begins with this text
-abbrev pub Begins : List ℕ → Type 0
-Begins p = (t : List ℕ) × (cs : List Clause) × Sheet (p ++ t) cs
-
--- no sheet of the grammar does
-abbrev pub Never : List ℕ → Type 0
-Never p = (t : List ℕ) (cs : List Clause) → Sheet (p ++ t) cs → ⊥
-
--- none that is within the limits on levels, nodes and lines does
-abbrev pub Beyond : List ℕ → Type 0
-Beyond p = (t : List ℕ) (cs : List Clause) (d : Sheet (p ++ t) cs) → Sized d → FewLines cs → ⊥
+use Rattle.grammar.specs.Answers.{Accepted, Coded, Begins, Never, Beyond, Whole, TooLarge}
+use Rattle.grammar.specs.Accepts.{sound, begun-13, allowed-14, allowed-15}
+use Rattle.grammar.specs.Complete.{complete, stuck-13, over-14, large-15, codes, long-12}
 
 pub record Promises (s : List ℕ) : Type 0 where
   -- accepted: exactly the sheets of the grammar within the limits, and each as it is there

@@ -10,15 +10,12 @@ use lib.Dec.{leb, ltb, eqb}
 use Rattle.grammar.specs.Grammar.{Form, top, Spaces, none, space, Number, Percent, Inner, Threshold, counted, Clause, prefixed, reached}
 use Rattle.grammar.specs.Limits.{most}
 use Rattle.grammar.specs.Reader.{pick, Got, got, no, Reader, bind, node, skip, expectAt, expect, literal, isDigit, digits, number, percent, Kind, kind, Onward, stop, onward, Deeper, shut, open', chainAt, chainMore, chain, andChain, orChain, byKind, smallAt, smallOf, byOnward, untilAt, untilOf, deeper, smalls, untils, ors, markBy, marks, inners, threshold, countBy, counts, clauses, clauseLine, lines}
+use Rattle.grammar.specs.Answers.{Code}
 use Rattle.grammar.specs.Each.{Each, gives, denies, each-bind, each-map, each-node, either, skip-spaces}
 use Rattle.grammar.specs.Sound.{spaces-short}
 
 pub skip-short : (s : List ℕ) → length (skip s) ≤ length s
 skip-short s = spaces-short (skip-spaces s)
-
--- the refusals within a sheet
-abbrev pub Code : ℕ → Type 0
-Code w = (w ≡ 13) ⊎ ((w ≡ 14) ⊎ (w ≡ 15))
 
 c13 : Code 13
 c13 = inl refl
