@@ -3,10 +3,10 @@ use Prim.Native.Nat.{ℕ, _≤_, _<_}
 use mathlib.Core.Path.{_≡_}
 use mathlib.Core.Logic.{_⊎_}
 use mathlib.Core.Bool.{Bool}
-use mathlib.Core.List.{List, _++_}
+use mathlib.Core.List.{List, _∷_, _++_}
 use lib.ListN.{length, take, drop}
-use Rattle.grammar.specs.Grammar.{Number, Percent, Clause, Sheet}
-use Rattle.grammar.specs.Limits.{Sized, Ranged, Fits, FewLines, FewBytes}
+use Rattle.grammar.specs.Grammar.{Spaces, Number, Percent, Prefix, prefixByte, Reach, reachByte, Clause, Sheet}
+use Rattle.grammar.specs.Limits.{most, Sized, Ranged, Fits, FewLines, FewBytes}
 
 -- accepted: a sheet of the grammar, within the limits
 pub record Accepted (s : List ℕ) (cs : List Clause) : Type 0 where
@@ -36,23 +36,41 @@ Never p = (t : List ℕ) (cs : List Clause) → Sheet (p ++ t) cs → ⊥
 abbrev pub Beyond : List ℕ → Type 0
 Beyond p = (t : List ℕ) (cs : List Clause) (d : Sheet (p ++ t) cs) → Sized d → FewLines cs → ⊥
 
--- a number that may stand there in the grammar
-pub record Whole (s : List ℕ) (k : ℕ) : Type 0 where
-  pub last : ℕ
-  pub value : ℕ
-  pub number : Number (drop k s) (drop last s) value
-  pub rest : List ℕ
-  pub clauses : List Clause
-  pub sheet : Sheet (take last s ++ rest) clauses
+-- "only for whole tokens": no longer number stands there, and its `%` belongs to it
+pub record WholeNumber (s r : List ℕ) (n : ℕ) : Type 0 where
+  pub number : Number s r n
+  pub longest : (r' : List ℕ) (n' : ℕ) → Number s r' n' → length r ≤ length r'
 
--- from k on stands a number, with its `%` if it has one, up to `last`: no sheet whose numbers are in range begins with the bytes up to there
-pub record TooLarge (s : List ℕ) (k : ℕ) : Type 0 where
-  pub middle : ℕ
+pub record WholePercent (s r : List ℕ) (p : Bool) : Type 0 where
+  pub percent : Percent s r p
+  pub longest : (r' : List ℕ) (p' : Bool) → Percent s r' p' → length r ≤ length r'
+
+-- a whole token that is a node or makes a level, from its first byte to what is left
+pub data Token : List ℕ → List ℕ → Type 0 where
+  word : {r : List ℕ} → Token (116 ∷ 114 ∷ 117 ∷ 101 ∷ r) r
+  mark : {s r : List ℕ} {n : ℕ} → WholeNumber s r n → Token (109 ∷ s) r
+  paren : {r : List ℕ} → Token (40 ∷ r) r
+  bracket : {r : List ℕ} → Token (91 ∷ r) r
+  prefix : {r : List ℕ} (o : Prefix) → Token (prefixByte o ∷ r) r
+  reach : {r : List ℕ} (o : Reach) → Token (reachByte o ∷ r) r
+  and : {r : List ℕ} → Token (38 ∷ r) r
+  or : {r : List ℕ} → Token (124 ∷ r) r
+
+-- 14: one stands at k, and a sheet of the grammar begins with the bytes up to its end
+pub record Allowed (s : List ℕ) (k : ℕ) : Type 0 where
   pub last : ℕ
-  pub value : ℕ
-  pub sign : Bool
-  pub number : Number (drop k s) (drop middle s) value
-  pub percent : Percent (drop middle s) (drop last s) sign
-  pub later : k < last
-  pub inside : last ≤ length s
+  pub token : Token (drop k s) (drop last s)
+  pub begins : Begins (take last s)
+
+-- a whole number out of range from its first byte r to what is left, behind a mark's `m`, or behind a count's `,` and spaces
+pub data Large : List ℕ → List ℕ → List ℕ → Type 0 where
+  mark : {r r₁ : List ℕ} {n : ℕ} → WholeNumber r r₁ n → 31 < n → Large (109 ∷ r) r r₁
+  count : {q r r₁ r₂ : List ℕ} {n : ℕ} {p : Bool} → Spaces q r → WholeNumber r r₁ n → WholePercent r₁ r₂ p → most p < n → Large (44 ∷ q) r r₂
+
+-- 15: one stands at k, and a sheet of the grammar begins with the bytes up to its end, but none whose numbers are in range
+pub record OutOfRange (s : List ℕ) (k : ℕ) : Type 0 where
+  pub from : ℕ
+  pub last : ℕ
+  pub number : Large (drop from s) (drop k s) (drop last s)
+  pub begins : Begins (take last s)
   pub wide : (t : List ℕ) (cs : List Clause) (d : Sheet (take last s ++ t) cs) → Ranged d → ⊥

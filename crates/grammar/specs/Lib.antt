@@ -11,9 +11,10 @@ pub mod Standing
 pub mod Each
 pub mod Ends
 pub mod Sound
-pub mod Accepts
 pub mod Short
 pub mod Agree
+pub mod Ranges
+pub mod Accepts
 pub mod Complete
 pub mod Steps
 -- worked cases

@@ -10,9 +10,9 @@ use Rattle.grammar.specs.Limits.{nodes, countNodes, Fits, FewLines, FewB
 use Rattle.grammar.specs.Nodes.{Node, flatClause, Stands, StandsCount}
 use Rattle.grammar.specs.Standing.{clause-stands, clause-length}
 use Rattle.grammar.specs.Reader.{accepted, refused, readSheet}
-use Rattle.grammar.specs.Answers.{Accepted, Coded, Begins, Never, Beyond, Whole, TooLarge}
-use Rattle.grammar.specs.Accepts.{sound, begun-13, allowed-14, allowed-15}
-use Rattle.grammar.specs.Complete.{complete, stuck-13, over-14, large-15, codes, long-12}
+use Rattle.grammar.specs.Answers.{Accepted, Coded, Begins, Never, Beyond, Allowed, OutOfRange}
+use Rattle.grammar.specs.Accepts.{sound, begun-13, allowed-14, out-15}
+use Rattle.grammar.specs.Complete.{complete, stuck-13, over-14, codes, long-12}
 
 pub record Promises (s : List ℕ) : Type 0 where
   -- accepted: exactly the sheets of the grammar within the limits, and each as it is there
@@ -27,12 +27,11 @@ pub record Promises (s : List ℕ) : Type 0 where
   -- 13: the first byte that no sheet of the grammar could have after the bytes before it, or the length
   pub first-13 : (k : ℕ) → readSheet s ≡ refused 13 k → (k ≤ length s) × Begins (take k s)
   pub stuck-13 : (k : ℕ) → readSheet s ≡ refused 13 k → (k < length s → Never (take (suc k) s)) × ((cs : List Clause) → Sheet s cs → ⊥)
-  -- 14: a token that the grammar allows there, or the 33rd line; with it every sheet is past the limit on levels, nodes or lines
-  pub token-14 : (k : ℕ) → readSheet s ≡ refused 14 k → Begins (take (suc k) s) ⊎ ((cs : List Clause) × Sheet (take k s) cs × (length cs ≡ 32))
+  -- 14: a whole token that the grammar allows there, or the 33rd line; with its first byte every sheet is past the limit on levels, nodes or lines
+  pub token-14 : (k : ℕ) → readSheet s ≡ refused 14 k → Allowed s k ⊎ ((cs : List Clause) × Sheet (take k s) cs × (length cs ≡ 32))
   pub over-14 : (k : ℕ) → readSheet s ≡ refused 14 k → (k < length s) × Beyond (take (suc k) s)
-  -- 15: a whole number that the grammar allows there; with it, and its `%`, every sheet has a number out of range
-  pub number-15 : (k : ℕ) → readSheet s ≡ refused 15 k → Whole s k
-  pub wide-15 : (k : ℕ) → readSheet s ≡ refused 15 k → TooLarge s k
+  -- 15: the first byte of a number out of range, whole with its `%`, in a mark its first digit, that the grammar allows there
+  pub number-15 : (k : ℕ) → readSheet s ≡ refused 15 k → OutOfRange s k
 
 pub promises : (s : List ℕ) → Promises s
 promises s = record {
@@ -46,6 +45,5 @@ promises s = record {
   stuck-13 = stuck-13 s;
   token-14 = allowed-14 s;
   over-14 = over-14 s;
-  number-15 = allowed-15 s;
-  wide-15 = large-15 s;
+  number-15 = out-15 s;
 }

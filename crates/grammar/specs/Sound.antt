@@ -10,7 +10,8 @@ use borrow.Author.Tests.{ltb-true, leb-true, leb-false, eqb-true, eqb-false}
 use Rattle.grammar.specs.Grammar.{Form, top, Spaces, none, space, Digits, end, digit, Number, nought, other, Percent, without, sign, Prefix, not, next, finally, globally, prefixByte, prefixed, Reach, U, R, reachByte, reached, Rank, small, Part, word, parens, prefix, one-small, reach, one-until, one-and}
 use Rattle.grammar.specs.Limits.{level, nodes, InRange}
 use Rattle.grammar.specs.Reader.{pick, Got, got, no, Reader, bind, node, skip, expect, literal, Kind, kind, Onward, stop, onward, Deeper, shut, open', chainAt, chainMore, chain, andChain, orChain, byKind, smallAt, smallOf, byOnward, untilAt, untilOf, deeper, smalls, untils, ands, ors}
-use Rattle.grammar.specs.Ends.{Swap, here, there, SameByte, same-byte, Keeps, keeps-13, keeps-14, swap-trans, swap-short, Framed, frame-spaces, frame-token, frame}
+use Rattle.grammar.specs.Answers.{Token}
+use Rattle.grammar.specs.Ends.{Swap, here, there, Keeps, keeps-13, keeps-14, swap-trans, swap-short, Framed, frame-spaces, frame-token, frame}
 use Rattle.grammar.specs.Each.{Each, gives, denies, each-bind, each-map, each-node, either, never, skip-spaces, each-expect, each-literal}
 
 pub spaces-short : {s r : List ℕ} → Spaces s r → length r ≤ length s
@@ -69,7 +70,7 @@ module _ {L : Type 0} (Leaf : List ℕ → List ℕ → L → Type 0) (leafLevel
 
   -- with what stands before r kept, and as much of r as the refusal leaves, some text goes on to be such a part, whatever is to stand behind it
   abbrev pub Completes : Rank → List ℕ → ℕ → List ℕ → Type 0
-  Completes k s w r = (t : List ℕ) → (v s' : List ℕ) × (a : Form L) × Swap r v s s' × Part Leaf k s' t a × Keeps w r v
+  Completes k s w r = (t : List ℕ) → (q v s' : List ℕ) × (a : Form L) × Swap q v s s' × Part Leaf k s' t a × Keeps w r q v
 
   pub record Refuses (k : Rank) (s : List ℕ) (w : ℕ) (r : List ℕ) : Type 0 where
     pub short : length r ≤ length s
@@ -92,12 +93,18 @@ module _ {L : Type 0} (Leaf : List ℕ → List ℕ → L → Type 0) (leafLevel
   abbrev pub GoodLeaf : ℕ → Reader L → Type 0
   GoodLeaf l lf = (n : ℕ) (s₀ s : List ℕ) → Spaces s₀ s → Each (LeafReads l n s₀) (Refuses small s₀) (lf n s)
 
-  -- a token past a limit: a text goes on behind its first byte
-  pub token-refuses : (k : Rank) {s r : List ℕ} (b : ℕ) → Spaces s (b ∷ r) → (behind : List ℕ → List ℕ) (a : Form L) → ((s' t : List ℕ) → Spaces s' (b ∷ behind t) → Part Leaf k s' t a) → Refuses k s 14 (b ∷ r)
-  token-refuses k b x behind a f = record {
+  -- a whole token past a limit: a text goes on behind it
+  pub token-refuses : (k : Rank) {s r r₁ : List ℕ} → Spaces s r → Token r r₁ → (a : Form L)
+      → ((t : List ℕ) → (v v₁ : List ℕ) × Swap r₁ v₁ r v × ((s' : List ℕ) → Spaces s' v → Part Leaf k s' t a)) → Refuses k s 14 r
+  token-refuses k {r = r} x o a f = record {
     short = spaces-short x;
-    goes = λ t. let y = frame-spaces x (b ∷ behind t) in (b ∷ behind t, y .0, a, y .1, f (y .0) t (y .2), keeps-14 same-byte);
+    goes = λ t. let g = f t in let y = frame-spaces x (g .0) in (r, g .0, y .0, a, y .1, g .3 (y .0) (y .2), keeps-14 refl o (g .2));
   }
+
+  -- of one byte
+  pub byte-refuses : (k : Rank) {s r : List ℕ} (b : ℕ) → Spaces s (b ∷ r) → Token (b ∷ r) r → (behind : List ℕ → List ℕ) (a : Form L)
+      → ((s' t : List ℕ) → Spaces s' (b ∷ behind t) → Part Leaf k s' t a) → Refuses k s 14 (b ∷ r)
+  byte-refuses k b x o behind a f = token-refuses k x o a (λ t. (b ∷ behind t, behind t, there here, λ s' y. f s' t y))
 
   -- what is refused behind something that stands in the grammar
   pub through : {k k' : Rank} {s s₁ r : List ℕ} (w : ℕ) (Rel : List ℕ → List ℕ → Type 0) (tail : List ℕ → List ℕ) → Framed Rel s s₁ → Refuses k' s₁ w r
@@ -106,16 +113,16 @@ module _ {L : Type 0} (Leaf : List ℕ → List ℕ → L → Type 0) (leafLevel
     short = let h = swap-short (f s₁ .1) in let i = q .short in omega arith;
     goes = λ t.
         let y = q .goes (tail t) in
-        let z = f (y .1) in
-        let b = build (z .0) (y .1) t (y .2) (z .2) (y .4) in
-        (y .0, z .0, b .0, swap-trans (z .1) (y .3), b .1, y .5);
+        let z = f (y .2) in
+        let b = build (z .0) (y .2) t (y .3) (z .2) (y .5) in
+        (y .0, y .1, z .0, b .0, swap-trans (z .1) (y .4), b .1, y .6);
   }
 
   -- refused where a smallest part has to begin
   pub true-refuses : {s r : List ℕ} → Spaces s r → Refuses small s 13 r
-  true-refuses x = record {
+  true-refuses {r = r} x = record {
     short = spaces-short x;
-    goes = λ t. let v : List ℕ = 116 ∷ 114 ∷ 117 ∷ 101 ∷ t in let y = frame-spaces x v in (v, y .0, top, y .1, word (y .2), keeps-13);
+    goes = λ t. let v : List ℕ = 116 ∷ 114 ∷ 117 ∷ 101 ∷ t in let y = frame-spaces x v in (r, v, y .0, top, y .1, word (y .2), keeps-13 refl);
   }
 
   module _ (frame-leaf : (s r : List ℕ) (x : L) → Leaf s r x → Framed (λ s r. Leaf s r x) s r) where
@@ -130,16 +137,16 @@ module _ {L : Type 0} (Leaf : List ℕ → List ℕ → L → Type 0) (leafLevel
         (more : (s s₁ s₂ r : List ℕ) (a b : Form L) (p : Part Leaf k₂ s s₁ a) → Spaces s₁ (c ∷ s₂) → (q : Part Leaf k₁ s₂ r b)
         → (z : Part Leaf k₂ s r (join a b)) × (level Leaf leafLevel z ≡ max (level Leaf leafLevel p) (level Leaf leafLevel q)))
         (plain : (t : List ℕ) → Part Leaf k₁ (116 ∷ 114 ∷ 117 ∷ 101 ∷ t) t top)
-        (l : ℕ) (sub : Reader (Form L)) (good : Good k₁ l sub) where
+        (operator : (r : List ℕ) → Token (c ∷ r) r) (l : ℕ) (sub : Reader (Form L)) (good : Good k₁ l sub) where
       -- the operator past the nodes
       joint-refuses : {s r r₁ : List ℕ} {a : Form L} → Part Leaf k₂ s r a → Spaces r (c ∷ r₁) → Refuses k₂ s 14 (c ∷ r₁)
-      joint-refuses {a = a} p x = record {
+      joint-refuses {r₁ = r₁} {a = a} p x = record {
         short = let h = spaces-short x in let h₂ = part-short p in omega arith;
         goes = λ t.
             let v : List ℕ = 116 ∷ 114 ∷ 117 ∷ 101 ∷ t in
             let y = frame-spaces x (c ∷ v) in
             let u = frame Leaf frame-leaf p (y .0) in
-            (c ∷ v, u .0, join a top, swap-trans (u .1) (y .1), more (u .0) (y .0) v t a top (u .2) (y .2) (plain t) .0, keeps-14 same-byte);
+            (c ∷ r₁, c ∷ v, u .0, join a top, swap-trans (u .1) (y .1), more (u .0) (y .0) v t a top (u .2) (y .2) (plain t) .0, keeps-14 refl (operator r₁) (there here));
       }
 
       chain-at : {P : Form L → ℕ → List ℕ → Type 0} {Q : ℕ → List ℕ → Type 0} (a : Form L) (n : ℕ) (r : List ℕ) (go : Reader (Form L)) (r' : List ℕ) → Spaces r r'
@@ -184,22 +191,22 @@ module _ {L : Type 0} (Leaf : List ℕ → List ℕ → L → Type 0) (leafLevel
           each-bind (sub n s) _
           (each-map (good n s)
           (λ a m r p. let z = one s r a (p .part) in chain-more m n s a m r (record { part = z .0; low = let h = p .low in let h₂ = z .1 in omega arith; used = p .used; ok = p .ok }))
-          (λ w r q. record { short = q .short; goes = λ t. let y = q .goes t in (y .0, y .1, y .2, y .3, one (y .1) t (y .2) (y .4) .0, y .5) }))
+          (λ w r q. record { short = q .short; goes = λ t. let y = q .goes t in (y .0, y .1, y .2, y .3, y .4, one (y .2) t (y .3) (y .5) .0, y .6) }))
 
     and-good : (l : ℕ) (sub : Reader (Form L)) → Good Rank.untils l sub → Good Rank.ands l (andChain sub)
     unfolding andChain
     and-good l sub g =
-        chain-good Rank.untils Rank.ands 38 Form.and (λ a b. refl) (λ a b x y. (x, y)) (λ s r a p. (one-until p, refl)) (λ s s₁ s₂ r a b p x q. (Part.and p x q, refl)) (λ t. one-small (word none)) l sub g
+        chain-good Rank.untils Rank.ands 38 Form.and (λ a b. refl) (λ a b x y. (x, y)) (λ s r a p. (one-until p, refl)) (λ s s₁ s₂ r a b p x q. (Part.and p x q, refl)) (λ t. one-small (word none)) (λ r. Token.and) l sub g
 
     or-good : (l : ℕ) (sub : Reader (Form L)) → Good Rank.untils l sub → Good Rank.ors l (orChain sub)
     unfolding orChain
     or-good l sub g =
-        chain-good Rank.ands Rank.ors 124 Form.or (λ a b. refl) (λ a b x y. (x, y)) (λ s r a p. (one-and p, refl)) (λ s s₁ s₂ r a b p x q. (Part.or p x q, refl)) (λ t. one-until (one-small (word none))) l (andChain sub)
+        chain-good Rank.ands Rank.ors 124 Form.or (λ a b. refl) (λ a b x y. (x, y)) (λ s r a p. (one-and p, refl)) (λ s s₁ s₂ r a b p x q. (Part.or p x q, refl)) (λ t. one-until (one-small (word none))) (λ r. Token.or) l (andChain sub)
         (and-good l sub g)
 
     prefix-refuses : (o : Prefix) (b : ℕ) {s r : List ℕ} → Spaces s (b ∷ r) → b ≡ prefixByte o → Refuses small s 14 (b ∷ r)
-    prefix-refuses o b x e =
-        token-refuses small b x (λ t. 116 ∷ 114 ∷ 117 ∷ 101 ∷ t) (prefixed o top) (λ s' t y. prefix o (subst (λ (c : ℕ). Spaces s' (c ∷ 116 ∷ 114 ∷ 117 ∷ 101 ∷ t)) e y) (word none))
+    prefix-refuses o b {r = r} x e =
+        byte-refuses small b x (subst (λ (c : ℕ). Token (c ∷ r) r) (sym e) (Token.prefix o)) (λ t. 116 ∷ 114 ∷ 117 ∷ 101 ∷ t) (prefixed o top) (λ s' t y. prefix o (subst (λ (c : ℕ). Spaces s' (c ∷ 116 ∷ 114 ∷ 117 ∷ 101 ∷ t)) e y) (word none))
 
     by-kind : (l : ℕ) (lf : Reader L) (d : Deeper (Form L)) → GoodLeaf l lf → GoodDeeper l d
         → (q : Kind) (n b : ℕ) (s r : List ℕ) → Shows q b → Spaces s (b ∷ r) → Each (Reads small l n s) (Refuses small s) (byKind lf d q n b r)
@@ -211,14 +218,17 @@ module _ {L : Type 0} (Leaf : List ℕ → List ℕ → L → Type 0) (leafLevel
         (λ r₁ i.
         each-node (b ∷ r) n _
         (λ m j. gives (record { part = word (subst (λ (y : List ℕ). Spaces s (116 ∷ y)) i x₁); low = omega arith; used = omega arith; ok = tt }))
-        (λ j. token-refuses small b x (λ t. 114 ∷ 117 ∷ 101 ∷ t) top (λ s' t y. word (subst (λ (c : ℕ). Spaces s' (c ∷ 114 ∷ 117 ∷ 101 ∷ t)) e y))))
+        (λ j.
+        let w : 116 ∷ 114 ∷ 117 ∷ 101 ∷ r₁ ≡ b ∷ r = cc in
+        subst (λ (y : List ℕ). Refuses small s 14 y) w
+        (token-refuses small (subst (λ (y : List ℕ). Spaces s y) (sym w) x) Token.word top (λ t. (116 ∷ 114 ∷ 117 ∷ 101 ∷ t, t, there (there (there (there here))), λ s' y. word y)))))
         (λ r₁ q. record {
           short = let h = swap-short (q [] .1) in let h₂ = spaces-short x in omega arith;
-          goes = λ t. let y = q t in let u = frame-token x₁ (114 ∷ 117 ∷ 101 ∷ t) in (y .0, u .0, top, swap-trans (u .1) (y .1), word (u .2), keeps-13);
+          goes = λ t. let y = q t in let u = frame-token x₁ (114 ∷ 117 ∷ 101 ∷ t) in (r₁, y .0, u .0, top, swap-trans (u .1) (y .1), word (u .2), keeps-13 refl);
         }))
     by-kind l lf shut gl gd Kind.paren n b s r e x =
         denies
-        (token-refuses small b x (λ t. 116 ∷ 114 ∷ 117 ∷ 101 ∷ 41 ∷ t) top
+        (byte-refuses small b x (subst (λ (c : ℕ). Token (c ∷ r) r) (sym e) Token.paren) (λ t. 116 ∷ 114 ∷ 117 ∷ 101 ∷ 41 ∷ t) top
         (λ s' t y. parens (subst (λ (c : ℕ). Spaces s' (c ∷ 116 ∷ 114 ∷ 117 ∷ 101 ∷ 41 ∷ t)) e y) (one-and (one-until (one-small (word none)))) none))
     by-kind l lf (open' sm un) gl gd Kind.paren n b s r e x =
         let i : ℕ = gd .0 in
@@ -233,7 +243,7 @@ module _ {L : Type 0} (Leaf : List ℕ → List ℕ → L → Type 0) (leafLevel
               let c = frame-spaces y (41 ∷ t) in
               let u = frame Leaf frame-leaf (p .part) (c .0) in
               let v = frame-token x₁ (u .0) in
-              (41 ∷ t, v .0, a, swap-trans (v .1) (swap-trans (u .1) (c .1)), parens (v .2) (u .2) (c .2), keeps-13);
+              (r₂, 41 ∷ t, v .0, a, swap-trans (v .1) (swap-trans (u .1) (c .1)), parens (v .2) (u .2) (c .2), keeps-13 refl);
         }))
         (λ w r₁ q. through w (λ s r. Spaces s (40 ∷ r)) (λ t. 41 ∷ t) (frame-token x₁) q (λ s' s₁' t a y p. (a, parens y p none))))
     by-kind l lf shut gl gd (Kind.prefix o) n b s r e x = denies (prefix-refuses o b x e)
@@ -267,13 +277,20 @@ module _ {L : Type 0} (Leaf : List ℕ → List ℕ → L → Type 0) (leafLevel
     small-good l lf d gl gd n s = small-at l lf d gl gd n s (skip s) (skip-spaces s)
 
     reach-refuses : (o : Reach) (b : ℕ) {s r r₁ : List ℕ} {a : Form L} → Part Leaf small s r a → Spaces r (b ∷ r₁) → b ≡ reachByte o → Refuses Rank.untils s 14 (b ∷ r₁)
-    reach-refuses o b {a = a} p x e = record {
+    reach-refuses o b {r₁ = r₁} {a = a} p x e = record {
       short = let h = spaces-short x in let h₂ = part-short p in omega arith;
       goes = λ t.
           let v : List ℕ = 116 ∷ 114 ∷ 117 ∷ 101 ∷ t in
           let y = frame-spaces x (b ∷ v) in
-          let u = frame Leaf frame-leaf p (y .0) in
-          (b ∷ v, u .0, reached o a top, swap-trans (u .1) (y .1), reach o (u .2) (subst (λ (c : ℕ). Spaces (y .0) (c ∷ v)) e (y .2)) (one-small (word none)), keeps-14 same-byte);
+          let u = frame Leaf frame-leaf p (y .0) in (
+            b ∷ r₁,
+            b ∷ v,
+            u .0,
+            reached o a top,
+            swap-trans (u .1) (y .1),
+            reach o (u .2) (subst (λ (c : ℕ). Spaces (y .0) (c ∷ v)) e (y .2)) (one-small (word none)),
+            keeps-14 refl (subst (λ (c : ℕ). Token (c ∷ r₁) r₁) (sym e) (Token.reach o)) (there here),
+          );
     }
 
     by-onward : (l : ℕ) (d : Deeper (Form L)) → GoodDeeper l d → (n : ℕ) (s : List ℕ) (a : Form L) (m : ℕ) (r : List ℕ) → Reads small l n s a m r
@@ -312,7 +329,7 @@ module _ {L : Type 0} (Leaf : List ℕ → List ℕ → L → Type 0) (leafLevel
     until-good l sm d g gd n s =
         each-bind (sm n s) _
         (each-map (g n s) (λ a m r p. until-at l d gd n s a m r p (skip r) (skip-spaces r))
-        (λ w r q. record { short = q .short; goes = λ t. let y = q .goes t in (y .0, y .1, y .2, y .3, one-small (y .4), y .5) }))
+        (λ w r q. record { short = q .short; goes = λ t. let y = q .goes t in (y .0, y .1, y .2, y .3, y .4, one-small (y .5), y .6) }))
 
     module _ (lf : ℕ → Reader L) (gl : (l : ℕ) → GoodLeaf l (lf l)) where
       deeper-good : (l : ℕ) → GoodDeeper l (deeper lf l)
