@@ -3,19 +3,19 @@
 use Prim.Native.Nat.{ℕ, zero, suc, _+_, _*_, _-_, _≤_, _<_, max}
 use mathlib.Core.Path.{_≡_, refl, ap, subst, sym, _∙_}
 use mathlib.Core.Logic.{_⊎_, inl, inr, ⊎-elim}
-use mathlib.Core.Bool.{Bool, true, false, _&&_, _||_}
+use mathlib.Core.Bool.{Bool, true, false, _||_}
 use mathlib.Core.List.{List, [], _∷_, _++_}
 use native.Mathlib.Omega.{arith}
 use lib.ListN.{length}
-use lib.Dec.{leb, ltb, eqb}
-use borrow.Author.Tests.{ltb-true, leb-true, leb-false, eqb-true, eqb-false, eq-eqb, ne-eqb, le-leb, lt-leb}
+use lib.Dec.{eqb}
+use borrow.Author.Tests.{eqb-false, eq-eqb, ne-eqb}
 use Rattle.grammar.specs.Grammar.{Form, top, Spaces, none, space, Digits, end, digit, Number, nought, other, Percent, without, sign, Prefix, not, next, finally, globally, prefixByte, prefixed, Reach, U, R, reachByte, reached, Rank, small, Part, word, parens, prefix, one-small, reach, one-until, one-and}
 use Rattle.grammar.specs.Limits.{level, nodes, InRange}
 use Rattle.grammar.specs.Reader.{pick, Got, got, no, Reader, bind, node, skip, expectAt, expect, literal, isDigit, digits, number, percent, Kind, kind, Onward, stop, onward, Deeper, shut, open', chainAt, chainMore, chain, andChain, orChain, byKind, smallAt, smallOf, byOnward, untilAt, untilOf, deeper, smalls, untils, ors}
 use Rattle.grammar.specs.Ends.{Swap, here, there}
-use Rattle.grammar.specs.Each.{Each, gives, denies, each-bind, each-map, each-both, each-node, either, never, skip-spaces, is-digit, literal-keeps}
+use Rattle.grammar.specs.Each.{Each, gives, denies, each-bind, each-map, each-both, each-node, never, is-digit, literal-keeps}
 use Rattle.grammar.specs.Sound.{nodes-prefix, nodes-reach}
-use Rattle.grammar.specs.Short.{skip-short, Within, Inside, Shrinks, Shrinks₁, inside-within, expect-inside, expect-short, literal-short, digits-short, number-short, percent-short, chain-more-short, ShrinksDeeper, and-short, or-short, small-at-short, small-short, until-more-short, until-short, deeper-short, untils-short}
+use Rattle.grammar.specs.Short.{skip-short, Within, Inside, Shrinks, Shrinks₁, expect-inside, expect-short, literal-short, digits-short, number-short, chain-more-short, ShrinksDeeper, and-short, or-short, small-at-short, until-more-short, deeper-short, untils-short}
 
 ---- Two ends with one first byte.
 pub data SameHead : List ℕ → List ℕ → Type 0 where

@@ -28,6 +28,10 @@ Coded s w k = ((w ≡ 12) × (k ≡ 0) × (FewBytes s → ⊥)) ⊎ (((w ≡ 7) 
 abbrev pub Begins : List ℕ → Type 0
 Begins p = (t : List ℕ) × (cs : List Clause) × Sheet (p ++ t) cs
 
+-- a sheet whose numbers are in range does
+abbrev pub BeginsInRange : List ℕ → Type 0
+BeginsInRange p = (t : List ℕ) × (cs : List Clause) × (d : Sheet (p ++ t) cs) × Ranged d
+
 -- no sheet of the grammar does
 abbrev pub Never : List ℕ → Type 0
 Never p = (t : List ℕ) (cs : List Clause) → Sheet (p ++ t) cs → ⊥

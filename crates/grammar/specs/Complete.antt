@@ -1,23 +1,23 @@
 -- The reader of a sheet is complete: what is in the grammar and within the limits is accepted as it is there; and a byte refused by 13 has no place.
-use Prim.Native.Nat.{ℕ, zero, suc, _+_, _*_, _-_, _≤_, _<_, max}
+use Prim.Native.Nat.{ℕ, zero, suc, _+_, _-_, _≤_, _<_}
 use mathlib.Core.Path.{_≡_, refl, ap, subst, sym, _∙_}
 use mathlib.Core.Logic.{_⊎_, inl, inr, ⊎-elim}
-use mathlib.Core.Bool.{Bool, true, false, _&&_}
+use mathlib.Core.Bool.{Bool, true}
 use mathlib.Core.List.{List, [], _∷_, _++_}
 use native.Mathlib.Omega.{arith}
-use lib.ListN.{length, take, drop}
+use lib.ListN.{length, take}
 use lib.Dec.{leb, ltb, eqb}
-use borrow.Author.Tests.{ltb-true, ltb-false, leb-true, leb-false, eqb-true, eqb-false, ne-eqb, le-ltb, lt-ltb}
-use Rattle.grammar.specs.Grammar.{Form, top, Spaces, none, space, Digits, Number, nought, other, Percent, without, sign, Rank, small, Part, Mark, mark, Inner, Threshold, counted, Count, count, Clause, Sheet, done, line}
+use borrow.Author.Tests.{ltb-true, leb-false, ne-eqb, le-ltb, lt-ltb}
+use Rattle.grammar.specs.Grammar.{Spaces, Number, nought, other, Percent, without, sign, Rank, Part, Mark, mark, Inner, counted, Count, count, Clause, Sheet, done, line}
 use Rattle.grammar.specs.Limits.{level, nodes, InRange, markLevel, markNodes, MarkOk, countLevel, countNodes, CountOk, most, Sized, Ranged, Fits, FewLines, FewBytes}
-use Rattle.grammar.specs.Reader.{pick, Got, got, no, Reader, bind, node, skip, isDigit, expect, digits, number, percent, kind, Kind, ors, markBy, marks, inners, threshold, countBy, counts, clauses, clauseLine, lines, Read, accepted, refused, outcome, start, readSheet}
+use Rattle.grammar.specs.Reader.{pick, Got, got, no, bind, skip, isDigit, expect, number, percent, ors, markBy, marks, inners, threshold, countBy, counts, clauses, clauseLine, lines, accepted, refused, outcome, start, readSheet}
 use Rattle.grammar.specs.Answers.{Coded, Code, Never, Beyond, Token}
-use Rattle.grammar.specs.Ends.{Swap, here, there, keeps-13, keeps-14, keeps-15, swap-short, frame-count}
+use Rattle.grammar.specs.Ends.{Swap, here, there, whole, not-near, keeps-near, keeps-13, keeps-14, keeps-15, swap-short, frame-count}
 use Rattle.grammar.specs.Each.{Each, gives, denies, each-bind, each-map, each-both, each-node, either, number-keeps}
 use Rattle.grammar.specs.Sound.{spaces-short, part-short}
 use Rattle.grammar.specs.Accepts.{GoesOn, on, full, refusal}
-use Rattle.grammar.specs.Short.{skip-short, Within, Inside, Shrinks, Shrinks₁, expect-inside, expect-short, percent-short, marks-short, inners-short, threshold-short, counts-short, clauses-short, lines-short}
-use Rattle.grammar.specs.Agree.{SameHead, neither, both, near-step, near-nil, Follow, HeadNot, head-not, follow-digit, Near, Past, Close, token, arrive, Match, Match₁, Fault, limit, range, gone, fault-map, beyond, skipped, expect-agrees, number-agrees, percent-agrees, Agrees, AgreesLeaf, ors-agrees}
+use Rattle.grammar.specs.Short.{skip-short, expect-inside, expect-short, percent-short, marks-short, inners-short, threshold-short, counts-short, lines-short}
+use Rattle.grammar.specs.Agree.{SameHead, neither, both, near-step, near-nil, HeadNot, head-not, follow-digit, Near, Close, token, arrive, Match, Fault, limit, range, gone, fault-map, beyond, skipped, expect-agrees, number-agrees, percent-agrees, Agrees, AgreesLeaf, ors-agrees}
 
 number-head : {s t : List ℕ} {k : ℕ} → Number s t k → HeadNot (λ b. eqb b 32) s
 number-head (nought {r = r}) = (48, r, refl, refl)
@@ -202,9 +202,9 @@ module _ (u u' : List ℕ) (same : SameHead u u') where
       (λ w r z. fault-map u u' same (λ o. (o .0 .0, o .0 .1)) (λ o. o .0) z))))
 
 ---- (b) A sheet of the grammar that is within the limits is accepted, and as it is there.
-whole : (s : List ℕ) → Swap [] [] s s
-whole [] = here
-whole (b ∷ s) = there (whole s)
+itself : (s : List ℕ) → Swap [] [] s s
+itself [] = here
+itself (b ∷ s) = there (itself s)
 
 outcome-complete : (s : List ℕ) (cs : List Clause) (d : Sheet s cs) (len : ℕ) (g : Got (List Clause)) → Reading [] [] neither 32 s cs d g → Fits d → FewLines cs → outcome len g ≡ accepted cs
 unfolding outcome
@@ -214,7 +214,7 @@ outcome-complete s cs d len g (denies q) f h = let z = q .only (f .0, h) (f .1) 
 start-complete : (s : List ℕ) (cs : List Clause) (d : Sheet s cs) → Fits d → FewLines cs → 0 < length s → start s ≡ accepted cs
 unfolding start
 start-complete [] cs d f h i = absurd (omega arith)
-start-complete (b ∷ s) cs d f h i = outcome-complete (b ∷ s) cs d (length (b ∷ s)) (lines 32 (b ∷ s)) (lines-agrees [] [] neither 32 (b ∷ s) (b ∷ s) cs d (whole (b ∷ s))) f h
+start-complete (b ∷ s) cs d f h i = outcome-complete (b ∷ s) cs d (length (b ∷ s)) (lines 32 (b ∷ s)) (lines-agrees [] [] neither 32 (b ∷ s) (b ∷ s) cs d (itself (b ∷ s))) f h
 
 pub complete : (s : List ℕ) (cs : List Clause) (d : Sheet s cs) → Fits d → FewLines cs → 0 < length s → FewBytes s → readSheet s ≡ accepted cs
 unfolding readSheet
@@ -245,7 +245,7 @@ denied (denies q) = q
 
 none-of : (s : List ℕ) (w : ℕ) (r : List ℕ) → lines 32 s ≡ no w r → w ≡ 13 → (cs : List Clause) → Sheet s cs → ⊥
 none-of s w r e i cs d =
-    let y : Reading [] [] neither 32 s cs d (no w r) = subst (Reading [] [] neither 32 s cs d) e (lines-agrees [] [] neither 32 s s cs d (whole s)) in
+    let y : Reading [] [] neither 32 s cs d (no w r) = subst (Reading [] [] neither 32 s cs d) e (lines-agrees [] [] neither 32 s s cs d (itself s)) in
     let z = denied y .past i in
     omega arith
 
@@ -272,14 +272,15 @@ token-some (Token.reach o) = omega arith
 token-some Token.and = omega arith
 token-some Token.or = omega arith
 
-goes-refused : (s : List ℕ) (w : ℕ) (r : List ℕ) → (w ≡ 15 → ⊥) → lines 32 s ≡ no w r → GoesOn 32 s w r → Refused s (length s - length r) w
-goes-refused s w r h e (on {v = v} {s' = t} x d (keeps-13 i)) = at-byte s w r e v t x (λ j. omega arith)
-goes-refused s w r h e (on {v = v} {s' = t} x d (keeps-14 i o y)) = at-byte s w r e v t x (λ j. token-some o)
-goes-refused s w r h e (on x d (keeps-15 i o y)) = absurd (h i)
-goes-refused s w r h e (full {s' = t} x d i j k) = at-byte s w r e [] t x (λ i. k)
+goes-refused : (s : List ℕ) (w : ℕ) (r : List ℕ) → (w ≡ 15 → ⊥) → lines 32 s ≡ no w r → GoesOn whole 32 s w r → Refused s (length s - length r) w
+goes-refused s w r h e (on x d (keeps-near i) o) = not-near i
+goes-refused s w r h e (on {v = v} {s' = t} x d (keeps-13 i) a) = at-byte s w r e v t x (λ j. omega arith)
+goes-refused s w r h e (on {v = v} {s' = t} x d (keeps-14 i o y) a) = at-byte s w r e v t x (λ j. token-some o)
+goes-refused s w r h e (on x d (keeps-15 m i o y) a) = absurd (h i)
+goes-refused s w r h e (full {s' = t} x d i j k a) = at-byte s w r e [] t x (λ i. k)
 
 refused-at : (s : List ℕ) (w k : ℕ) → (w ≡ 7 → ⊥) → (w ≡ 12 → ⊥) → (w ≡ 15 → ⊥) → readSheet s ≡ refused w k → Refused s k w
-refused-at s w k h i j e = let q = refusal s w k h i e in subst (λ (n : ℕ). Refused s n w) (q .at) (goes-refused s w (q .rest) j (q .read) (q .refuses .goes))
+refused-at s w k h i j e = let q = refusal s w k h i e in subst (λ (n : ℕ). Refused s n w) (q .at) (goes-refused s w (q .rest) j (q .read) (q .refuses .goes whole))
 
 -- (c) the other half: no sheet of the grammar begins with the bytes up to one that is refused by 13; at the text's end, the text is none.
 pub stuck-13 : (s : List ℕ) (k : ℕ) → readSheet s ≡ refused 13 k → (k < length s → Never (take (suc k) s)) × ((cs : List Clause) → Sheet s cs → ⊥)

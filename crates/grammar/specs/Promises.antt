@@ -10,8 +10,8 @@ use Rattle.grammar.specs.Limits.{nodes, countNodes, Fits, FewLines, FewB
 use Rattle.grammar.specs.Nodes.{Node, flatClause, Stands, StandsCount}
 use Rattle.grammar.specs.Standing.{clause-stands, clause-length}
 use Rattle.grammar.specs.Reader.{accepted, refused, readSheet}
-use Rattle.grammar.specs.Answers.{Accepted, Coded, Begins, Never, Beyond, Allowed, OutOfRange}
-use Rattle.grammar.specs.Accepts.{sound, begun-13, allowed-14, out-15}
+use Rattle.grammar.specs.Answers.{Accepted, Code, Coded, BeginsInRange, Never, Beyond, Allowed, OutOfRange}
+use Rattle.grammar.specs.Accepts.{sound, before-in-range, allowed-14, out-15}
 use Rattle.grammar.specs.Complete.{complete, stuck-13, over-14, codes, long-12}
 
 pub record Promises (s : List ℕ) : Type 0 where
@@ -24,8 +24,9 @@ pub record Promises (s : List ℕ) : Type 0 where
   -- 12 for what is too long, before all else; no refusals but 7, 12, 13, 14 and 15
   pub long-12 : (FewBytes s → ⊥) → readSheet s ≡ refused 12 0
   pub codes : (w k : ℕ) → readSheet s ≡ refused w k → Coded s w k
+  -- 13, 14 and 15: with the bytes before it a sheet of the grammar begins whose numbers are all in range
+  pub before : (w k : ℕ) → Code w → readSheet s ≡ refused w k → (k ≤ length s) × BeginsInRange (take k s)
   -- 13: the first byte that no sheet of the grammar could have after the bytes before it, or the length
-  pub first-13 : (k : ℕ) → readSheet s ≡ refused 13 k → (k ≤ length s) × Begins (take k s)
   pub stuck-13 : (k : ℕ) → readSheet s ≡ refused 13 k → (k < length s → Never (take (suc k) s)) × ((cs : List Clause) → Sheet s cs → ⊥)
   -- 14: a whole token that the grammar allows there, or the 33rd line; with its first byte every sheet is past the limit on levels, nodes or lines
   pub token-14 : (k : ℕ) → readSheet s ≡ refused 14 k → Allowed s k ⊎ ((cs : List Clause) × Sheet (take k s) cs × (length cs ≡ 32))
@@ -41,7 +42,7 @@ promises s = record {
   standing = λ c q. let e : 0 + nodes countNodes c ≡ nodes countNodes c = omega arith in subst (λ (n : ℕ). Stands StandsCount (flatClause c 0 ++ q) (n - 1) c) e (clause-stands c [] q);
   long-12 = long-12 s;
   codes = codes s;
-  first-13 = begun-13 s;
+  before = before-in-range s;
   stuck-13 = stuck-13 s;
   token-14 = allowed-14 s;
   over-14 = over-14 s;
