@@ -7,7 +7,8 @@ use mathlib.Core.List.{List}
 use lib.ListN.{length, drop}
 use Rattle.grammar.specs.Grammar.{Form, top, leaf, neg, and, or, next, until, release, ev, gl, counted}
 use Rattle.grammar.specs.Limits.{nodes}
-use Rattle.grammar.specs.Nodes.{flat, inner-flat, clause-flat}
+use Rattle.grammar.specs.Nodes.{flat}
+use Rattle.grammar.specs.Standing.{inner-flat, clause-flat}
 use Rattle.grammar.specs.Reader.{Got, got, no}
 use Rattle.token.specs.Parts.{PartIs}
 use Rattle.sheet.specs.Ranks.{LeafOf, leafNodes, leafFlat}

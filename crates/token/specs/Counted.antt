@@ -9,7 +9,8 @@ use lib.ListN.{length, drop}
 use borrow.Author.Tests.{eqb-true, eqb-false}
 use Rattle.grammar.specs.Grammar.{Form, Inner, Threshold, counted, Clause}
 use Rattle.grammar.specs.Limits.{nodes, markNodes, countNodes, most}
-use Rattle.grammar.specs.Nodes.{countN, flat, flatMark, flatInner, flatCount, clause-flat, inner-flat}
+use Rattle.grammar.specs.Nodes.{countN, flat, flatMark, flatInner, flatCount}
+use Rattle.grammar.specs.Standing.{clause-flat, inner-flat}
 use Rattle.grammar.specs.Reader.{Got, got, no, pick, bind, skip, number, percent, expect, expectAt, threshold}
 use Rattle.token.specs.Block.{countByte, nodeBytes}
 use Rattle.token.specs.Leaves.{Refused, Expected, limitGot, LimitIs}
