@@ -18,7 +18,7 @@ loop-holds c = begun (c .args .h) _
 
 -- there is room for one bit more
 room : (c : tie.In-loop Inv-loop μ-loop) → c .before .loop .row < 2 ^ 63
-room c = small (c .before .before .args .h) _ (c .before .loop .row) (c .before .loop .s) (omega arith) (c .loop-test .taken) (c .before .loop .inv)
+room c = small (c .before .before .args .h) _ (c .before .loop .row) (c .before .loop .s) (omega arith) (omega arith) (c .before .loop .inv)
 
 sub-s : tie.Need-sub-s Inv-loop μ-loop
 sub-s c = omega arith
@@ -46,12 +46,12 @@ unfolding on
 loop-again c =
     let a = c .before .before .before .args in
     let v = c .before .before .loop in
-    onward (a .h) (λ j. on (getD (a .words .now) j 0) (a .k)) (v .row) (v .s) _ (c .before .loop-test .taken) (v .inv) (omega arith) refl
+    onward (a .h) (λ j. on (getD (a .words .now) j 0) (a .k)) (v .row) (v .s) _ (omega arith) (v .inv) (omega arith) refl
 
 returns : tie.Need-returns Inv-loop μ-loop
 returns c =
     let v = c .before .loop in
-    ended (c .before .before .args .h) _ (v .row) (v .s) (c .loop-test .left) (v .inv)
+    ended (c .before .before .args .h) _ (v .row) (v .s) (omega arith) (v .inv)
 
 pub bits-of-spec : {M : Type 1} → statement M
 bits-of-spec =
