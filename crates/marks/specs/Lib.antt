@@ -1,2 +1,6 @@
 -- definitions
 pub mod Table
+pub mod Bears
+pub mod Stored
+-- laws
+pub mod Told

@@ -1,0 +1,38 @@
+-- What the places of a plan's rows bear, from the bytes of the floor and of the plan's block.
+use Prim.Native.Nat.{ℕ, _+_, _*_, _≤_, _<_}
+use mathlib.Core.Path.{_≡_}
+use mathlib.Core.Bool.{Bool}
+use mathlib.Core.List.{List}
+use lib.ListN.{getD, length}
+use Rattle.endian.specs.Little.{value}
+use Rattle.floor.specs.Numbers.{placeAt, bodyAt}
+use Rattle.cltl.specs.Meaning.{Rows}
+use Rattle.mask.specs.Mask.{on, Row}
+use Rattle.marks.specs.Table.{markRow}
+
+-- "4 bytes: one bit for each mark m0 (lowest) to m31": the marks of place q
+unfoldable pub marksOf : List ℕ → ℕ → ℕ
+marksOf floor q = value (bodyAt 4 (placeAt q) floor)
+
+-- the place on step s of cart i: "cart n's row beginning at 64 times n"
+abbrev pub placeOn : List ℕ → ℕ → ℕ → ℕ
+placeOn block i s = getD block (64 * i + s) 0
+
+abbrev pub bearing : List ℕ → List ℕ → ℕ → ℕ → ℕ → Bool
+bearing floor block i s k = on (marksOf floor (placeOn block i s)) k
+
+abbrev pub rowsOf : List ℕ → List ℕ → ℕ → ℕ → ℕ → Rows
+rowsOf floor block carts h l = record { carts = carts; h = h; l = l; bears = bearing floor block }
+
+-- cart i's places have their records in the floor's bytes
+pub record OnFloor (floor block : List ℕ) (h i : ℕ) : Type 0 where
+  pub inside : (s : ℕ) → s < h → 8 * placeOn block i s + 8 ≤ length floor
+
+pub record Placed (floor block : List ℕ) (carts h : ℕ) : Type 0 where
+  pub row : (i : ℕ) → i < carts → OnFloor floor block h i
+
+-- the table of a plan: what lies beyond the carts' rows is left alone
+pub record Filled (floor block : List ℕ) (carts h : ℕ) (before after : List ℕ) : Type 0 where
+  pub kept : length after ≡ length before
+  pub row : (i k : ℕ) → i < carts → k < 32 → Row h (markRow after i k) (λ s. bearing floor block i s k)
+  pub beyond : (j : ℕ) → carts * 32 ≤ j → getD after j 0 ≡ getD before j 0
