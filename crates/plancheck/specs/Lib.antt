@@ -5,3 +5,4 @@ pub mod Promises
 -- laws
 pub mod Stages
 pub mod Claims
+pub mod NodesHeld
