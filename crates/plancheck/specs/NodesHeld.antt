@@ -12,7 +12,7 @@ use Rattle.record.specs.Stored.{length-stored, stored-front}
 use Rattle.grammar.specs.Grammar.{Form, top, leaf, neg, and, or, next, until, release, ev, gl, Inner, Threshold, counted, Clause}
 use Rattle.grammar.specs.Limits.{nodes, markNodes, countNodes, InRange, MarkOk, CountOk}
 use Rattle.grammar.specs.Nodes.{Node, topN, markN, countN, oneN, twoN, Op₁, neg₁, next₁, ev₁, gl₁, Op₂, and₂, or₂, until₂, release₂, flat, flatMark, flatInner, flatCount, flatClause, node, Stands, StandsMark, StandsCount}
-use Rattle.grammar.specs.Nodes.{node-some, flat-length, clause-stands, clause-length}
+use Rattle.grammar.specs.Standing.{node-some, flat-length, clause-stands, clause-length}
 use Rattle.token.specs.Block.{nodeBytes, nodesBytes}
 use Rattle.token.specs.Joined.{length-nodes, nodes-one}
 use Rattle.drift.specs.Tree.{nodeAt, Below, Ordered, one, two, formOf, tree, innerTree, clauseTree}
