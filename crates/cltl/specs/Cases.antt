@@ -1,11 +1,11 @@
 -- The starred cases of document 01, computed over rows and trees.
-use Prim.Native.Nat.{ℕ, zero, suc, _+_, _-_, _/_, _%_, _^_}
+use Prim.Native.Nat.{ℕ, _-_, _/_, _%_, _^_}
 use mathlib.Core.Path.{_≡_, refl}
 use mathlib.Core.Bool.{Bool, true, false}
 use mathlib.Core.List.{List, [], _∷_}
 use lib.ListN.{getD}
 use lib.Dec.{eqb}
-use Rattle.grammar.specs.Grammar.{Form, top, leaf, neg, next, ev, gl, Inner, Threshold, counted, Clause}
+use Rattle.grammar.specs.Grammar.{leaf, neg, next, ev, gl, counted, Clause}
 use Rattle.row.specs.Lasso.{nextStep, stepOf}
 use Rattle.cltl.specs.Threshold.{threshold, quota}
 use Rattle.cltl.specs.Meaning.{Rows}
@@ -53,6 +53,11 @@ pub steps :
     × (kept (at-least 0 1) 1 1 ≡ false)
 unfolding plan rowsOf rules count quorum quota threshold window inner mark judge nextStep stepOf fix tally every
 steps = (refl, refl, refl, refl, refl, refl)
+
+-- the window turns into the lap: cart 1 is on m1 at step 3 and not at step 0, which comes after it
+pub turned : (kept (at-least 1 1) 0 3 ≡ true) × (kept (at-least 1 1) 1 3 ≡ false)
+unfolding plan rowsOf rules count quorum quota threshold window inner mark judge nextStep stepOf fix tally every
+turned = (refl, refl)
 
 -- percentages are rounded up
 pub rounded : (threshold 25 true 12 ≡ 3) × (threshold 25 true 13 ≡ 4) × (threshold 100 true 32 ≡ 32) × (threshold 0 true 32 ≡ 0) × (threshold 1 true 1 ≡ 1)

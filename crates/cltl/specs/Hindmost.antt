@@ -1,7 +1,7 @@
 -- The hindmost cart of a run: its counter starts at 0, grows by 0 or 1 and without end, and no cart is more than d ahead of it.
 use Prim.Native.Nat.{ℕ, zero, suc, _+_, _≤_, _<_, pred, max}
-use mathlib.Core.Path.{_≡_, refl, sym, ap, subst}
-use mathlib.Core.Logic.{_⊎_, inl, inr, ⊎-elim}
+use mathlib.Core.Path.{_≡_, sym, subst}
+use mathlib.Core.Logic.{_⊎_, ⊎-elim}
 use native.Mathlib.Omega.{arith}
 use native.Mathlib.Nat.{eq-or-lt-of-le, le-refl, le-trans}
 use native.Mathlib.Decide.{le-ind}

@@ -2,6 +2,7 @@
 pub mod Threshold
 pub mod Meaning
 pub mod Rules
+pub mod Step
 -- promises
 pub mod Promises
 -- worked cases
@@ -21,3 +22,5 @@ pub mod Monotone
 pub mod Exact
 pub mod Standing
 pub mod Complete
+pub mod Lowest
+pub mod Agree

@@ -1,15 +1,15 @@
 -- The rules for the operators, over any rule for the leaves.
-use Prim.Native.Nat.{ℕ, zero, suc, _≤_, _<_}
-use mathlib.Core.Path.{_≡_, refl, sym, subst, ap, _∙_}
-use mathlib.Core.Bool.{Bool, true, false, not, _&&_, _||_, Bool·not-not}
+use Prim.Native.Nat.{ℕ, suc, _<_}
+use mathlib.Core.Path.{_≡_, refl}
+use mathlib.Core.Bool.{Bool, true, false, not, _||_}
 use mathlib.Core.Logic.{_⊎_, inl, inr, ⊎-elim}
 use lib.Dec.{T, not-T}
 use native.Mathlib.Omega.{arith}
 use Rattle.grammar.specs.Grammar.{Form, top, leaf, neg, and, or, next, until, release, ev, gl}
 use Rattle.row.specs.Lasso.{nextStep, stepOf}
 use Rattle.row.specs.Round.{step-next, step-below, next-below}
-use Rattle.cltl.specs.Meaning.{Until, Always, Holds}
-use Rattle.cltl.specs.Rules.{join, fix, judge, hasNext}
+use Rattle.cltl.specs.Meaning.{Until, Holds}
+use Rattle.cltl.specs.Rules.{fix, judge, hasNext}
 use Rattle.cltl.specs.Pace.{Pace, until-map, pull, push}
 use Rattle.cltl.specs.Basics.{or-cases, or-l, or-r, and-l, and-r, join-mono, join-not, T-or-not}
 use Rattle.cltl.specs.Lap.{reach, kept, fix-mono, fix-not}

@@ -1,16 +1,15 @@
 -- What the rule for a count says, over any truth of the carts at their steps.
 use Prim.Native.Nat.{ℕ, zero, suc, _+_, _-_, _≤_, _<_}
 use mathlib.Core.Path.{_≡_, refl, sym, ap, subst, _∙_}
-use mathlib.Core.Bool.{Bool, true, false, _&&_, _||_}
+use mathlib.Core.Bool.{Bool, true, false, _&&_}
 use mathlib.Core.Logic.{_⊎_, inl, inr, ⊎-elim}
 use native.Mathlib.Omega.{arith}
-use native.Mathlib.Nat.{le-refl}
 use lib.Dec.{T, leb, eqb, leb→le, eqb→eq, le→leb}
 use Rattle.row.specs.Lasso.{nextStep, stepOf}
 use Rattle.row.specs.Round.{step-low, step-below, step-next}
 use Rattle.cltl.specs.Rules.{tally, every, window, quorum}
-use Rattle.cltl.specs.Basics.{and-l, and-r, and-i, or-l, or-cases, join-mono}
-use Rattle.cltl.specs.Tally.{every-at, every-of, tally-mono, tally-all}
+use Rattle.cltl.specs.Basics.{and-l, and-r, or-l, or-cases, join-mono}
+use Rattle.cltl.specs.Tally.{every-at, every-of, every-cong, tally-mono, tally-all}
 
 module _ (h l : ℕ) where
   -- counting on from a counter's step is counting on from the counter
@@ -37,6 +36,11 @@ module _ (h l : ℕ) where
   pub window-of : (f : ℕ → Bool) (d s : ℕ) → ((j : ℕ) → j ≤ d → T (f (stepOf h l (s + j)))) → T (window h l f d s)
   unfolding window
   window-of f d s x = every-of (λ j. f (stepOf h l (s + j))) (suc d) (λ j q. x j (omega arith))
+
+  -- only the steps below h count
+  pub window-cong : l < h → (f g : ℕ → Bool) → ((s : ℕ) → s < h → f s ≡ g s) → (d s : ℕ) → window h l f d s ≡ window h l g d s
+  unfolding window
+  window-cong ok f g e d s = every-cong (λ j. f (stepOf h l (s + j))) (λ j. g (stepOf h l (s + j))) (λ j. e (stepOf h l (s + j)) (step-below h l ok (s + j))) (suc d)
 
   window-mono : (f : ℕ → Bool) (d d′ s : ℕ) → d′ ≤ d → T (window h l f d s) → T (window h l f d′ s)
   window-mono f d d′ s q x = window-of f d′ s (λ j r. window-at f d s j (omega arith) x)

@@ -1,11 +1,11 @@
 -- Counting below a number, by a test and as a statement; the least of some numbers.
 use Prim.Native.Nat.{ℕ, zero, suc, _+_, _≤_, _<_, min}
 use mathlib.Core.Path.{_≡_, refl, sym, ap, subst}
-use mathlib.Core.Bool.{Bool, true, false, not, cond, _&&_, _||_, true≢false, false≢true}
+use mathlib.Core.Bool.{Bool, true, false, not, cond, true≢false, false≢true}
 use mathlib.Core.Logic.{_⊎_, inl, inr, ⊎-elim}
 use native.Mathlib.Omega.{arith}
 use native.Mathlib.Nat.{eq-or-lt-of-le, le-refl}
-use lib.Dec.{T, leb, eqb}
+use lib.Dec.{T}
 use Rattle.cltl.specs.Rules.{tally, every}
 use Rattle.cltl.specs.Meaning.{AtLeast}
 use Rattle.cltl.specs.Basics.{and-l, and-r, and-i, lt-or-le}
@@ -76,6 +76,11 @@ pub every-of : (f : ℕ → Bool) (n : ℕ) → ((i : ℕ) → i < n → T (f i)
 unfolding every
 every-of f zero h = tt
 every-of f (suc n) h = and-i (f n) (every f n) (h n (le-refl (suc n))) (every-of f n (λ i p. h i (omega arith)))
+
+pub every-cong : (f g : ℕ → Bool) → ((i : ℕ) → f i ≡ g i) → (n : ℕ) → every f n ≡ every g n
+unfolding every
+every-cong f g e zero = refl
+every-cong f g e (suc n) = rw (e n, every-cong f g e n)
 
 -- the least of f 0 .. f n
 unfoldable pub low : (ℕ → ℕ) → ℕ → ℕ

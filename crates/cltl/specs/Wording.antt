@@ -1,13 +1,13 @@
 -- The rules, in document 01's own words for each operator.
 use Prim.Native.Nat.{ℕ, suc, _+_, _-_, _≤_, _<_}
 use mathlib.Core.Path.{_≡_, refl}
-use mathlib.Core.Bool.{Bool, true, false, not, _&&_, _||_}
+use mathlib.Core.Bool.{Bool, true, false, _&&_, _||_}
 use lib.Dec.{T}
-use Rattle.grammar.specs.Grammar.{Form, top, leaf, neg, and, or, next, until, release, ev, gl, Inner, counted, Clause}
+use Rattle.grammar.specs.Grammar.{top, leaf, neg, and, or, next, until, release, ev, gl, Inner, counted, Clause}
 use Rattle.row.specs.Lasso.{nextStep, stepOf}
 use Rattle.cltl.specs.Threshold.{threshold, quota}
 use Rattle.cltl.specs.Meaning.{Rows, Proper, Until}
-use Rattle.cltl.specs.Rules.{mix, quorum, judge, inner, count, rules}
+use Rattle.cltl.specs.Rules.{judge, inner, count, rules}
 use Rattle.cltl.specs.Lap.{fix-law, reach, forever}
 
 module _ (P : Rows) (d s : ℕ) where

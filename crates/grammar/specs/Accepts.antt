@@ -1,19 +1,21 @@
--- The reader of a sheet is sound: what it accepts is in the grammar and within the limits; and what it refuses by 13 could have gone on up to there.
-use Prim.Native.Nat.{ℕ, zero, suc, _+_, _*_, _-_, _≤_, _<_, max}
+-- The reader of a sheet is sound: what it accepts is in the grammar and within the limits; and what it refuses could have gone on up to there, by 14 and 15 with a whole token.
+use Prim.Native.Nat.{ℕ, zero, suc, _+_, _-_, _≤_, _<_}
 use mathlib.Core.Path.{_≡_, refl, ap, subst, sym, _∙_}
-use mathlib.Core.Logic.{_⊎_, inl, inr}
-use mathlib.Core.Bool.{Bool, true, false, _&&_}
+use mathlib.Core.Logic.{_⊎_, inl, inr, ⊎-elim}
+use mathlib.Core.Bool.{Bool, true, false}
 use mathlib.Core.List.{List, [], _∷_, _++_}
 use native.Mathlib.Omega.{arith}
 use lib.ListN.{length, take, drop}
 use lib.Dec.{leb, ltb, eqb}
-use borrow.Author.Tests.{ltb-true, ltb-false, leb-true, leb-false, eqb-true, eqb-false}
-use Rattle.grammar.specs.Grammar.{Form, top, Spaces, none, space, Number, nought, Percent, without, sign, Rank, small, Part, word, one-small, one-until, one-and, Mark, mark, Inner, Threshold, counted, Count, count, Clause, Sheet, done, line}
-use Rattle.grammar.specs.Limits.{level, nodes, InRange, markLevel, markNodes, MarkOk, countLevel, countNodes, CountOk, most, Fits}
-use Rattle.grammar.specs.Reader.{pick, Got, got, no, Reader, bind, node, skip, expect, number, percent, ors, markBy, marks, inners, threshold, countBy, counts, clauses, clauseLine, lines, Read, accepted, refused, outcome, start, readSheet}
-use Rattle.grammar.specs.Ends.{Swap, here, there, SameByte, same-byte, Keeps, keeps-13, keeps-15, swap-trans, swap-short, Framed, frame-spaces, frame-token, frame-number, frame-percent, frame, frame-mark, frame-count}
+use borrow.Author.Tests.{ltb-false, leb-true, leb-false, eqb-true}
+use Rattle.grammar.specs.Grammar.{Form, top, Spaces, none, Number, nought, Percent, without, Rank, small, Part, word, one-small, one-until, one-and, Mark, mark, Inner, Threshold, counted, Count, count, Clause, Sheet, done, line}
+use Rattle.grammar.specs.Limits.{level, nodes, InRange, markLevel, markNodes, MarkOk, countLevel, countNodes, CountOk, most, Ranged, Fits}
+use Rattle.grammar.specs.Reader.{Got, no, bind, skip, expect, number, percent, ors, markBy, marks, inners, threshold, countBy, counts, clauses, clauseLine, lines, accepted, refused, outcome, start, readSheet}
+use Rattle.grammar.specs.Answers.{Accepted, Code, Begins, BeginsInRange, Token, Allowed, Large, OutOfRange}
+use Rattle.grammar.specs.Ends.{Swap, here, there, Mode, near, whole, not-near, Keeps, keeps-near, keeps-13, keeps-14, keeps-15, swap-trans, swap-short, Framed, frame-spaces, frame-token, frame-number, frame-percent, frame, frame-mark, frame-count}
 use Rattle.grammar.specs.Each.{Each, gives, denies, each-bind, each-map, each-node, either, never, skip-spaces, each-expect, each-number, each-percent}
-use Rattle.grammar.specs.Sound.{spaces-short, Reads, Refuses, Completes, Good, LeafReads, GoodLeaf, token-refuses, true-refuses, part-short, ors-good}
+use Rattle.grammar.specs.Sound.{spaces-short, Refuses, Completed, modes, Good, LeafReads, GoodLeaf, byte-refuses, true-near, true-refuses, part-short, ors-good}
+use Rattle.grammar.specs.Ranges.{Tail, tail-swap, Fine, sheet-fine, mark-never, count-never}
 
 ---- Marks.
 number-short : {n : ℕ} {s r : List ℕ} → Number s r n → length r ≤ length s
@@ -24,6 +26,14 @@ percent-short {r = r} x = swap-short (frame-percent x r .1)
 
 abbrev LateMark : List ℕ → ℕ → List ℕ → Type 0
 LateMark = Refuses Mark markLevel markNodes MarkOk small
+
+module _ {s r : List ℕ} (x : Spaces s (109 ∷ r)) where
+  -- a mark with the number 0, and with the one that stands there
+  nought-there : {w : ℕ} {m : Mode} → ((v : List ℕ) → Keeps m w r r v) → (t : List ℕ) → Completed Mark markLevel markNodes MarkOk small s w r t m
+  nought-there k t = let y = frame-token x (48 ∷ t) in (r, 48 ∷ t, y .0, Form.leaf 0, y .1, Part.leaf (mark (y .2) nought), k (48 ∷ t), λ e. omega arith)
+
+  number-there : {k : ℕ} {r₁ : List ℕ} → Number r r₁ k → (t : List ℕ) → (v s' : List ℕ) × Swap (109 ∷ r) v s s' × Swap r₁ t (109 ∷ r) v × Part Mark small s' t (Form.leaf k)
+  number-there n t = let w = frame-number n t in let o = frame-spaces x (109 ∷ w .0) in (109 ∷ w .0, o .0, o .1, there (w .1), Part.leaf (mark (o .2) (w .2)))
 
 mark-by : (l : ℕ) (q : Bool) (n b : ℕ) (s r : List ℕ) → (q ≡ true → b ≡ 109) → Spaces s (b ∷ r)
     → Each (LeafReads Mark markLevel markNodes MarkOk l n s) (Refuses Mark markLevel markNodes MarkOk small s) (markBy q n b r)
@@ -38,15 +48,21 @@ mark-by l true n b s r e x =
     each-node (b ∷ r) n _
     (λ m j.
     either (Each (LeafReads Mark markLevel markNodes MarkOk l n s) (LateMark s)) (leb k 31) _ _
-    (λ i. gives (record { leaf = mark x₁ y; low = omega arith; used = omega arith; ok = leb-true k 31 i }))
+    (λ i. gives (record { leaf = mark x₁ (y .number); low = omega arith; used = omega arith; ok = leb-true k 31 i }))
     (λ i. denies (record {
       short = omega arith;
-      goes = λ t. let w = frame-number y t in let o = frame-token x₁ (w .0) in (w .0, o .0, Form.leaf k, o .1, Part.leaf (mark (o .2) (w .2)), keeps-15 y (w .1));
+      goes = modes Mark markLevel markNodes MarkOk small s 15 r (nought-there x₁ (λ v. keeps-near refl))
+          (λ t. let z = number-there x₁ (y .number) t in (109 ∷ r, z .0, z .1, Form.leaf k, z .2, z .4, keeps-15 refl refl (Large.mark y (leb-false k 31 i)) (z .3), not-near));
     })))
-    (λ j. token-refuses Mark markLevel markNodes MarkOk small b x (λ t. 48 ∷ t) (Form.leaf 0) (λ s' t z. Part.leaf (mark (subst (λ (c : ℕ). Spaces s' (c ∷ 48 ∷ t)) (e refl) z) nought))))
+    (λ j.
+    subst (λ (c : ℕ). LateMark s 14 (c ∷ r)) (sym (e refl)) (record {
+      short = omega arith;
+      goes = modes Mark markLevel markNodes MarkOk small s 14 (109 ∷ r) (true-near Mark markLevel markNodes MarkOk 14 x₁ near (λ v. keeps-near refl))
+          (λ t. let z = number-there x₁ (y .number) t in (109 ∷ r, z .0, z .1, Form.leaf k, z .2, z .4, keeps-14 refl (Token.mark y) (z .3), not-near));
+    })))
     (record {
       short = omega arith;
-      goes = λ t. let y = frame-token x₁ (48 ∷ t) in (48 ∷ t, y .0, Form.leaf 0, y .1, Part.leaf (mark (y .2) nought), keeps-13);
+      goes = λ t m. nought-there x₁ (λ v. keeps-13 refl) t;
     }))
 
 marks-good : (l : ℕ) → GoodLeaf Mark markLevel markNodes MarkOk l marks
@@ -66,8 +82,8 @@ abbrev LateCount : List ℕ → ℕ → List ℕ → Type 0
 LateCount = Refuses Count countLevel countNodes CountOk small
 
 bracket-refuses : (b : ℕ) {s r : List ℕ} → Spaces s (b ∷ r) → b ≡ 91 → LateCount s 14 (b ∷ r)
-bracket-refuses b x e =
-    token-refuses Count countLevel countNodes CountOk small b x (λ t. 116 ∷ 114 ∷ 117 ∷ 101 ∷ 44 ∷ 48 ∷ 93 ∷ t) (Form.leaf (counted top 0 false))
+bracket-refuses b {r = r} x e =
+    byte-refuses Count countLevel countNodes CountOk small b x (subst (λ (c : ℕ). Token (c ∷ r) r) (sym e) Token.bracket) (λ t. 116 ∷ 114 ∷ 117 ∷ 101 ∷ 44 ∷ 48 ∷ 93 ∷ t) (Form.leaf (counted top 0 false)) (tt, omega arith)
     (λ s' t z. Part.leaf (count (subst (λ (c : ℕ). Spaces s' (c ∷ 116 ∷ 114 ∷ 117 ∷ 101 ∷ 44 ∷ 48 ∷ 93 ∷ t)) e z) (one-and (one-until (one-small (word none)))) none none nought without none))
 
 -- a count up to its number
@@ -80,6 +96,12 @@ module _ (a : Inner) (s s₁ s₂ s₃ s₄ : List ℕ) (o : Spaces s (91 ∷ s�
       let o' = frame-token o (p' .0) in
       (o' .0, swap-trans (o' .1) (swap-trans (p' .1) (swap-trans (c' .1) (d' .1))), λ s₅ s₆ r n q e f g. count (o' .2) (p' .2) (c' .2) (d' .2) e f g)
 
+  -- the number 0 may follow
+  nought-next : {w : ℕ} {m : Mode} → InRange MarkOk a → ((v : List ℕ) → Keeps m w s₄ s₄ v) → (t : List ℕ) → Completed Count countLevel countNodes CountOk small s w s₄ t m
+  nought-next ok k t =
+      let b = ahead (48 ∷ 93 ∷ t) in
+      (s₄, 48 ∷ 93 ∷ t, b .0, Form.leaf (counted a 0 false), b .1, Part.leaf (b .2 (93 ∷ t) (93 ∷ t) t 0 false nought without none), k (48 ∷ 93 ∷ t), λ e. (ok, omega arith))
+
   count-rest : (l n m : ℕ) → level Mark markLevel p ≤ l → n ≡ suc (m + nodes markNodes a) → InRange MarkOk a → Each (GivesCount (suc l) n s) (LateCount s) (threshold a m s₄)
   unfolding threshold
   count-rest l n m h e ok =
@@ -87,33 +109,44 @@ module _ (a : Inner) (s s₁ s₂ s₃ s₄ : List ℕ) (o : Spaces s (91 ∷ s�
       each-bind (number m s₄) _
       (each-number m s₄
       (λ k s₅ y.
-      let h₅ = number-short y in
+      let h₅ = number-short (y .number) in
       each-bind (percent m s₅) _
       (each-percent m s₅
       (λ q s₆ z.
-      let h₆ = percent-short z in
+      let h₆ = percent-short (z .percent) in
       either (Each (GivesCount (suc l) n s) (LateCount s)) (leb k (most q)) (expect 93 (counted a k q) m s₆) _
-      (λ i. each-expect 93 (counted a k q) m s₆ (λ r g. record { leaf = count o p c d y z g; low = omega arith; used = omega arith; ok = (ok, leb-true k (most q) i) })
+      (λ i. each-expect 93 (counted a k q) m s₆ (λ r g. record { leaf = count o p c d (y .number) (z .percent) g; low = omega arith; used = omega arith; ok = (ok, leb-true k (most q) i) })
       (λ r g. record {
         short = let h₇ = spaces-short g in omega arith;
-        goes = λ t.
+        goes = λ t m.
             let g' = frame-spaces g (93 ∷ t) in
-            let z' = frame-percent z (g' .0) in
-            let y' = frame-number y (z' .0) in
+            let z' = frame-percent (z .percent) (g' .0) in
+            let y' = frame-number (y .number) (z' .0) in
             let b = ahead (y' .0) in
-            (93 ∷ t, b .0, Form.leaf (counted a k q), swap-trans (b .1) (swap-trans (y' .1) (swap-trans (z' .1) (g' .1))), Part.leaf (b .2 (z' .0) (g' .0) t k q (y' .2) (z' .2) (g' .2)), keeps-13);
+            (r, 93 ∷ t, b .0, Form.leaf (counted a k q), swap-trans (b .1) (swap-trans (y' .1) (swap-trans (z' .1) (g' .1))), Part.leaf (b .2 (z' .0) (g' .0) t k q (y' .2) (z' .2) (g' .2)), keeps-13 refl, λ e. (ok, leb-true k (most q) i));
       }))
       (λ i. denies (record {
         short = omega arith;
-        goes = λ t.
-            let z' = frame-percent z (93 ∷ t) in
-            let y' = frame-number y (z' .0) in
-            let b = ahead (y' .0) in
-            (y' .0, b .0, Form.leaf (counted a k q), b .1, Part.leaf (b .2 (z' .0) (93 ∷ t) t k q (y' .2) (z' .2) none), keeps-15 y (y' .1));
+        goes = modes Count countLevel countNodes CountOk small s 15 s₄ (nought-next ok (λ v. keeps-near refl)) (λ t.
+            let z' = frame-percent (z .percent) (93 ∷ t) in
+            let y' = frame-number (y .number) (z' .0) in
+            let d' = frame-spaces d (y' .0) in
+            let c' = frame-spaces c (44 ∷ d' .0) in
+            let p' = frame Mark frame-mark p (c' .0) in
+            let o' = frame-token o (p' .0) in (
+              44 ∷ s₃,
+              44 ∷ d' .0,
+              o' .0,
+              Form.leaf (counted a k q),
+              swap-trans (o' .1) (swap-trans (p' .1) (c' .1)),
+              Part.leaf (count (o' .2) (p' .2) (c' .2) (d' .2) (y' .2) (z' .2) none),
+              keeps-15 refl refl (Large.count d y z (leb-false k (most q) i)) (there (swap-trans (d' .1) (swap-trans (y' .1) (z' .1)))),
+              not-near,
+            ));
       })))))
       (record {
         short = omega arith;
-        goes = λ t. let b = ahead (48 ∷ 93 ∷ t) in (48 ∷ 93 ∷ t, b .0, Form.leaf (counted a 0 false), b .1, Part.leaf (b .2 (93 ∷ t) (93 ∷ t) t 0 false nought without none), keeps-13);
+        goes = λ t m. nought-next ok (λ v. keeps-13 refl) t;
       }))
 
 count-by : (l : ℕ) (q : Bool) (n b : ℕ) (s r : List ℕ) → (q ≡ true → b ≡ 91) → Spaces s (b ∷ r) → Each (GivesCount l n s) (LateCount s) (countBy l q n b r)
@@ -134,18 +167,18 @@ count-by (suc l) true n b s r e x =
     (λ r₂ c. let u = p .used in count-rest a s r r₁ r₂ (skip r₂) o (p .part) c (skip-spaces r₂) l n m₁ (p .low) (omega arith) (p .ok))
     (λ r₂ c. record {
       short = let h₂ = spaces-short c in omega arith;
-      goes = λ t.
+      goes = λ t m.
           let c' = frame-spaces c (44 ∷ 48 ∷ 93 ∷ t) in
           let p' = frame Mark frame-mark (p .part) (c' .0) in
           let o' = frame-token o (p' .0) in
-          (44 ∷ 48 ∷ 93 ∷ t, o' .0, Form.leaf (counted a 0 false), swap-trans (o' .1) (swap-trans (p' .1) (c' .1)), Part.leaf (count (o' .2) (p' .2) (c' .2) none nought without none), keeps-13);
+          (r₂, 44 ∷ 48 ∷ 93 ∷ t, o' .0, Form.leaf (counted a 0 false), swap-trans (o' .1) (swap-trans (p' .1) (c' .1)), Part.leaf (count (o' .2) (p' .2) (c' .2) none nought without none), keeps-13 refl, λ e. (p .ok, omega arith));
     }))
     (λ w r₁ q. record {
       short = let h₁ = q .short in omega arith;
-      goes = λ t.
-          let p' = q .goes (44 ∷ 48 ∷ 93 ∷ t) in
-          let o' = frame-token o (p' .1) in
-          (p' .0, o' .0, Form.leaf (counted (p' .2) 0 false), swap-trans (o' .1) (p' .3), Part.leaf (count (o' .2) (p' .4) none none nought without none), p' .5);
+      goes = λ t m.
+          let p' = q .goes (44 ∷ 48 ∷ 93 ∷ t) m in
+          let o' = frame-token o (p' .2) in
+          (p' .0, p' .1, o' .0, Form.leaf (counted (p' .3) 0 false), swap-trans (o' .1) (p' .4), Part.leaf (count (o' .2) (p' .5) none none nought without none), p' .6, λ e. (p' .7 e, omega arith));
     }))))
     (λ j. bracket-refuses b x (e refl))
 
@@ -165,20 +198,20 @@ pub record SheetReads (k : ℕ) (s : List ℕ) (cs : List Clause) : Type 0 where
   pub few : length cs ≤ k
 
 -- how a text goes on that is refused at r: to a sheet, with as much of r as the refusal leaves; or r is the line too many
-pub data GoesOn (k : ℕ) (s : List ℕ) (w : ℕ) (r : List ℕ) : Type 0 where
-  on : {v s' : List ℕ} {cs : List Clause} → Swap r v s s' → Sheet s' cs → Keeps w r v → GoesOn k s w r
-  full : {s' : List ℕ} {cs : List Clause} → Swap r [] s s' → Sheet s' cs → length cs ≡ k → w ≡ 14 → 0 < length r → GoesOn k s w r
+pub data GoesOn (m : Mode) (k : ℕ) (s : List ℕ) (w : ℕ) (r : List ℕ) : Type 0 where
+  on : {q v s' : List ℕ} {cs : List Clause} → Swap q v s s' → (d : Sheet s' cs) → Keeps m w r q v → (m ≡ near → Ranged d) → GoesOn m k s w r
+  full : {s' : List ℕ} {cs : List Clause} → Swap r [] s s' → (d : Sheet s' cs) → length cs ≡ k → w ≡ 14 → 0 < length r → Ranged d → GoesOn m k s w r
 
 pub record SheetRefuses (k : ℕ) (s : List ℕ) (w : ℕ) (r : List ℕ) : Type 0 where
   pub short : length r ≤ length s
-  pub goes : GoesOn k s w r
+  pub goes : (m : Mode) → GoesOn m k s w r
 
 -- one line before
-before : {k : ℕ} {s s₁ r q : List ℕ} {c : Clause} {w : ℕ} → Part Count Rank.ors s s₁ c → Spaces s₁ (10 ∷ r) → GoesOn k r w q → GoesOn (suc k) s w q
-before {c = c} p x (on {s' = s'} y d z) =
-    let x' = frame-token x s' in let p' = frame Count frame-count p (x' .0) in on (swap-trans (p' .1) (swap-trans (x' .1) y)) (line (p' .2) (x' .2) d) z
-before {c = c} p x (full {s' = s'} y d e f h) =
-    let x' = frame-token x s' in let p' = frame Count frame-count p (x' .0) in full (swap-trans (p' .1) (swap-trans (x' .1) y)) (line (p' .2) (x' .2) d) (ap suc e) f h
+before : {m : Mode} {k : ℕ} {s s₁ r q : List ℕ} {c : Clause} {w : ℕ} → Part Count Rank.ors s s₁ c → InRange CountOk c → Spaces s₁ (10 ∷ r) → GoesOn m k r w q → GoesOn m (suc k) s w q
+before {c = c} p ok x (on {s' = s'} y d z i) =
+    let x' = frame-token x s' in let p' = frame Count frame-count p (x' .0) in on (swap-trans (p' .1) (swap-trans (x' .1) y)) (line (p' .2) (x' .2) d) z (λ e. (ok, i e))
+before {c = c} p ok x (full {s' = s'} y d e f h i) =
+    let x' = frame-token x s' in let p' = frame Count frame-count p (x' .0) in full (swap-trans (p' .1) (swap-trans (x' .1) y)) (line (p' .2) (x' .2) d) (ap suc e) f h (ok, i)
 
 clause-short : {k : Rank} {s r : List ℕ} {a : Clause} → Part Count k s r a → length r ≤ length s
 clause-short p = part-short Count countLevel countNodes CountOk frame-count p
@@ -186,7 +219,7 @@ clause-short p = part-short Count countLevel countNodes CountOk frame-count p
 pub lines-good : (k : ℕ) (s : List ℕ) → Each (λ cs m r. SheetReads k s cs) (SheetRefuses k s) (lines k s)
 unfolding lines clauseLine
 lines-good zero [] = gives (record { sheet = done; fits = (tt, tt); few = omega arith })
-lines-good zero (b ∷ s) = denies {w = 14} {r = b ∷ s} (record { short = omega arith; goes = full here done refl refl (omega arith) })
+lines-good zero (b ∷ s) = denies {w = 14} {r = b ∷ s} (record { short = omega arith; goes = λ m. full here done refl refl (omega arith) tt })
 lines-good (suc k) [] = gives (record { sheet = done; fits = (tt, tt); few = omega arith })
 lines-good (suc k) (b ∷ s) =
     each-bind (bind (clauses 32 128 (b ∷ s)) _) _
@@ -206,18 +239,18 @@ lines-good (suc k) (b ∷ s) =
     }))
     (λ w r₂ q. record {
       short = let u = q .short in omega arith;
-      goes = before (p .part) x (q .goes);
+      goes = λ i. before (p .part) (p .ok) x (q .goes i);
     })))
     (λ r₁ x. record {
       short = let u = spaces-short x in omega arith;
-      goes =
+      goes = λ i.
           let x' = frame-spaces x (10 ∷ []) in
           let p' = frame Count frame-count (p .part) (x' .0) in
-          on (swap-trans (p' .1) (x' .1)) (line (p' .2) (x' .2) done) (keeps-13);
+          on (swap-trans (p' .1) (x' .1)) (line (p' .2) (x' .2) done) (keeps-13 refl) (λ e. (p .ok, tt));
     }))
     (λ w r q. record {
       short = q .short;
-      goes = let y = q .goes (10 ∷ []) in on (y .3) (line (y .4) none done) (y .5);
+      goes = λ m. let y = q .goes (10 ∷ []) m in on (y .4) (line (y .5) none done) (y .6) (λ e. (y .7 e, tt));
     })))
 
 swap-take : {u v s t : List ℕ} → Swap u v s t → take (length s - length u) s ++ v ≡ t
@@ -227,14 +260,7 @@ swap-take {u} {v} (there {c = c} {s = s} x) =
     let e : suc (length s) - length u ≡ suc (length s - length u) = omega arith in
     rw e (ap (λ (l : List ℕ). c ∷ l) (swap-take x))
 
--- (a) What is accepted is a sheet of the grammar, within the limits.
-pub record Accepted (s : List ℕ) (cs : List Clause) : Type 0 where
-  pub sheet : Sheet s cs
-  pub fits : Fits sheet
-  pub few : length cs ≤ 32
-  pub some : 0 < length s
-  pub short : length s ≤ 16384
-
+---- (a) What is accepted is a sheet of the grammar, within the limits.
 outcome-sound : (s : List ℕ) (cs : List Clause) (len : ℕ) (g : Got (List Clause)) → Each (λ cs m r. SheetReads 32 s cs) (SheetRefuses 32 s) g → outcome len g ≡ accepted cs → SheetReads 32 s cs
 unfolding outcome
 outcome-sound s cs len g (gives {a = x} p) e = let h : x ≡ cs = cc in subst (λ (y : List Clause). SheetReads 32 s y) h p
@@ -252,102 +278,121 @@ sound s cs =
     (λ h e. let z : _≡_ {A = ℕ} 0 1 = cc in absurd (omega arith))
     (λ h e. let p = start-sound s cs e in record { sheet = p .0 .sheet; fits = p .0 .fits; few = p .0 .few; some = p .1; short = ltb-false 16384 (length s) h })
 
----- What stands before a refused byte.
-pub data Begun (s : List ℕ) (k w : ℕ) : Type 0 where
-  -- some sheet of the grammar begins with the first k bytes, and with the byte or the number there that a limit refuses
-  begun : (k ≤ length s) → (v : List ℕ) (cs : List Clause) → Sheet (take k s ++ v) cs → Keeps w (drop k s) v → Begun s k w
-  -- the first k bytes are a sheet of 32 lines, and there is a byte more
-  line-33 : (k < length s) → (cs : List Clause) → Sheet (take k s) cs → length cs ≡ 32 → w ≡ 14 → Begun s k w
+---- What is refused, and where: r is what is left from there on.
+pub record Refusal (s : List ℕ) (w k : ℕ) : Type 0 where
+  pub rest : List ℕ
+  pub at : length s - length rest ≡ k
+  pub read : lines 32 s ≡ no w rest
+  pub refuses : SheetRefuses 32 s w rest
+
+outcome-at : (s : List ℕ) (w k : ℕ) (g : Got (List Clause)) → lines 32 s ≡ g → Each (λ cs m r. SheetReads 32 s cs) (SheetRefuses 32 s) g → outcome (length s) g ≡ refused w k → Refusal s w k
+unfolding outcome
+outcome-at s w k g h (gives p) e = let z : _≡_ {A = ℕ} 0 1 = cc in absurd (omega arith)
+outcome-at s w k g h (denies {w = v} {r = r} q) e =
+    let i : v ≡ w = cc in
+    let j : length s - length r ≡ k = cc in
+    record { rest = r; at = j; read = h ∙ ap (λ (n : ℕ). no n r) i; refuses = subst (λ (n : ℕ). SheetRefuses 32 s n r) i q }
+
+start-at : (s : List ℕ) (w k : ℕ) → (w ≡ 7 → ⊥) → start s ≡ refused w k → Refusal s w k
+unfolding start
+start-at [] w k h e = absurd (h (cc))
+start-at (b ∷ s) w k h e = outcome-at (b ∷ s) w k (lines 32 (b ∷ s)) refl (lines-good 32 (b ∷ s)) e
+
+pub refusal : (s : List ℕ) (w k : ℕ) → (w ≡ 7 → ⊥) → (w ≡ 12 → ⊥) → readSheet s ≡ refused w k → Refusal s w k
+unfolding readSheet
+refusal s w k h i = either (λ x. x ≡ refused w k → Refusal s w k) (ltb 16384 (length s)) (refused 12 0) (start s) (λ q e. absurd (i (cc))) (λ q e. start-at s w k h e)
 
 pub swap-drop : {u v s t : List ℕ} → Swap u v s t → drop (length s - length u) s ≡ u
 swap-drop {u} here = let e : length u - length u ≡ 0 = omega arith in rw e
 swap-drop {u} (there {s = s} x) = let h = swap-short x in let e : suc (length s) - length u ≡ suc (length s - length u) = omega arith in rw e (swap-drop x)
 
+begins-at : {u v s t : List ℕ} {cs : List Clause} → Swap u v s t → Sheet t cs → Begins (take (length s - length u) s)
+begins-at {v = v} {cs = cs} x d = (v, cs, rw (swap-take x) d)
+
+near-at : {u v s t : List ℕ} {cs : List Clause} → Swap u v s t → (d : Sheet t cs) → Ranged d → BeginsInRange (take (length s - length u) s)
+near-at {v = v} {cs = cs} x d ok = let z = subst (λ (y : List ℕ). (c : Sheet y cs) × Ranged c) (sym (swap-take x)) (d, ok) in (v, cs, z .0, z .1)
+
+code-not : (n w : ℕ) → (13 ≤ n → n ≤ 15 → ⊥) → Code w → w ≡ n → ⊥
+code-not n w h c e = ⊎-elim (λ i. h (omega arith) (omega arith)) (⊎-elim (λ i. h (omega arith) (omega arith)) (λ i. h (omega arith) (omega arith))) c
+
 append-nil : (l : List ℕ) → l ++ [] ≡ l
 append-nil [] = refl
 append-nil (b ∷ l) = ap (λ (x : List ℕ). b ∷ x) (append-nil l)
 
-goes-begun : (s : List ℕ) (w : ℕ) (r : List ℕ) → length r ≤ length s → GoesOn 32 s w r → Begun s (length s - length r) w
-goes-begun s w r h (on {v = v} {cs = cs} y d z) = begun (omega arith) v cs (rw (swap-take y) d) (rw (swap-drop y) z)
-goes-begun s w r h (full {cs = cs} y d e f i) = line-33 (omega arith) cs (subst (λ (x : List ℕ). Sheet x cs) (sym (swap-take y) ∙ append-nil (take (length s - length r) s)) d) e f
+-- (c), one half: what stands before a byte that is refused by 13, 14 or 15 is the beginning of a sheet whose numbers are in range.
+goes-near : (s : List ℕ) (w : ℕ) (r : List ℕ) → GoesOn near 32 s w r → BeginsInRange (take (length s - length r) s)
+goes-near s w r (on x d (keeps-near e) i) = near-at x d (i refl)
+goes-near s w r (on x d (keeps-13 e) i) = near-at x d (i refl)
+goes-near s w r (on x d (keeps-14 e o y) i) = near-at x d (i refl)
+goes-near s w r (on x d (keeps-15 e f o y) i) = not-near (sym e)
+goes-near s w r (full x d e f h i) = near-at x d i
 
-outcome-begun : (s : List ℕ) (k w : ℕ) (g : Got (List Clause)) → Each (λ cs m r. SheetReads 32 s cs) (SheetRefuses 32 s) g → outcome (length s) g ≡ refused w k → Begun s k w
-unfolding outcome
-outcome-begun s k w g (gives p) e = let z : _≡_ {A = ℕ} 0 1 = cc in absurd (omega arith)
-outcome-begun s k w g (denies {w = w₁} {r = r} q) e =
-    let i : w ≡ w₁ = cc in
-    let j : length s - length r ≡ k = cc in
-    subst (λ (n : ℕ). Begun s n w) j (subst (λ (n : ℕ). Begun s (length s - length r) n) (sym i) (goes-begun s w₁ r (q .short) (q .goes)))
+pub before-in-range : (s : List ℕ) (w k : ℕ) → Code w → readSheet s ≡ refused w k → (k ≤ length s) × BeginsInRange (take k s)
+before-in-range s w k c e =
+    let q = refusal s w k (λ z. code-not 7 w (λ i j. omega arith) c z) (λ z. code-not 12 w (λ i j. omega arith) c z) e in
+    let i = q .at in
+    (omega arith, subst (λ (n : ℕ). BeginsInRange (take n s)) i (goes-near s w (q .rest) (q .refuses .goes near)))
 
-start-begun : (s : List ℕ) (k w : ℕ) → (w ≡ 7 → ⊥) → start s ≡ refused w k → Begun s k w
-unfolding start
-start-begun [] k w h e = absurd (h (cc))
-start-begun (b ∷ s) k w h e = outcome-begun (b ∷ s) k w (lines 32 (b ∷ s)) (lines-good 32 (b ∷ s)) e
+-- (d), one half: a token that is refused by 14 is whole and may stand there in the grammar, or it is the 33rd line's first byte.
+abbrev At14 : List ℕ → ℕ → Type 0
+At14 s k = Allowed s k ⊎ ((cs : List Clause) × Sheet (take k s) cs × (length cs ≡ 32))
 
-pub read-begun : (s : List ℕ) (k w : ℕ) → (w ≡ 7 → ⊥) → (w ≡ 12 → ⊥) → readSheet s ≡ refused w k → Begun s k w
-unfolding readSheet
-read-begun s k w h i = either (λ x. x ≡ refused w k → Begun s k w) (ltb 16384 (length s)) (refused 12 0) (start s) (λ q e. absurd (i (cc))) (λ q e. start-begun s k w h e)
+goes-14 : (s r : List ℕ) → GoesOn whole 32 s 14 r → At14 s (length s - length r)
+goes-14 s r (on x d (keeps-near e) i) = not-near e
+goes-14 s r (on x d (keeps-13 e) i) = absurd (omega arith)
+goes-14 s r (on x d (keeps-14 {r₁ = r₁} e o y) i) =
+    let z = swap-trans x y in inl (record { last = length s - length r₁; token = rw (swap-drop x, swap-drop z) o; begins = begins-at z d })
+goes-14 s r (on x d (keeps-15 e f o y) i) = absurd (omega arith)
+goes-14 s r (full {cs = cs} x d e f h i) = inr (cs, subst (λ (y : List ℕ). Sheet y cs) (sym (swap-take x) ∙ append-nil (take (length s - length r) s)) d, e)
 
--- (c), one half: what stands before a byte that is refused by 13 is the beginning of a sheet of the grammar.
-pub begun-13 : (s : List ℕ) (k : ℕ) → readSheet s ≡ refused 13 k → (k ≤ length s) × ((t : List ℕ) × (cs : List Clause) × Sheet (take k s ++ t) cs)
-begun-13 s k e = go (read-begun s k 13 (λ z. omega arith) (λ z. omega arith) e) where
-  go : Begun s k 13 → (k ≤ length s) × ((t : List ℕ) × (cs : List Clause) × Sheet (take k s ++ t) cs)
-  go (begun h v cs d z) = (h, (v, cs, d))
-  go (line-33 h cs d f z) = absurd (omega arith)
+pub allowed-14 : (s : List ℕ) (k : ℕ) → readSheet s ≡ refused 14 k → Allowed s k ⊎ ((cs : List Clause) × Sheet (take k s) cs × (length cs ≡ 32))
+allowed-14 s k e = let q = refusal s 14 k (λ z. omega arith) (λ z. omega arith) e in subst (At14 s) (q .at) (goes-14 s (q .rest) (q .refuses .goes whole))
 
-take-on : (k : ℕ) (s t : List ℕ) (b : ℕ) (w : List ℕ) → drop k s ≡ b ∷ w → take k s ++ (b ∷ t) ≡ take (suc k) s ++ t
-take-on zero [] t b w e = let z : _≡_ {A = ℕ} 0 1 = cc in absurd (omega arith)
-take-on zero (c ∷ s) t b w e = let h : c ≡ b = cc in ap (λ (x : ℕ). x ∷ t) (sym h)
-take-on (suc k) [] t b w e = let z : _≡_ {A = ℕ} 0 1 = cc in absurd (omega arith)
-take-on (suc k) (c ∷ s) t b w e = ap (λ (x : List ℕ). c ∷ x) (take-on k s t b w e)
+---- (e) A number that is refused by 15 is whole, out of range, and may stand there in the grammar; but in no sheet whose numbers are in range.
+swap-any : {u v s t : List ℕ} → Swap u v s t → (w : List ℕ) → (t' : List ℕ) × Swap u w s t'
+swap-any here w = (w, here)
+swap-any (there {c = c} x) w = let y = swap-any x w in (c ∷ y .0, there (y .1))
 
--- (d), one half: a token that is refused by 14 may stand there in the grammar, or it is the 33rd line's first byte.
-pub allowed-14 : (s : List ℕ) (k : ℕ) → readSheet s ≡ refused 14 k
-    → ((t : List ℕ) × (cs : List Clause) × Sheet (take (suc k) s ++ t) cs) ⊎ ((cs : List Clause) × Sheet (take k s) cs × (length cs ≡ 32))
-allowed-14 s k e = go (read-begun s k 14 (λ z. omega arith) (λ z. omega arith) e) where
-  byte : (r v : List ℕ) → drop k s ≡ r → SameByte r v → (cs : List Clause) → Sheet (take k s ++ v) cs → (t : List ℕ) × (cs : List Clause) × Sheet (take (suc k) s ++ t) cs
-  byte r v h (same-byte {b = b} {w = w} {w' = t}) cs d = (t, cs, subst (λ (x : List ℕ). Sheet x cs) (take-on k s t b w h) d)
+-- the same number with another end, and no sheet is fine with it
+record Never (q r₁ t : List ℕ) : Type 0 where
+  byte : ℕ
+  text : List ℕ
+  key : (byte ≡ 109) ⊎ (byte ≡ 44)
+  swap : Swap r₁ t q (byte ∷ text)
+  never : Fine (byte ∷ text) → ⊥
 
-  go : Begun s k 14 → ((t : List ℕ) × (cs : List Clause) × Sheet (take (suc k) s ++ t) cs) ⊎ ((cs : List Clause) × Sheet (take k s) cs × (length cs ≡ 32))
-  go (begun h v cs d z) = inl (byte (drop k s) v refl (z .0 refl) cs d)
-  go (line-33 h cs d f z) = inr (cs, d, f)
+large-never : {q r r₁ : List ℕ} → Large q r r₁ → (t : List ℕ) → Never q r₁ t
+large-never (Large.mark y h) t = let w = frame-number (y .number) t in record { byte = 109; text = w .0; key = inl refl; swap = there (w .1); never = mark-never (w .2) h }
+large-never (Large.count c y z h) t =
+    let z' = frame-percent (z .percent) t in
+    let y' = frame-number (y .number) (z' .0) in
+    let c' = frame-spaces c (y' .0) in
+    record { byte = 44; text = c' .0; key = inr refl; swap = there (swap-trans (c' .1) (swap-trans (y' .1) (z' .1))); never = count-never (c' .2) (y' .2) (z' .2) h }
 
--- (e), one half: a number that is refused by 15 may stand there whole in the grammar.
-pub record Whole (s : List ℕ) (k : ℕ) : Type 0 where
-  pub last : ℕ
-  pub value : ℕ
-  pub number : Number (drop k s) (drop last s) value
-  pub rest : List ℕ
-  pub clauses : List Clause
-  pub sheet : Sheet (take last s ++ rest) clauses
+large-first : {q r r₁ : List ℕ} → Large q r r₁ → (v : List ℕ) × Swap r r q v
+large-first (Large.mark {r = r} y h) = (109 ∷ r, there here)
+large-first (Large.count {r = r} c y z h) = let c' = frame-spaces c r in (44 ∷ c' .0, there (c' .1))
 
-goes-whole : (s r : List ℕ) → GoesOn 32 s 15 r → Whole s (length s - length r)
-goes-whole s r (on {s' = s'} {cs = cs} x d z) =
-    let y = z .1 refl in
-    let r₁ : List ℕ = y .0 in
-    let w = swap-trans x (y .4) in
+goes-15 : (s r : List ℕ) → GoesOn whole 32 s 15 r → OutOfRange s (length s - length r)
+goes-15 s r (on x d (keeps-near e) i) = not-near e
+goes-15 s r (on x d (keeps-13 e) i) = absurd (omega arith)
+goes-15 s r (on x d (keeps-14 e o y) i) = absurd (omega arith)
+goes-15 s r (on {q = q} x d (keeps-15 {r₁ = r₁} g e o y) i) =
+    let f = large-first o in
+    let z = swap-trans x y in
+    let w = swap-trans (swap-any x (f .0) .1) (f .1) in
     record {
+      from = length s - length q;
       last = length s - length r₁;
-      value = y .2;
-      number = rw (swap-drop x, swap-drop w) (y .3);
-      rest = y .1;
-      clauses = cs;
-      sheet = rw (swap-take w) d;
+      number = rw (swap-drop x, swap-drop w, swap-drop z) o;
+      begins = begins-at z d;
+      wide = λ t cs c ok.
+          let n = large-never o t in
+          let a = swap-any x (n .byte ∷ n .text) in
+          let b = swap-take (swap-trans (a .1) (n .swap)) in
+          n .never (sheet-fine (n .byte) (n .text) (n .key) c ok (subst (λ (l : List ℕ). Tail (n .byte ∷ n .text) l) (sym b) (tail-swap (a .1))));
     }
-goes-whole s r (full x d e f h) = absurd (omega arith)
+goes-15 s r (full x d e f h i) = absurd (omega arith)
 
-outcome-whole : (s : List ℕ) (k : ℕ) (g : Got (List Clause)) → Each (λ cs m r. SheetReads 32 s cs) (SheetRefuses 32 s) g → outcome (length s) g ≡ refused 15 k → Whole s k
-unfolding outcome
-outcome-whole s k g (gives p) e = let z : _≡_ {A = ℕ} 0 1 = cc in absurd (omega arith)
-outcome-whole s k g (denies {w = w} {r = r} q) e =
-    let i : w ≡ 15 = cc in let j : length s - length r ≡ k = cc in subst (Whole s) j (goes-whole s r (subst (λ (n : ℕ). GoesOn 32 s n r) i (q .goes)))
-
-start-whole : (s : List ℕ) (k : ℕ) → start s ≡ refused 15 k → Whole s k
-unfolding start
-start-whole [] k e = let z : _≡_ {A = ℕ} 7 15 = cc in absurd (omega arith)
-start-whole (b ∷ s) k e = outcome-whole (b ∷ s) k (lines 32 (b ∷ s)) (lines-good 32 (b ∷ s)) e
-
-pub allowed-15 : (s : List ℕ) (k : ℕ) → readSheet s ≡ refused 15 k → Whole s k
-unfolding readSheet
-allowed-15 s k =
-    either (λ x. x ≡ refused 15 k → Whole s k) (ltb 16384 (length s)) (refused 12 0) (start s) (λ h e. let z : _≡_ {A = ℕ} 12 15 = cc in absurd (omega arith)) (λ h e. start-whole s k e)
+pub out-15 : (s : List ℕ) (k : ℕ) → readSheet s ≡ refused 15 k → OutOfRange s k
+out-15 s k e = let q = refusal s 15 k (λ z. omega arith) (λ z. omega arith) e in subst (OutOfRange s) (q .at) (goes-15 s (q .rest) (q .refuses .goes whole))

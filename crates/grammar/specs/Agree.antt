@@ -3,19 +3,19 @@
 use Prim.Native.Nat.{ℕ, zero, suc, _+_, _*_, _-_, _≤_, _<_, max}
 use mathlib.Core.Path.{_≡_, refl, ap, subst, sym, _∙_}
 use mathlib.Core.Logic.{_⊎_, inl, inr, ⊎-elim}
-use mathlib.Core.Bool.{Bool, true, false, _&&_, _||_}
+use mathlib.Core.Bool.{Bool, true, false, _||_}
 use mathlib.Core.List.{List, [], _∷_, _++_}
 use native.Mathlib.Omega.{arith}
 use lib.ListN.{length}
-use lib.Dec.{leb, ltb, eqb}
-use borrow.Author.Tests.{ltb-true, leb-true, leb-false, eqb-true, eqb-false, eq-eqb, ne-eqb, le-leb, lt-leb}
+use lib.Dec.{eqb}
+use borrow.Author.Tests.{eqb-false, eq-eqb, ne-eqb}
 use Rattle.grammar.specs.Grammar.{Form, top, Spaces, none, space, Digits, end, digit, Number, nought, other, Percent, without, sign, Prefix, not, next, finally, globally, prefixByte, prefixed, Reach, U, R, reachByte, reached, Rank, small, Part, word, parens, prefix, one-small, reach, one-until, one-and}
 use Rattle.grammar.specs.Limits.{level, nodes, InRange}
 use Rattle.grammar.specs.Reader.{pick, Got, got, no, Reader, bind, node, skip, expectAt, expect, literal, isDigit, digits, number, percent, Kind, kind, Onward, stop, onward, Deeper, shut, open', chainAt, chainMore, chain, andChain, orChain, byKind, smallAt, smallOf, byOnward, untilAt, untilOf, deeper, smalls, untils, ors}
 use Rattle.grammar.specs.Ends.{Swap, here, there}
-use Rattle.grammar.specs.Each.{Each, gives, denies, each-bind, each-map, each-both, each-node, either, never, skip-spaces, each-digits, each-number, literal-keeps}
+use Rattle.grammar.specs.Each.{Each, gives, denies, each-bind, each-map, each-both, each-node, never, is-digit, literal-keeps}
 use Rattle.grammar.specs.Sound.{nodes-prefix, nodes-reach}
-use Rattle.grammar.specs.Short.{skip-short, Within, Inside, Shrinks, Shrinks₁, inside-within, expect-inside, expect-short, literal-short, digits-short, number-short, percent-short, chain-more-short, ShrinksDeeper, and-short, or-short, small-at-short, small-short, until-more-short, until-short, deeper-short, untils-short}
+use Rattle.grammar.specs.Short.{skip-short, Within, Inside, Shrinks, Shrinks₁, expect-inside, expect-short, literal-short, digits-short, number-short, chain-more-short, ShrinksDeeper, and-short, or-short, small-at-short, until-more-short, deeper-short, untils-short}
 
 ---- Two ends with one first byte.
 pub data SameHead : List ℕ → List ℕ → Type 0 where
@@ -89,9 +89,6 @@ head-not f h i (space {s = s} x) = (32, s, refl, h)
 pub follow-digit : {t : List ℕ} → Follow small t → HeadNot isDigit t
 follow-digit f = head-not isDigit refl (or-false-r (eqb (f .byte) 32) (isDigit (f .byte)) (f .plain)) (f .spaces)
 
-pub is-digit : (b : ℕ) → 48 ≤ b → b ≤ 57 → isDigit b ≡ true
-is-digit b h i = simp (le-leb 48 b h, le-leb b 57 i)
-
 pub digits-stop : (v n c : ℕ) (s : List ℕ) → isDigit c ≡ false → digits v n (c ∷ s) ≡ got v n (c ∷ s)
 unfolding digits
 digits-stop v n c s h = ap (λ (x : Bool). pick x (digits (v * 10 + (c - 48)) n s) (got v n (c ∷ s))) h
@@ -141,7 +138,7 @@ prefix-space next e = omega arith
 prefix-space finally e = omega arith
 prefix-space globally e = omega arith
 
-range-of-prefix : {L : Type 0} (P : L → Type 0) (o : Prefix) (a : Form L) → InRange P (prefixed o a) → InRange P a
+pub range-of-prefix : {L : Type 0} (P : L → Type 0) (o : Prefix) (a : Form L) → InRange P (prefixed o a) → InRange P a
 range-of-prefix P not a x = x
 range-of-prefix P next a x = x
 range-of-prefix P finally a x = x
@@ -155,7 +152,7 @@ reach-goes : (o : Reach) → goes small (reachByte o) ≡ false
 reach-goes U = refl
 reach-goes R = refl
 
-range-of-reach : {L : Type 0} (P : L → Type 0) (o : Reach) (a b : Form L) → InRange P (reached o a b) → InRange P a × InRange P b
+pub range-of-reach : {L : Type 0} (P : L → Type 0) (o : Reach) (a b : Form L) → InRange P (reached o a b) → InRange P a × InRange P b
 range-of-reach P U a b x = x
 range-of-reach P R a b x = x
 
@@ -164,58 +161,6 @@ onward-stop c h =
     let i = or-false-l (eqb c 85 || eqb c 82) (eqb c 32 || isDigit c) h in
     ap (λ (x : Bool). pick x (Onward.reach U) (pick (eqb c 82) (Onward.reach R) stop)) (or-false-l (eqb c 85) (eqb c 82) i)
     ∙ ap (λ (x : Bool). pick x (Onward.reach R) stop) (or-false-r (eqb c 85) (eqb c 82) i)
-
----- A number with its `%`: where it ends.
-abbrev pub restOf : {A : Type 0} → Got A → List ℕ
-restOf (got a n r) = r
-restOf (no w r) = r
-
-abbrev pub tokenEnd : List ℕ → List ℕ
-tokenEnd s = restOf (percent 0 (restOf (number 0 s)))
-
-digits-rest : (v n : ℕ) (s : List ℕ) → Each (λ k m r. restOf (digits v 0 s) ≡ r) (λ w r. Unit {0}) (digits v n s)
-unfolding digits
-digits-rest v n [] = gives refl
-digits-rest v n (b ∷ s) = go (isDigit b) (digits-rest (v * 10 + (b - 48)) n s) where
-  go : (t : Bool) → Each (λ k m r. restOf (digits (v * 10 + (b - 48)) 0 s) ≡ r) (λ w r. Unit {0}) (digits (v * 10 + (b - 48)) n s)
-      → Each (λ k m r. restOf (pick t (digits (v * 10 + (b - 48)) 0 s) (got v 0 (b ∷ s))) ≡ r) (λ w r. Unit {0}) (pick t (digits (v * 10 + (b - 48)) n s) (got v n (b ∷ s)))
-  go true h = h
-  go false h = gives refl
-
-pub number-rest : (n : ℕ) (s : List ℕ) → Each (λ k m r. restOf (number 0 s) ≡ r) (λ w r. Unit {0}) (number n s)
-unfolding number
-number-rest n [] = denies tt
-number-rest n (b ∷ s) = go (eqb b 48) (isDigit b) where
-  go : (t d : Bool) → Each (λ k m r. restOf (pick t (got 0 0 s) (pick d (digits (b - 48) 0 s) (no 13 (b ∷ s)))) ≡ r) (λ w r. Unit {0}) (pick t (got 0 n s) (pick d (digits (b - 48) n s) (no 13 (b ∷ s))))
-  go true d = gives refl
-  go false true = digits-rest (b - 48) n s
-  go false false = denies tt
-
-pub percent-rest : (n : ℕ) (s : List ℕ) → Each (λ p m r. restOf (percent 0 s) ≡ r) (λ w r. Unit {0}) (percent n s)
-unfolding percent
-percent-rest n [] = gives refl
-percent-rest n (b ∷ s) = go (eqb b 37) where
-  go : (t : Bool) → Each (λ p m r. restOf (pick t (got true 0 s) (got false 0 (b ∷ s))) ≡ r) (λ w r. Unit {0}) (pick t (got true n s) (got false n (b ∷ s)))
-  go true = gives refl
-  go false = gives refl
-
-pub percent-length : (s : List ℕ) → length (restOf (percent 0 s)) ≤ length s
-unfolding percent
-percent-length [] = omega arith
-percent-length (b ∷ s) = either (λ g. length (restOf g) ≤ suc (length s)) (eqb b 37) (got true 0 s) (got false 0 (b ∷ s)) (λ e. omega arith) (λ e. omega arith)
-
--- more digits make no smaller number, and no digits the same
-digits-ge : {v k : ℕ} {s r : List ℕ} → Digits v s r k → v ≤ k
-digits-ge end = omega arith
-digits-ge (digit h i x) = let j = digits-ge x in omega arith
-
-pub digits-length : {v k : ℕ} {s r : List ℕ} → Digits v s r k → length r ≤ length s
-digits-length end = omega arith
-digits-length (digit h i x) = let j = digits-length x in omega arith
-
-digits-still : {v k : ℕ} {s r : List ℕ} → Digits v s r k → length s ≤ length r → k ≡ v
-digits-still end h = refl
-digits-still (digit i j x) h = let l = digits-length x in absurd (omega arith)
 
 ---- A chain from its first part on, grouped to the left; lim is a bound on its parts' levels.
 module _ {L : Type 0} (Leaf : List ℕ → List ℕ → L → Type 0) (leafLevel : (s r : List ℕ) (x : L) → Leaf s r x → ℕ) (k : Rank) (c : ℕ) (join : Form L → Form L → Form L) where
@@ -313,27 +258,23 @@ module _ (u u' : List ℕ) (same : SameHead u u') where
   abbrev pub Match₁ : {A : Type 0} → ℕ → A → List ℕ → A → ℕ → List ℕ → Type 0
   Match₁ n a t' a₁ m t = ((a₁ ≡ a) × (n ≡ m) × Near t t') ⊎ Past t
 
-  -- what is refused is behind that byte, or is refused by a limit that F (level, nodes) or G (numbers) excludes; of a number if that byte is its last
+  -- what is refused is behind that byte, or is refused by a limit that F (level, nodes) or G (numbers) excludes
   pub record Fault (F G : Type 0) (w : ℕ) (r : List ℕ) : Type 0 where
     pub past : w ≡ 13 → Past r
     pub over : w ≡ 14 → F → Past r
-    pub wide : w ≡ 15 → G → length u ≤ length r → suc (length (tokenEnd r)) ≡ length u → ⊥
     pub only : F → G → 0 < length u
 
   pub limit : {F G : Type 0} {r : List ℕ} → (F → ⊥) → Fault F G 14 r
-  limit f = record { past = λ e. absurd (omega arith); over = λ e v. absurd (f v); wide = λ e v. absurd (omega arith); only = λ v x. absurd (f v) }
+  limit f = record { past = λ e. absurd (omega arith); over = λ e v. absurd (f v); only = λ v x. absurd (f v) }
 
-  pub range : {F G : Type 0} {r : List ℕ} → 0 < length u → (G → length u ≤ length r → suc (length (tokenEnd r)) ≡ length u → ⊥) → Fault F G 15 r
-  range h g = record { past = λ e. absurd (omega arith); over = λ e v. absurd (omega arith); wide = λ e. g; only = λ v x. h }
-
-  pub out : {F G : Type 0} {r : List ℕ} → (G → ⊥) → Fault F G 15 r
-  out g = record { past = λ e. absurd (omega arith); over = λ e v. absurd (omega arith); wide = λ e v. absurd (g v); only = λ v x. absurd (g x) }
+  pub range : {F G : Type 0} {r : List ℕ} → (G → 0 < length u) → Fault F G 15 r
+  range g = record { past = λ e. absurd (omega arith); over = λ e v. absurd (omega arith); only = λ v x. g x }
 
   pub gone : {F G : Type 0} {w : ℕ} {r : List ℕ} → Past r → Fault F G w r
-  gone h = record { past = λ e. h; over = λ e v. h; wide = λ e v i j. omega arith; only = λ f g. omega arith }
+  gone h = record { past = λ e. h; over = λ e v. h; only = λ f g. omega arith }
 
   pub fault-map : {F F' G G' : Type 0} {w : ℕ} {r : List ℕ} → (F → F') → (G → G') → Fault F' G' w r → Fault F G w r
-  fault-map h k q = record { past = q .past; over = λ e f. q .over e (h f); wide = λ e g. q .wide e (k g); only = λ f g. q .only (h f) (k g) }
+  fault-map h k q = record { past = q .past; over = λ e f. q .over e (h f); only = λ f g. q .only (h f) (k g) }
 
   -- a reader that begins past the byte
   pub beyond : {A : Type 0} {n : ℕ} {a : A} {t' : List ℕ} {F G : Type 0} (c N : ℕ) {g : Got A} → N < length u → Within N g → Each (Match n a c t') (Fault F G) g
@@ -394,39 +335,6 @@ module _ (u u' : List ℕ) (same : SameHead u u') where
   percent-agrees {F} {G} n s s' t' p sign x f =
       let y = step x in
       subst (λ (r : List ℕ). Each (Match₁ n true t') (Fault F G) (percent n r)) (sym (y .1)) (unfold percent in gives (⊎-elim (λ i. inl (refl, refl, i)) (λ i. inr i) (y .2)))
-
-  -- a number that ends with the byte is no larger than that of the grammar
-  digits-least : (v n : ℕ) (s s' t' : List ℕ) (k : ℕ) → Digits v s' t' k → Close s s' → HeadNot isDigit t' → Each (λ k₁ m t. suc (length t) ≡ length u → k₁ ≤ k) (λ w r. Unit {0}) (digits v n s)
-  digits-least v n s s' t' k end (inr h) f = each-digits v n s (λ k₁ t x e. let i = digits-still x (omega arith) in omega arith)
-  digits-least v n s s' t' k end (inl x) f =
-      let y = near-step same x (f .0) (f .1) (f .2) in
-      subst (λ (r : List ℕ). Each (λ k₁ m t. suc (length t) ≡ length u → k₁ ≤ v) (λ w r. Unit {0}) (digits v n r)) (sym (y .1))
-      (subst (Each (λ k₁ m t. suc (length t) ≡ length u → k₁ ≤ v) (λ w r. Unit {0})) (sym (digits-stop v n (f .0) (y .0) (f .3))) (gives (λ e. omega arith)))
-  digits-least v n s s' t' k (digit h i z) (inr p) f = let j = digits-ge (digit h i z) in each-digits v n s (λ k₁ t x e. let i = digits-still x (omega arith) in omega arith)
-  digits-least v n s s' t' k (digit {b = b} {s = s₁'} h i z) (inl x) f =
-      let y = step x in
-      subst (λ (r : List ℕ). Each (λ k₁ m t. suc (length t) ≡ length u → k₁ ≤ k) (λ w r. Unit {0}) (digits v n r)) (sym (y .1))
-      (subst (Each (λ k₁ m t. suc (length t) ≡ length u → k₁ ≤ k) (λ w r. Unit {0})) (sym (digits-on v n b (y .0) (is-digit b h i))) (digits-least (v * 10 + (b - 48)) n (y .0) s₁' t' k z (y .2) f))
-
-  pub number-least : (n : ℕ) (s s' t' : List ℕ) (k : ℕ) → Number s' t' k → Close s s' → HeadNot isDigit t'
-      → Each (λ k₁ m t. length u ≤ length s → suc (length t) ≡ length u → k₁ ≤ k) (λ w r. Unit {0}) (number n s)
-  number-least n s s' t' k z (inr h) f = each-number n s (λ k₁ t x i e. absurd (omega arith)) tt
-  number-least n s s' t' k nought (inl x) f =
-      let y = step x in
-      subst (λ (r : List ℕ). Each (λ k₁ m t. length u ≤ length s → suc (length t) ≡ length u → k₁ ≤ 0) (λ w r. Unit {0}) (number n r)) (sym (y .1))
-      (subst (Each (λ k₁ m t. length u ≤ length s → suc (length t) ≡ length u → k₁ ≤ 0) (λ w r. Unit {0})) (sym (number-nought n (y .0))) (gives (λ i e. omega arith)))
-  number-least n s s' t' k (other {b = b} {s = s₁'} h i z) (inl x) f =
-      let y = step x in
-      subst (λ (r : List ℕ). Each (λ k₁ m t. length u ≤ length s → suc (length t) ≡ length u → k₁ ≤ k) (λ w r. Unit {0}) (number n r)) (sym (y .1))
-      (subst (Each (λ k₁ m t. length u ≤ length s → suc (length t) ≡ length u → k₁ ≤ k) (λ w r. Unit {0})) (sym (number-on n b (y .0) h i))
-      (each-map (digits-least (b - 48) n (y .0) s₁' t' k z (y .2) f) (λ k₁ m t q j. q) (λ w r q. q)))
-
-  pub percent-same : (n : ℕ) (s s' t' : List ℕ) (p : Bool) → Percent s' t' p → Near s s' → HeadNot (λ b. eqb b 37) t' → Each (λ p₁ m t. p₁ ≡ p) (λ w r. Unit {0}) (percent n s)
-  percent-same n s s' t' p without x f =
-      let y = near-step same x (f .0) (f .1) (f .2) in
-      subst (λ (r : List ℕ). Each (λ p₁ m t. p₁ ≡ false) (λ w r. Unit {0}) (percent n r)) (sym (y .1))
-      (subst (Each (λ p₁ m t. p₁ ≡ false) (λ w r. Unit {0})) (sym (percent-stop n (f .0) (y .0) (f .3))) (gives refl))
-  percent-same n s s' t' p sign x f = let y = step x in subst (λ (r : List ℕ). Each (λ p₁ m t. p₁ ≡ true) (λ w r. Unit {0}) (percent n r)) (sym (y .1)) (unfold percent in gives refl)
 
   module _ {L : Type 0} (Leaf : List ℕ → List ℕ → L → Type 0) (leafLevel : (s r : List ℕ) (x : L) → Leaf s r x → ℕ) (leafNodes : L → ℕ) (Ok : L → Type 0) where
     abbrev pub Agrees : Rank → ℕ → Reader (Form L) → Type 0

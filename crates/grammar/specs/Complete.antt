@@ -1,22 +1,23 @@
 -- The reader of a sheet is complete: what is in the grammar and within the limits is accepted as it is there; and a byte refused by 13 has no place.
-use Prim.Native.Nat.{ℕ, zero, suc, _+_, _*_, _-_, _≤_, _<_, max}
+use Prim.Native.Nat.{ℕ, zero, suc, _+_, _-_, _≤_, _<_}
 use mathlib.Core.Path.{_≡_, refl, ap, subst, sym, _∙_}
 use mathlib.Core.Logic.{_⊎_, inl, inr, ⊎-elim}
-use mathlib.Core.Bool.{Bool, true, false, _&&_}
+use mathlib.Core.Bool.{Bool, true}
 use mathlib.Core.List.{List, [], _∷_, _++_}
 use native.Mathlib.Omega.{arith}
-use lib.ListN.{length, take, drop}
+use lib.ListN.{length, take}
 use lib.Dec.{leb, ltb, eqb}
-use borrow.Author.Tests.{ltb-true, ltb-false, leb-true, leb-false, eqb-true, eqb-false, ne-eqb, le-ltb, lt-ltb}
-use Rattle.grammar.specs.Grammar.{Form, top, Spaces, none, space, Digits, Number, nought, other, Percent, without, sign, Rank, small, Part, Mark, mark, Inner, Threshold, counted, Count, count, Clause, Sheet, done, line}
-use Rattle.grammar.specs.Limits.{level, nodes, InRange, markLevel, markNodes, MarkOk, countLevel, countNodes, CountOk, most, Sized, Ranged, Fits}
-use Rattle.grammar.specs.Reader.{pick, Got, got, no, Reader, bind, node, skip, isDigit, expect, digits, number, percent, kind, Kind, ors, markBy, marks, inners, threshold, countBy, counts, clauses, clauseLine, lines, Read, accepted, refused, outcome, start, readSheet}
-use Rattle.grammar.specs.Ends.{Swap, here, there, SameByte, same-byte, swap-short, swap-trans, frame-number, frame-percent, frame-count}
-use Rattle.grammar.specs.Each.{Each, gives, denies, each-bind, each-map, each-both, each-node, either, each-digits, each-percent, number-keeps}
+use borrow.Author.Tests.{ltb-true, leb-false, ne-eqb, le-ltb, lt-ltb}
+use Rattle.grammar.specs.Grammar.{Spaces, Number, nought, other, Percent, without, sign, Rank, Part, Mark, mark, Inner, counted, Count, count, Clause, Sheet, done, line}
+use Rattle.grammar.specs.Limits.{level, nodes, InRange, markLevel, markNodes, MarkOk, countLevel, countNodes, CountOk, most, Sized, Ranged, Fits, FewLines, FewBytes}
+use Rattle.grammar.specs.Reader.{pick, Got, got, no, bind, skip, isDigit, expect, number, percent, ors, markBy, marks, inners, threshold, countBy, counts, clauses, clauseLine, lines, accepted, refused, outcome, start, readSheet}
+use Rattle.grammar.specs.Answers.{Coded, Code, Never, Beyond, Token}
+use Rattle.grammar.specs.Ends.{Swap, here, there, whole, not-near, keeps-near, keeps-13, keeps-14, keeps-15, swap-short, frame-count}
+use Rattle.grammar.specs.Each.{Each, gives, denies, each-bind, each-map, each-both, each-node, either, number-keeps}
 use Rattle.grammar.specs.Sound.{spaces-short, part-short}
-use Rattle.grammar.specs.Accepts.{SheetReads, SheetRefuses, GoesOn, on, full, lines-good, swap-drop}
-use Rattle.grammar.specs.Short.{Code, skip-short, Within, Inside, Shrinks, Shrinks₁, expect-inside, expect-short, percent-short, marks-short, inners-short, threshold-short, counts-short, clauses-short, lines-short}
-use Rattle.grammar.specs.Agree.{SameHead, neither, both, near-step, near-nil, Follow, HeadNot, head-not, follow-digit, Near, Past, Close, token, arrive, Match, Match₁, Fault, limit, range, out, gone, fault-map, beyond, skipped, expect-agrees, number-agrees, percent-agrees, number-least, percent-same, restOf, tokenEnd, number-rest, number-nought, number-on, digits-length, percent-rest, percent-length, Agrees, AgreesLeaf, ors-agrees}
+use Rattle.grammar.specs.Accepts.{GoesOn, on, full, refusal}
+use Rattle.grammar.specs.Short.{skip-short, expect-inside, expect-short, percent-short, marks-short, inners-short, threshold-short, counts-short, lines-short}
+use Rattle.grammar.specs.Agree.{SameHead, neither, both, near-step, near-nil, HeadNot, head-not, follow-digit, Near, Close, token, arrive, Match, Fault, limit, range, gone, fault-map, beyond, skipped, expect-agrees, number-agrees, percent-agrees, Agrees, AgreesLeaf, ors-agrees}
 
 number-head : {s t : List ℕ} {k : ℕ} → Number s t k → HeadNot (λ b. eqb b 32) s
 number-head (nought {r = r}) = (48, r, refl, refl)
@@ -25,14 +26,6 @@ number-head (other {b = b} {s = s} h i x) = (b, s, refl, ne-eqb b 32 (λ e. omeg
 percent-head : {s t r : List ℕ} {p : Bool} → Percent s t p → Spaces t (93 ∷ r) → HeadNot isDigit s
 percent-head without g = head-not isDigit refl refl g
 percent-head (sign {s = s}) g = (37, s, refl, refl)
-
-percent-none : {s t : List ℕ} {p : Bool} → Percent s t p → length s ≤ length t → p ≡ false
-percent-none without h = refl
-percent-none sign h = absurd (omega arith)
-
-most-least : (p : Bool) → most p ≤ 999
-most-least false = omega arith
-most-least true = omega arith
 
 module _ (u u' : List ℕ) (same : SameHead u u') where
   marks-agrees : (l : ℕ) → AgreesLeaf u u' same Mark markLevel markNodes MarkOk l marks
@@ -45,26 +38,21 @@ module _ (u u' : List ℕ) (same : SameHead u u') where
         z .1,
         refl,
         each-bind (number n (z .0)) _
-            (each-map (each-both (each-both (number-agrees u u' same n (z .0) s₁' t' k y (z .2) (follow-digit fo)) (number-keeps n (z .0))) (each-both (number-least u u' same n (z .0) s₁' t' k y (z .2) (follow-digit fo)) (number-rest n (z .0))))
+            (each-map (each-both (number-agrees u u' same n (z .0) s₁' t' k y (z .2) (follow-digit fo)) (number-keeps n (z .0)))
             (λ k₁ m r i.
             ⊎-elim
             (λ g.
             each-node (109 ∷ z .0) m _
             (λ m₁ j. either (Each (Match u u' same n k 1 t') (Fault u u' same ((0 ≤ l) × (1 ≤ n)) (k ≤ 31))) (leb k₁ 31) (got k₁ m₁ r) (no 15 (z .0)) (λ e. gives (inl (g .0, omega (arith, g .1), g .2)))
-            (λ e. denies (out u u' same (λ v. omega (arith, v, g .0, leb-false k₁ 31 e)))))
+            (λ e. denies (range u u' same (λ v. omega (arith, v, g .0, leb-false k₁ 31 e)))))
             (λ j. limit u u' same (λ v. omega (arith, v .1, g .1))))
             (λ g.
             each-node (109 ∷ z .0) m _
             (λ m₁ j. either (Each (Match u u' same n k 1 t') (Fault u u' same ((0 ≤ l) × (1 ≤ n)) (k ≤ 31))) (leb k₁ 31) (got k₁ m₁ r) (no 15 (z .0)) (λ e. gives (inr (skipped u u' same r g)))
-            (λ e. denies (range u u' same (omega arith)
-            (λ v a q.
-            let h₁ = percent-length (restOf (number 0 (z .0))) in
-            let h₂ = ap length (i .1 .1) in
-            let h₃ : k₁ ≤ k = i .1 .0 a (omega arith) in
-            omega (arith, v, leb-false k₁ 31 e)))))
-            (λ j. limit u u' same (λ v. omega (arith, v .1, i .0 .1))))
-            (i .0 .0))
-            (λ w r i. i .0 .0)),
+            (λ e. denies (range u u' same (λ v. omega arith))))
+            (λ j. limit u u' same (λ v. omega (arith, v .1, i .1))))
+            (i .0))
+            (λ w r i. i .0)),
       ))
       (λ z. inr z)
       (token u u' same (λ e. omega arith) near x)
@@ -80,12 +68,12 @@ module _ (u u' : List ℕ) (same : SameHead u u') where
   threshold-agrees {F} {G} a n m s s₄' s₅' s₆' t' k p e f g close h ok =
       let c : ℕ = suc (nodes markNodes a) in
       each-bind (number m s) _
-      (each-map (each-both (number-agrees u u' same m s s₄' s₅' k e close (percent-head f g)) (each-both (number-least u u' same m s s₄' s₅' k e close (percent-head f g)) (number-rest m s)))
+      (each-map (number-agrees u u' same m s s₄' s₅' k e close (percent-head f g))
       (λ k₁ m₁ r i.
       each-bind (percent m₁ r) _
       (⊎-elim
       (λ j.
-      each-map (each-both (percent-agrees u u' same m₁ r s₅' s₆' p f (j .2) (head-not (λ b. eqb b 37) refl refl g)) (percent-same u u' same m₁ r s₅' s₆' p f (j .2) (head-not (λ b. eqb b 37) refl refl g)))
+      each-map (percent-agrees u u' same m₁ r s₅' s₆' p f (j .2) (head-not (λ b. eqb b 37) refl refl g))
       (λ p₁ m₂ r₂ x.
       either (Each (Match u u' same n (counted a k p) c t') (Fault u u' same F G)) (leb k₁ (most p₁)) (expect 93 (counted a k₁ p₁) m₂ r₂) (no 15 s)
       (λ q.
@@ -95,26 +83,18 @@ module _ (u u' : List ℕ) (same : SameHead u u') where
       (λ v m₃ r₃ z. ⊎-elim (λ w. inl ((let kk = j .0 in let pp = y .0 in let vv = w .0 in cc), omega (arith, j .1, y .1, w .1), w .2)) (λ w. inr (skipped u u' same r₃ w)) z)
       (λ w r₃ z. z))
       (λ y. let o = skip-short r₂ in beyond u u' same c (length r₂) y (expect-short 93 (counted a k₁ p₁) (length r₂) m₂ r₂ o))
-      (x .0))
-      (λ q. denies (out u u' same (λ v. omega (arith, ok v, j .0, ap most (x .1), leb-false k₁ (most p₁) q)))))
-      (λ w r₂ x. x .0))
+      x)
+      (λ q. denies (range u u' same (λ v. ⊎-elim (λ y. omega (arith, ok v, j .0, ap most (y .0), leb-false k₁ (most p₁) q)) (λ y. omega arith) x))))
+      (λ w r₂ x. x))
       (λ j.
-      each-map (each-both (percent-short (length r) m₁ r (omega arith)) (each-both (percent-rest m₁ r) (each-percent {P = λ b m₂ r₁. Percent r r₁ b} {Q = λ w r. Unit {0}} m₁ r (λ b r₁ x. x))))
+      each-map (percent-short (length r) m₁ r (omega arith))
       (λ p₁ m₂ r₂ x.
       either (Each (Match u u' same n (counted a k p) c t') (Fault u u' same F G)) (leb k₁ (most p₁)) (expect 93 (counted a k₁ p₁) m₂ r₂) (no 15 s)
-      (λ q. let o = skip-short r₂ in let o₂ = x .0 in beyond u u' same c (length r) j (expect-short 93 (counted a k₁ p₁) (length r) m₂ r₂ (omega arith)))
-      (λ q. denies (range u u' same (omega arith)
-      (λ v b o.
-      let h₁ = ap (λ (y : List ℕ). length (restOf (percent 0 y))) (i .1 .1) in
-      let h₂ = ap length (x .1 .0) in
-      let h₃ = x .0 in
-      let h₄ : k₁ ≤ k = i .1 .0 b (omega arith) in
-      let h₅ : most p₁ ≡ 999 = ap most (percent-none {s = r} {t = r₂} (x .1 .1) (omega arith)) in
-      let h₆ = most-least p in
-      omega (arith, ok v, leb-false k₁ (most p₁) q)))))
+      (λ q. let o = skip-short r₂ in beyond u u' same c (length r) j (expect-short 93 (counted a k₁ p₁) (length r) m₂ r₂ (omega arith)))
+      (λ q. denies (range u u' same (λ v. omega arith))))
       (λ w r₂ x. let h = x .0 in gone u u' same (omega arith)))
-      (i .0)))
-      (λ w r i. i .0))
+      i))
+      (λ w r i. i))
 
   bracket-agrees : (l n : ℕ) (t s₁' s₂' s₃' s₄' s₅' s₆' t' : List ℕ) (a : Inner) (k : ℕ) (p : Bool) (i : Part Mark Rank.ors s₁' s₂' a)
       → Spaces s₂' (44 ∷ s₃') → Spaces s₃' s₄' → Number s₄' s₅' k → Percent s₅' s₆' p → Spaces s₆' (93 ∷ t') → Close u u' same t s₁'
@@ -222,26 +202,26 @@ module _ (u u' : List ℕ) (same : SameHead u u') where
       (λ w r z. fault-map u u' same (λ o. (o .0 .0, o .0 .1)) (λ o. o .0) z))))
 
 ---- (b) A sheet of the grammar that is within the limits is accepted, and as it is there.
-whole : (s : List ℕ) → Swap [] [] s s
-whole [] = here
-whole (b ∷ s) = there (whole s)
+itself : (s : List ℕ) → Swap [] [] s s
+itself [] = here
+itself (b ∷ s) = there (itself s)
 
-outcome-complete : (s : List ℕ) (cs : List Clause) (d : Sheet s cs) (len : ℕ) (g : Got (List Clause)) → Reading [] [] neither 32 s cs d g → Fits d → length cs ≤ 32 → outcome len g ≡ accepted cs
+outcome-complete : (s : List ℕ) (cs : List Clause) (d : Sheet s cs) (len : ℕ) (g : Got (List Clause)) → Reading [] [] neither 32 s cs d g → Fits d → FewLines cs → outcome len g ≡ accepted cs
 unfolding outcome
 outcome-complete s cs d len g (gives {a = x} p) f h = ⊎-elim (λ e. ap accepted e) (λ e. absurd (omega arith)) p
 outcome-complete s cs d len g (denies q) f h = let z = q .only (f .0, h) (f .1) in absurd (omega arith)
 
-start-complete : (s : List ℕ) (cs : List Clause) (d : Sheet s cs) → Fits d → length cs ≤ 32 → 0 < length s → start s ≡ accepted cs
+start-complete : (s : List ℕ) (cs : List Clause) (d : Sheet s cs) → Fits d → FewLines cs → 0 < length s → start s ≡ accepted cs
 unfolding start
 start-complete [] cs d f h i = absurd (omega arith)
-start-complete (b ∷ s) cs d f h i = outcome-complete (b ∷ s) cs d (length (b ∷ s)) (lines 32 (b ∷ s)) (lines-agrees [] [] neither 32 (b ∷ s) (b ∷ s) cs d (whole (b ∷ s))) f h
+start-complete (b ∷ s) cs d f h i = outcome-complete (b ∷ s) cs d (length (b ∷ s)) (lines 32 (b ∷ s)) (lines-agrees [] [] neither 32 (b ∷ s) (b ∷ s) cs d (itself (b ∷ s))) f h
 
-pub complete : (s : List ℕ) (cs : List Clause) (d : Sheet s cs) → Fits d → length cs ≤ 32 → 0 < length s → length s ≤ 16384 → readSheet s ≡ accepted cs
+pub complete : (s : List ℕ) (cs : List Clause) (d : Sheet s cs) → Fits d → FewLines cs → 0 < length s → FewBytes s → readSheet s ≡ accepted cs
 unfolding readSheet
 complete s cs d f h i j = ap (λ (x : Bool). pick x (refused 12 0) (start s)) (le-ltb 16384 (length s) j) ∙ start-complete s cs d f h i
 
 -- so a sheet within the limits means one thing
-pub unambiguous : (s : List ℕ) (cs cs' : List Clause) (d : Sheet s cs) (e : Sheet s cs') → Fits d → Fits e → length cs ≤ 32 → length cs' ≤ 32 → 0 < length s → length s ≤ 16384 → cs ≡ cs'
+pub unambiguous : (s : List ℕ) (cs cs' : List Clause) (d : Sheet s cs) (e : Sheet s cs') → Fits d → Fits e → FewLines cs → FewLines cs' → 0 < length s → FewBytes s → cs ≡ cs'
 unambiguous s cs cs' d e f g h i j k = let x = complete s cs d f h j k in let y = complete s cs' e g i j k in cc
 
 ---- With a byte that is refused by 13 no sheet of the grammar goes on, and with one refused by 14 none within the limits.
@@ -254,10 +234,10 @@ swap-on {b} {w} (there {c = c} {s = s} y) x =
 
 pub record Refused (s : List ℕ) (k w : ℕ) : Type 0 where
   -- no sheet of the grammar begins with the first k bytes and the byte at k; nor is this text one
-  pub stuck : w ≡ 13 → k < length s → (t : List ℕ) (cs : List Clause) → Sheet (take (suc k) s ++ t) cs → ⊥
+  pub stuck : w ≡ 13 → k < length s → Never (take (suc k) s)
   pub ends : w ≡ 13 → (cs : List Clause) → Sheet s cs → ⊥
   -- none that is within the limits on levels, nodes and lines does
-  pub over : w ≡ 14 → (t : List ℕ) (cs : List Clause) (d : Sheet (take (suc k) s ++ t) cs) → Sized d → length cs ≤ 32 → ⊥
+  pub over : w ≡ 14 → Beyond (take (suc k) s)
   pub there : w ≡ 14 → k < length s
 
 denied : {A : Type 0} {P : A → ℕ → List ℕ → Type 0} {Q : ℕ → List ℕ → Type 0} {w : ℕ} {r : List ℕ} → Each P Q (no w r) → Q w r
@@ -265,7 +245,7 @@ denied (denies q) = q
 
 none-of : (s : List ℕ) (w : ℕ) (r : List ℕ) → lines 32 s ≡ no w r → w ≡ 13 → (cs : List Clause) → Sheet s cs → ⊥
 none-of s w r e i cs d =
-    let y : Reading [] [] neither 32 s cs d (no w r) = subst (Reading [] [] neither 32 s cs d) e (lines-agrees [] [] neither 32 s s cs d (whole s)) in
+    let y : Reading [] [] neither 32 s cs d (no w r) = subst (Reading [] [] neither 32 s cs d) e (lines-agrees [] [] neither 32 s s cs d (itself s)) in
     let z = denied y .past i in
     omega arith
 
@@ -282,160 +262,39 @@ at-byte s w (b ∷ q) e v t x f = record {
       let s' : List ℕ = take (suc (length s - length (b ∷ q))) s ++ y in
       subst (Reading (b ∷ q) (b ∷ y) both 32 s' cs d) e (lines-agrees (b ∷ q) (b ∷ y) both 32 s s' cs d (swap-on x y))
 
-same-some : {r v : List ℕ} → SameByte r v → 0 < length r
-same-some same-byte = omega arith
+token-some : {r r₁ : List ℕ} → Token r r₁ → 0 < length r
+token-some Token.word = omega arith
+token-some (Token.mark y) = omega arith
+token-some Token.paren = omega arith
+token-some Token.bracket = omega arith
+token-some (Token.prefix o) = omega arith
+token-some (Token.reach o) = omega arith
+token-some Token.and = omega arith
+token-some Token.or = omega arith
 
-goes-refused : (s : List ℕ) (w : ℕ) (r : List ℕ) → lines 32 s ≡ no w r → GoesOn 32 s w r → Refused s (length s - length r) w
-goes-refused s w r e (on {v = v} {s' = t} x d z) = at-byte s w r e v t x (λ i. same-some (z .0 i))
-goes-refused s w r e (full {s' = t} x d h i j) = at-byte s w r e [] t x (λ i. j)
+goes-refused : (s : List ℕ) (w : ℕ) (r : List ℕ) → (w ≡ 15 → ⊥) → lines 32 s ≡ no w r → GoesOn whole 32 s w r → Refused s (length s - length r) w
+goes-refused s w r h e (on x d (keeps-near i) o) = not-near i
+goes-refused s w r h e (on {v = v} {s' = t} x d (keeps-13 i) a) = at-byte s w r e v t x (λ j. omega arith)
+goes-refused s w r h e (on {v = v} {s' = t} x d (keeps-14 i o y) a) = at-byte s w r e v t x (λ j. token-some o)
+goes-refused s w r h e (on x d (keeps-15 m i o y) a) = absurd (h i)
+goes-refused s w r h e (full {s' = t} x d i j k a) = at-byte s w r e [] t x (λ i. k)
 
-outcome-refused : (s : List ℕ) (k w : ℕ) (g : Got (List Clause)) → lines 32 s ≡ g → Each (λ cs m r. SheetReads 32 s cs) (SheetRefuses 32 s) g → outcome (length s) g ≡ refused w k → Refused s k w
-unfolding outcome
-outcome-refused s k w g e (gives p) h = let z : _≡_ {A = ℕ} 0 1 = cc in absurd (omega arith)
-outcome-refused s k w g e (denies {w = w₁} {r = r} q) h =
-    let i : w ≡ w₁ = cc in
-    let j : length s - length r ≡ k = cc in
-    subst (λ (n : ℕ). Refused s n w) j (subst (λ (n : ℕ). Refused s (length s - length r) n) (sym i) (goes-refused s w₁ r e (q .goes)))
-
-start-refused : (s : List ℕ) (k w : ℕ) → (w ≡ 7 → ⊥) → start s ≡ refused w k → Refused s k w
-unfolding start
-start-refused [] k w h e = absurd (h (cc))
-start-refused (b ∷ s) k w h e = outcome-refused (b ∷ s) k w (lines 32 (b ∷ s)) refl (lines-good 32 (b ∷ s)) e
-
-pub read-refused : (s : List ℕ) (k w : ℕ) → (w ≡ 7 → ⊥) → (w ≡ 12 → ⊥) → readSheet s ≡ refused w k → Refused s k w
-unfolding readSheet
-read-refused s k w h i = either (λ x. x ≡ refused w k → Refused s k w) (ltb 16384 (length s)) (refused 12 0) (start s) (λ q e. absurd (i (cc))) (λ q e. start-refused s k w h e)
+refused-at : (s : List ℕ) (w k : ℕ) → (w ≡ 7 → ⊥) → (w ≡ 12 → ⊥) → (w ≡ 15 → ⊥) → readSheet s ≡ refused w k → Refused s k w
+refused-at s w k h i j e = let q = refusal s w k h i e in subst (λ (n : ℕ). Refused s n w) (q .at) (goes-refused s w (q .rest) j (q .read) (q .refuses .goes whole))
 
 -- (c) the other half: no sheet of the grammar begins with the bytes up to one that is refused by 13; at the text's end, the text is none.
-pub stuck-13 : (s : List ℕ) (k : ℕ) → readSheet s ≡ refused 13 k → (k < length s → (t : List ℕ) (cs : List Clause) → Sheet (take (suc k) s ++ t) cs → ⊥) × ((cs : List Clause) → Sheet s cs → ⊥)
-stuck-13 s k e = let r = read-refused s k 13 (λ z. omega arith) (λ z. omega arith) e in (r .stuck refl, r .ends refl)
+pub stuck-13 : (s : List ℕ) (k : ℕ) → readSheet s ≡ refused 13 k → (k < length s → Never (take (suc k) s)) × ((cs : List Clause) → Sheet s cs → ⊥)
+stuck-13 s k e = let r = refused-at s 13 k (λ z. omega arith) (λ z. omega arith) (λ z. omega arith) e in (r .stuck refl, r .ends refl)
 
 -- (d) no sheet within the limits on levels, nodes and lines begins with the bytes up to one that is refused by 14.
-pub over-14 : (s : List ℕ) (k : ℕ) → readSheet s ≡ refused 14 k → (k < length s) × ((t : List ℕ) (cs : List Clause) (d : Sheet (take (suc k) s ++ t) cs) → Sized d → length cs ≤ 32 → ⊥)
-over-14 s k e = let r = read-refused s k 14 (λ z. omega arith) (λ z. omega arith) e in (r .there refl, r .over refl)
-
----- A number refused by 15.
-swap-last : {w v s t : List ℕ} → Swap w v s t → length w < length s → (c : ℕ) × (v' t' : List ℕ) × Swap (c ∷ w) v' s t'
-swap-last here h = absurd (omega arith)
-swap-last {w} (there {c = c} here) h = (c, c ∷ w, c ∷ w, here)
-swap-last {w} (there {c = c} (there {c = d} {s = s} x)) h =
-    let i = swap-short x in let j : length w < suc (length s) = omega arith in let y = swap-last (there {c = d} x) j in (y .0, y .1, c ∷ y .2, there (y .3))
-
--- an end of an end
-end-in : {u v s t u₁ v₁ s₁ : List ℕ} → Swap u v s t → Swap u₁ v₁ u s₁ → (v₂ t₂ : List ℕ) × Swap u₁ v₂ s t₂
-end-in {v₁ = v₁} {s₁ = s₁} here b = (v₁, s₁, b)
-end-in (there {c = c} a) b = let y = end-in a b in (y .0, c ∷ y .1, there (y .2))
-
-digits-got : {v : ℕ} {s : List ℕ} (g : Got ℕ) → Each (λ k m r. Digits v s r k) (λ w r. ⊥) g → (r : List ℕ) × (k : ℕ) × Digits v s r k × (restOf g ≡ r)
-digits-got g (gives {a = k} {r = r} p) = (r, k, p, refl)
-digits-got g (denies q) = absurd q
-
-percent-got : {s : List ℕ} (g : Got Bool) → Each (λ p m r. Percent s r p) (λ w r. ⊥) g → (r : List ℕ) × (p : Bool) × Percent s r p × (restOf g ≡ r)
-percent-got g (gives {a = k} {r = r} p) = (r, k, p, refl)
-percent-got g (denies q) = absurd q
-
--- where a number stands, one is read
-number-got : {s r : List ℕ} {k : ℕ} → Number s r k → (r₁ : List ℕ) × (k₁ : ℕ) × Number s r₁ k₁ × (restOf (number 0 s) ≡ r₁)
-number-got (nought {r = r}) = (r, 0, nought, ap restOf (number-nought 0 r))
-number-got (other {b = b} {s = s} h i x) =
-    let y = digits-got (digits (b - 48) 0 s) (each-digits (b - 48) 0 s (λ k r z. z)) in (y .0, y .1, other h i (y .2), ap restOf (number-on 0 b s h i) ∙ y .3)
-
-number-shorter : {s r : List ℕ} {k : ℕ} → Number s r k → length r < length s
-number-shorter nought = omega arith
-number-shorter (other h i x) = let j = digits-length x in omega arith
-
--- the number that stands at the beginning of a text, with its `%`
-record Token (s : List ℕ) : Type 0 where
-  middle : List ℕ
-  value : ℕ
-  sign : Bool
-  number : Number s middle value
-  percent : Percent middle (tokenEnd s) sign
-
-token-of : {s r : List ℕ} {k : ℕ} → Number s r k → Token s
-token-of {s} x =
-    let y = number-got x in
-    let z = percent-got (percent 0 (y .0)) (each-percent 0 (y .0) (λ p r w. w)) in
-    let e : z .0 ≡ tokenEnd s = sym (ap (λ (l : List ℕ). restOf (percent 0 l)) (y .3) ∙ z .3) in
-    record { middle = y .0; value = y .1; sign = z .1; number = y .2; percent = subst (λ (l : List ℕ). Percent (y .0) l (z .1)) e (z .2) }
-
--- from k on stands a number, with its `%` if it has one, up to `last`: no sheet whose numbers are in range begins with the bytes up to there
-pub record TooLarge (s : List ℕ) (k : ℕ) : Type 0 where
-  pub middle : ℕ
-  pub last : ℕ
-  pub value : ℕ
-  pub sign : Bool
-  pub number : Number (drop k s) (drop middle s) value
-  pub percent : Percent (drop middle s) (drop last s) sign
-  pub later : k < last
-  pub inside : last ≤ length s
-  pub wide : (t : List ℕ) (cs : List Clause) (d : Sheet (take last s ++ t) cs) → Ranged d → ⊥
-
-at-number : (s r : List ℕ) → lines 32 s ≡ no 15 r → (v t : List ℕ) → Swap r v s t → (r₁ : List ℕ) (k : ℕ) → Number r r₁ k → TooLarge s (length s - length r)
-at-number s r e v t x r₁ k y =
-    let o = token-of y in
-    let w : List ℕ = tokenEnd r in
-    let a = frame-percent (o .percent) [] in
-    let b = frame-number (o .number) (a .0) in
-    let h₁ = number-shorter (o .number) in
-    let h₂ = swap-short (a .1) in
-    let h₃ : length w < length r = omega arith in
-    let l = swap-last (swap-trans (b .1) (a .1)) h₃ in
-    let c : ℕ = l .0 in
-    let x₁ = end-in x (l .3) in
-    let x₂ = end-in x (swap-trans (b .1) (a .1)) in
-    let x₃ = end-in x (b .1) in
-    let h₄ = swap-short x in
-    let h₅ = swap-short (x₁ .2) in
-    let i : suc (length s - length (c ∷ w)) ≡ length s - length w = omega arith in
-    record {
-      middle = length s - length (o .middle);
-      last = length s - length w;
-      value = o .value;
-      sign = o .sign;
-      number = rw (swap-drop x, swap-drop (x₃ .2)) (o .number);
-      percent = rw (swap-drop (x₃ .2), swap-drop (x₂ .2)) (o .percent);
-      later = omega arith;
-      inside = omega arith;
-      wide = λ q cs d f.
-          let s' : List ℕ = take (length s - length w) s ++ q in
-          let near : Swap (c ∷ w) (c ∷ q) s s' = subst (λ (n : ℕ). Swap (c ∷ w) (c ∷ q) s (take n s ++ q)) i (swap-on (x₁ .2) q) in
-          let p : Reading (c ∷ w) (c ∷ q) both 32 s' cs d (no 15 r) = subst (Reading (c ∷ w) (c ∷ q) both 32 s' cs d) e (lines-agrees (c ∷ w) (c ∷ q) both 32 s s' cs d near) in
-          denied p .wide refl f (omega arith) refl;
-    }
-
-goes-large : (s r : List ℕ) → lines 32 s ≡ no 15 r → GoesOn 32 s 15 r → TooLarge s (length s - length r)
-goes-large s r e (on {v = v} {s' = t} x d z) = let y = z .1 refl in at-number s r e v t x (y .0) (y .2) (y .3)
-goes-large s r e (full x d h i j) = absurd (omega arith)
-
-outcome-large : (s : List ℕ) (k : ℕ) (g : Got (List Clause)) → lines 32 s ≡ g → Each (λ cs m r. SheetReads 32 s cs) (SheetRefuses 32 s) g → outcome (length s) g ≡ refused 15 k → TooLarge s k
-unfolding outcome
-outcome-large s k g e (gives p) h = let z : _≡_ {A = ℕ} 0 1 = cc in absurd (omega arith)
-outcome-large s k g e (denies {w = w} {r = r} q) h =
-    let i : w ≡ 15 = cc in
-    let j : length s - length r ≡ k = cc in
-    subst (TooLarge s) j (goes-large s r (e ∙ ap (λ (n : ℕ). no n r) i) (subst (λ (n : ℕ). GoesOn 32 s n r) i (q .goes)))
-
-start-large : (s : List ℕ) (k : ℕ) → start s ≡ refused 15 k → TooLarge s k
-unfolding start
-start-large [] k e = let z : _≡_ {A = ℕ} 7 15 = cc in absurd (omega arith)
-start-large (b ∷ s) k e = outcome-large (b ∷ s) k (lines 32 (b ∷ s)) refl (lines-good 32 (b ∷ s)) e
-
--- (e) no sheet whose numbers are in range begins with the bytes up to the end of a number that is refused by 15.
-pub large-15 : (s : List ℕ) (k : ℕ) → readSheet s ≡ refused 15 k → TooLarge s k
-unfolding readSheet
-large-15 s k =
-    either (λ x. x ≡ refused 15 k → TooLarge s k) (ltb 16384 (length s)) (refused 12 0) (start s) (λ q e. let z : _≡_ {A = ℕ} 12 15 = cc in absurd (omega arith)) (λ q e. start-large s k e)
+pub over-14 : (s : List ℕ) (k : ℕ) → readSheet s ≡ refused 14 k → (k < length s) × Beyond (take (suc k) s)
+over-14 s k e = let r = refused-at s 14 k (λ z. omega arith) (λ z. omega arith) (λ z. omega arith) e in (r .there refl, r .over refl)
 
 ---- No other refusals.
 outcome-code : (len w k : ℕ) (g : Got (List Clause)) (N : ℕ) → Each (λ cs m r. Unit {0}) (λ v r. (length r ≤ N) × Code v) g → outcome len g ≡ refused w k → Code w
 unfolding outcome
 outcome-code len w k g N (gives p) e = let z : _≡_ {A = ℕ} 0 1 = cc in absurd (omega arith)
 outcome-code len w k g N (denies {w = v} q) e = let i : v ≡ w = cc in subst Code i (q .1)
-
--- 12 for what is too long, before all else; 7 for the empty sheet; else 13, 14 or 15
-abbrev pub Coded : List ℕ → ℕ → ℕ → Type 0
-Coded s w k = ((w ≡ 12) × (k ≡ 0) × (16384 < length s)) ⊎ (((w ≡ 7) × (k ≡ 0) × (length s ≡ 0)) ⊎ Code w)
 
 start-code : (s : List ℕ) (w k : ℕ) → start s ≡ refused w k → Coded s w k
 unfolding start
@@ -446,8 +305,8 @@ pub codes : (s : List ℕ) (w k : ℕ) → readSheet s ≡ refused w k → Coded
 unfolding readSheet
 codes s w k =
     either (λ x. x ≡ refused w k → Coded s w k) (ltb 16384 (length s)) (refused 12 0) (start s)
-    (λ h e. let i : 12 ≡ w = cc in let j : 0 ≡ k = cc in inl (sym i, sym j, ltb-true 16384 (length s) h)) (λ h e. start-code s w k e)
+    (λ h e. let i : 12 ≡ w = cc in let j : 0 ≡ k = cc in let l = ltb-true 16384 (length s) h in inl (sym i, sym j, λ f. omega arith)) (λ h e. start-code s w k e)
 
-pub long-12 : (s : List ℕ) → 16384 < length s → readSheet s ≡ refused 12 0
+pub long-12 : (s : List ℕ) → (FewBytes s → ⊥) → readSheet s ≡ refused 12 0
 unfolding readSheet
-long-12 s h = ap (λ (x : Bool). pick x (refused 12 0) (start s)) (lt-ltb 16384 (length s) h)
+long-12 s h = ap (λ (x : Bool). pick x (refused 12 0) (start s)) (lt-ltb 16384 (length s) (omega arith))

@@ -1,14 +1,15 @@
 -- What holds of each outcome of a reading, and of the small readers' outcomes.
-use Prim.Native.Nat.{ℕ, zero, suc, _+_, _*_, _-_, _≤_, _<_}
+use Prim.Native.Nat.{ℕ, zero, suc, _+_, _*_, _-_, _≤_}
 use mathlib.Core.Path.{_≡_, refl, ap, subst, sym, _∙_}
 use mathlib.Core.Bool.{Bool, true, false, _&&_}
 use mathlib.Core.List.{List, [], _∷_, _++_}
 use native.Mathlib.Omega.{arith}
 use lib.ListN.{length}
-use lib.Dec.{leb, ltb, eqb}
-use borrow.Author.Tests.{ltb-true, leb-true, leb-false, eqb-true, eqb-false}
+use lib.Dec.{leb, eqb}
+use borrow.Author.Tests.{leb-true, le-leb, eqb-true, eqb-false}
 use Rattle.grammar.specs.Grammar.{Spaces, none, space, Digits, end, digit, Number, nought, other, Percent, without, sign}
 use Rattle.grammar.specs.Reader.{pick, Got, got, no, Reader, bind, node, skip, expectAt, expect, literal, isDigit, digits, number, percent}
+use Rattle.grammar.specs.Answers.{WholeNumber, WholePercent}
 use Rattle.grammar.specs.Ends.{Swap, here, there}
 
 pub data Each {A : Type 0} (P : A → ℕ → List ℕ → Type 0) (Q : ℕ → List ℕ → Type 0) : Got A → Type 0 where
@@ -77,33 +78,71 @@ module _ {A : Type 0} {P : A → ℕ → List ℕ → Type 0} {Q : ℕ → List 
       (λ r k. z r (λ t. let x = k t in (x .0, subst (λ (i : ℕ). Swap r (x .0) (b ∷ s) (i ∷ w ++ t)) h (there (x .1))))))
       (λ e. denies (z (b ∷ s) (λ t. (c ∷ w ++ t, here))))
 
+pub digits-length : {v k : ℕ} {s r : List ℕ} → Digits v s r k → length r ≤ length s
+digits-length end = omega arith
+digits-length (digit h i x) = let j = digits-length x in omega arith
+
+pub is-digit : (b : ℕ) → 48 ≤ b → b ≤ 57 → isDigit b ≡ true
+is-digit b h i = simp (le-leb 48 b h, le-leb b 57 i)
+
+-- no digits from s on leave less than r
+abbrev Furthest : ℕ → List ℕ → List ℕ → Type 0
+Furthest v s r = (r' : List ℕ) (k' : ℕ) → Digits v s r' k' → length r ≤ length r'
+
+digits-on-far : {v b k' : ℕ} {s r' : List ℕ} (r : List ℕ) → length r ≤ length s → Furthest (v * 10 + (b - 48)) s r → Digits v (b ∷ s) r' k' → length r ≤ length r'
+digits-on-far r h f end = omega arith
+digits-on-far r h f (digit i j x) = f _ _ x
+
+digits-stop-far : {v b k' : ℕ} {s r' : List ℕ} → isDigit b ≡ false → Digits v (b ∷ s) r' k' → length (b ∷ s) ≤ length r'
+digits-stop-far e end = omega arith
+digits-stop-far {b = b} e (digit i j x) = never (sym e ∙ is-digit b i j)
+
+nought-far : {k' : ℕ} {s r' : List ℕ} → Number (48 ∷ s) r' k' → length s ≤ length r'
+nought-far nought = omega arith
+nought-far (other h i x) = absurd (omega arith)
+
+other-far : {b k' : ℕ} {s r' : List ℕ} (r : List ℕ) → (b ≡ 48 → ⊥) → Furthest (b - 48) s r → Number (b ∷ s) r' k' → length r ≤ length r'
+other-far r h f nought = absurd (h refl)
+other-far r h f (other i j x) = f _ _ x
+
+sign-far : {p' : Bool} {s r' : List ℕ} → Percent (37 ∷ s) r' p' → length s ≤ length r'
+sign-far without = omega arith
+sign-far sign = omega arith
+
+without-far : {b : ℕ} {p' : Bool} {s r' : List ℕ} → (b ≡ 37 → ⊥) → Percent (b ∷ s) r' p' → length (b ∷ s) ≤ length r'
+without-far h without = omega arith
+without-far h sign = absurd (h refl)
+
 module _ {P : ℕ → ℕ → List ℕ → Type 0} {Q : ℕ → List ℕ → Type 0} where
-  pub each-digits : (v n : ℕ) (s : List ℕ) → ((k : ℕ) (r : List ℕ) → Digits v s r k → P k n r) → Each P Q (digits v n s)
+  each-digits : (v n : ℕ) (s : List ℕ) → ((k : ℕ) (r : List ℕ) → Digits v s r k → Furthest v s r → P k n r) → Each P Q (digits v n s)
   unfolding digits
-  each-digits v n [] y = gives (y v [] end)
+  each-digits v n [] y = gives (y v [] end (λ r' k' x. omega arith))
   each-digits v n (b ∷ s) y =
       either (Each P Q) (isDigit b) (digits (v * 10 + (b - 48)) n s) _
-      (λ e. each-digits (v * 10 + (b - 48)) n s (λ k r x. y k r (digit (leb-true 48 b (both-left (leb 48 b) (leb b 57) e)) (leb-true b 57 (both-right (leb 48 b) (leb b 57) e)) x)))
-      (λ e. gives (y v (b ∷ s) end))
+      (λ e. each-digits (v * 10 + (b - 48)) n s
+      (λ k r x f. y k r (digit (leb-true 48 b (both-left (leb 48 b) (leb b 57) e)) (leb-true b 57 (both-right (leb 48 b) (leb b 57) e)) x) (λ r' k' z. digits-on-far r (digits-length x) f z)))
+      (λ e. gives (y v (b ∷ s) end (λ r' k' z. digits-stop-far e z)))
 
-  pub each-number : (n : ℕ) (s : List ℕ) → ((k : ℕ) (r : List ℕ) → Number s r k → P k n r) → Q 13 s → Each P Q (number n s)
+  pub each-number : (n : ℕ) (s : List ℕ) → ((k : ℕ) (r : List ℕ) → WholeNumber s r k → P k n r) → Q 13 s → Each P Q (number n s)
   unfolding number
   each-number n [] y z = denies z
   each-number n (b ∷ s) y z =
       either (Each P Q) (eqb b 48) _ _
-      (λ e. gives (y 0 s (subst (λ (x : ℕ). Number (x ∷ s) s 0) (sym (eqb-true b 48 e)) nought)))
+      (λ e. gives (y 0 s (subst (λ (x : ℕ). WholeNumber (x ∷ s) s 0) (sym (eqb-true b 48 e)) (record { number = nought; longest = λ r' k' x. nought-far x }))))
       (λ e. either (Each P Q) (isDigit b) (digits (b - 48) n s) _
       (λ d. let h = leb-true 48 b (both-left (leb 48 b) (leb b 57) d) in
       let i = leb-true b 57 (both-right (leb 48 b) (leb b 57) d) in
       let j = eqb-false b 48 e in
-      each-digits (b - 48) n s (λ k r x. y k r (other (omega arith) i x)))
+      each-digits (b - 48) n s (λ k r x f. y k r (record { number = other (omega arith) i x; longest = λ r' k' w. other-far r j f w })))
       (λ d. denies z))
 
-pub each-percent : {P : Bool → ℕ → List ℕ → Type 0} {Q : ℕ → List ℕ → Type 0} (n : ℕ) (s : List ℕ) → ((p : Bool) (r : List ℕ) → Percent s r p → P p n r) → Each P Q (percent n s)
+pub each-percent : {P : Bool → ℕ → List ℕ → Type 0} {Q : ℕ → List ℕ → Type 0} (n : ℕ) (s : List ℕ) → ((p : Bool) (r : List ℕ) → WholePercent s r p → P p n r) → Each P Q (percent n s)
 unfolding percent
-each-percent n [] y = gives (y false [] without)
+each-percent n [] y = gives (y false [] (record { percent = without; longest = λ r' p' x. omega arith }))
 each-percent {P} {Q} n (b ∷ s) y =
-    either (Each P Q) (eqb b 37) _ _ (λ e. gives (y true s (subst (λ (x : ℕ). Percent (x ∷ s) s true) (sym (eqb-true b 37 e)) sign))) (λ e. gives (y false (b ∷ s) without))
+    either (Each P Q) (eqb b 37) _ _
+    (λ e. gives (y true s (subst (λ (x : ℕ). WholePercent (x ∷ s) s true) (sym (eqb-true b 37 e)) (record { percent = sign; longest = λ r' p' x. sign-far x }))))
+    (λ e. gives (y false (b ∷ s) (record { percent = without; longest = λ r' p' x. without-far (eqb-false b 37 e) x })))
 
 -- these count no nodes
 pub literal-keeps : {A : Type 0} (w : List ℕ) (a : A) (n : ℕ) (s : List ℕ) → Each (λ a₁ m r. n ≡ m) (λ k r. Unit {0}) (literal w a n s)

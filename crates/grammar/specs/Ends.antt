@@ -1,20 +1,17 @@
 -- A text with another end; every relation of the grammar holds whatever stands behind it.
-use Prim.Native.Nat.{ℕ, zero, suc, _+_, _*_, _-_, _≤_, _<_}
-use mathlib.Core.Path.{_≡_, refl, ap, subst}
-use mathlib.Core.Bool.{Bool, true, false}
+use Prim.Native.Nat.{ℕ, _≤_}
+use mathlib.Core.Path.{_≡_, refl, ap}
+use mathlib.Core.Bool.{Bool}
 use mathlib.Core.List.{List, [], _∷_, _++_}
 use native.Mathlib.Omega.{arith}
 use lib.ListN.{length}
-use Rattle.grammar.specs.Grammar.{Form, Spaces, none, space, Digits, end, digit, Number, nought, other, Percent, without, sign, prefixByte, reachByte, Rank, Part, word, parens, prefix, one-small, reach, one-until, one-and, Mark, mark, Threshold, Count, count}
+use Rattle.grammar.specs.Grammar.{Form, Spaces, none, space, Digits, end, digit, Number, nought, other, Percent, without, sign, Rank, Part, word, parens, prefix, one-small, reach, one-until, one-and, Mark, mark, Threshold, Count, count}
+use Rattle.grammar.specs.Answers.{Token, Large}
 
 -- the second text is the first with its end u replaced by v
 pub data Swap (u v : List ℕ) : List ℕ → List ℕ → Type 0 where
   here : Swap u v u v
   there : {c : ℕ} {s t : List ℕ} → Swap u v s t → Swap u v (c ∷ s) (c ∷ t)
-
--- both have a first byte, and it is the same
-pub data SameByte : List ℕ → List ℕ → Type 0 where
-  same-byte : {b : ℕ} {w w' : List ℕ} → SameByte (b ∷ w) (b ∷ w')
 
 pub swap-trans : {p q u v s t : List ℕ} → Swap u v s t → Swap p q u v → Swap p q s t
 swap-trans here y = y
@@ -50,18 +47,19 @@ pub frame-percent : {p : Bool} {s r : List ℕ} → Percent s r p → Framed (λ
 frame-percent without t = (t, here, without)
 frame-percent sign t = (37 ∷ t, there here, sign)
 
--- what a text that goes on keeps of what is refused at r by w: nothing, a token's first byte, a whole number
-abbrev pub Keeps : ℕ → List ℕ → List ℕ → Type 0
-Keeps w r v = (w ≡ 14 → SameByte r v) × (w ≡ 15 → (r₁ v₁ : List ℕ) × (k : ℕ) × Number r r₁ k × Swap r₁ v₁ r v)
+-- a text that goes on where another is refused: with its numbers in range, or with the token that is refused
+pub data Mode : Type 0 where
+  near whole : Mode
 
-pub keeps-13 : {r v : List ℕ} → Keeps 13 r v
-keeps-13 = (λ e. absurd (omega arith), λ e. absurd (omega arith))
+pub not-near : {A : Type 0} → whole ≡ near → A
+not-near e = let z : _≡_ {A = ℕ} 0 1 = cc in absurd (omega arith)
 
-pub keeps-14 : {r v : List ℕ} → SameByte r v → Keeps 14 r v
-keeps-14 x = (λ e. x, λ e. absurd (omega arith))
-
-pub keeps-15 : {r v r₁ v₁ : List ℕ} {k : ℕ} → Number r r₁ k → Swap r₁ v₁ r v → Keeps 15 r v
-keeps-15 {r₁ = r₁} {v₁ = v₁} {k = k} x y = (λ e. absurd (omega arith), λ e. (r₁, v₁, k, x, y))
+-- what it keeps of what is refused by w at r; it goes on with v where q stands
+pub data Keeps (m : Mode) (w : ℕ) (r : List ℕ) : List ℕ → List ℕ → Type 0 where
+  keeps-near : {v : List ℕ} → m ≡ near → Keeps m w r r v
+  keeps-13 : {v : List ℕ} → w ≡ 13 → Keeps m w r r v
+  keeps-14 : {v r₁ v₁ : List ℕ} → w ≡ 14 → Token r r₁ → Swap r₁ v₁ r v → Keeps m w r r v
+  keeps-15 : {q v r₁ v₁ : List ℕ} → m ≡ whole → w ≡ 15 → Large q r r₁ → Swap r₁ v₁ q v → Keeps m w r q v
 
 module _ {L : Type 0} (Leaf : List ℕ → List ℕ → L → Type 0) (frame-leaf : (s r : List ℕ) (x : L) → Leaf s r x → Framed (λ s r. Leaf s r x) s r) where
   pub frame : {k : Rank} {s r : List ℕ} {a : Form L} → Part Leaf k s r a → Framed (λ s r. Part Leaf k s r a) s r

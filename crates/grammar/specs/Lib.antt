@@ -3,15 +3,18 @@ pub mod Grammar
 pub mod Limits
 pub mod Reader
 pub mod Nodes
+pub mod Answers
 -- promises
 pub mod Promises
 -- laws
+pub mod Standing
 pub mod Each
 pub mod Ends
 pub mod Sound
-pub mod Accepts
 pub mod Short
 pub mod Agree
+pub mod Ranges
+pub mod Accepts
 pub mod Complete
 pub mod Steps
 -- worked cases

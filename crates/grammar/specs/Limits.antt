@@ -1,9 +1,9 @@
 -- The limits of document 01, on what the grammar gives.
-use Prim.Native.Nat.{ℕ, zero, suc, _+_, _≤_, max}
+use Prim.Native.Nat.{ℕ, suc, _+_, _≤_, max}
 use mathlib.Core.Bool.{Bool, true, false}
-use mathlib.Core.List.{List, [], _∷_}
+use mathlib.Core.List.{List}
 use lib.ListN.{length}
-use Rattle.grammar.specs.Grammar.{Form, top, leaf, neg, and, or, next, until, release, ev, gl, Rank, Part, word, parens, prefix, one-small, reach, one-until, one-and, Mark, Inner, Threshold, counted, Count, count, Clause, Sheet, done, line}
+use Rattle.grammar.specs.Grammar.{Form, top, leaf, neg, and, or, next, until, release, ev, gl, Rank, Part, word, parens, prefix, one-small, reach, one-until, one-and, Mark, Threshold, counted, Count, count, Clause, Sheet, done, line}
 
 -- The level: open `(` and `[`, prefix operators awaiting their operand, U/R awaiting the end of their right side.
 module _ {L : Type 0} (Leaf : List ℕ → List ℕ → L → Type 0) (leafLevel : (s r : List ℕ) (x : L) → Leaf s r x → ℕ) where
@@ -71,7 +71,7 @@ most true = 100
 abbrev pub CountOk : Threshold → Type 0
 CountOk (counted a n p) = InRange MarkOk a × (n ≤ most p)
 
--- a sheet's clauses: level and nodes, and numbers
+-- a sheet's clauses: "128 nodes in each", "nesting level 32", and numbers
 abbrev pub Sized : {s : List ℕ} {cs : List Clause} → Sheet s cs → Type 0
 Sized done = Unit {0}
 Sized (line {c = c} p x rest) = (level Count countLevel p ≤ 32) × (nodes countNodes c ≤ 128) × Sized rest
@@ -82,3 +82,11 @@ Ranged (line {c = c} p x rest) = InRange CountOk c × Ranged rest
 
 abbrev pub Fits : {s : List ℕ} {cs : List Clause} → Sheet s cs → Type 0
 Fits d = Sized d × Ranged d
+
+-- "32 clauses"
+abbrev pub FewLines : List Clause → Type 0
+FewLines cs = length cs ≤ 32
+
+-- "at most 16,384 bytes"
+abbrev pub FewBytes : List ℕ → Type 0
+FewBytes s = length s ≤ 16384

@@ -4,45 +4,35 @@ use native.Mathlib.Omega.{arith}
 use mathlib.Core.Path.{_≡_, subst}
 use mathlib.Core.Logic.{_⊎_}
 use mathlib.Core.List.{List, [], _++_}
-use lib.ListN.{length, take, drop}
-use Rattle.grammar.specs.Grammar.{Clause, Number, Sheet}
-use Rattle.grammar.specs.Limits.{nodes, countNodes, Sized, Fits}
-use Rattle.grammar.specs.Nodes.{Node, flatClause, Stands, StandsCount, clause-stands, clause-length}
+use lib.ListN.{length, take}
+use Rattle.grammar.specs.Grammar.{Clause, Sheet}
+use Rattle.grammar.specs.Limits.{nodes, countNodes, Fits, FewLines, FewBytes}
+use Rattle.grammar.specs.Nodes.{Node, flatClause, Stands, StandsCount}
+use Rattle.grammar.specs.Standing.{clause-stands, clause-length}
 use Rattle.grammar.specs.Reader.{accepted, refused, readSheet}
-use Rattle.grammar.specs.Accepts.{Accepted, Whole, sound, begun-13, allowed-14, allowed-15}
-use Rattle.grammar.specs.Complete.{TooLarge, Coded, complete, stuck-13, over-14, large-15, codes, long-12}
-
--- a sheet of the grammar begins with this text
-abbrev pub Begins : List ℕ → Type 0
-Begins p = (t : List ℕ) × (cs : List Clause) × Sheet (p ++ t) cs
-
--- no sheet of the grammar does
-abbrev pub Never : List ℕ → Type 0
-Never p = (t : List ℕ) (cs : List Clause) → Sheet (p ++ t) cs → ⊥
-
--- none that is within the limits on levels, nodes and lines does
-abbrev pub Beyond : List ℕ → Type 0
-Beyond p = (t : List ℕ) (cs : List Clause) (d : Sheet (p ++ t) cs) → Sized d → length cs ≤ 32 → ⊥
+use Rattle.grammar.specs.Answers.{Accepted, Code, Coded, BeginsInRange, Never, Beyond, Allowed, OutOfRange}
+use Rattle.grammar.specs.Accepts.{sound, before-in-range, allowed-14, out-15}
+use Rattle.grammar.specs.Complete.{complete, stuck-13, over-14, codes, long-12}
 
 pub record Promises (s : List ℕ) : Type 0 where
   -- accepted: exactly the sheets of the grammar within the limits, and each as it is there
   pub sound : (cs : List Clause) → readSheet s ≡ accepted cs → Accepted s cs
-  pub complete : (cs : List Clause) (d : Sheet s cs) → Fits d → length cs ≤ 32 → 0 < length s → length s ≤ 16384 → readSheet s ≡ accepted cs
+  pub complete : (cs : List Clause) (d : Sheet s cs) → Fits d → FewLines cs → 0 < length s → FewBytes s → readSheet s ≡ accepted cs
   -- a clause's nodes, whatever stands behind them: as many as the limit counts, each operand before its operator, the last for the clause
   pub count : (c : Clause) → length (flatClause c 0) ≡ nodes countNodes c
   pub standing : (c : Clause) (q : List Node) → Stands StandsCount (flatClause c 0 ++ q) (nodes countNodes c - 1) c
   -- 12 for what is too long, before all else; no refusals but 7, 12, 13, 14 and 15
-  pub long-12 : 16384 < length s → readSheet s ≡ refused 12 0
+  pub long-12 : (FewBytes s → ⊥) → readSheet s ≡ refused 12 0
   pub codes : (w k : ℕ) → readSheet s ≡ refused w k → Coded s w k
+  -- 13, 14 and 15: with the bytes before it a sheet of the grammar begins whose numbers are all in range
+  pub before : (w k : ℕ) → Code w → readSheet s ≡ refused w k → (k ≤ length s) × BeginsInRange (take k s)
   -- 13: the first byte that no sheet of the grammar could have after the bytes before it, or the length
-  pub first-13 : (k : ℕ) → readSheet s ≡ refused 13 k → (k ≤ length s) × Begins (take k s)
   pub stuck-13 : (k : ℕ) → readSheet s ≡ refused 13 k → (k < length s → Never (take (suc k) s)) × ((cs : List Clause) → Sheet s cs → ⊥)
-  -- 14: a token that the grammar allows there, or the 33rd line; with it every sheet is past the limit on levels, nodes or lines
-  pub token-14 : (k : ℕ) → readSheet s ≡ refused 14 k → Begins (take (suc k) s) ⊎ ((cs : List Clause) × Sheet (take k s) cs × (length cs ≡ 32))
+  -- 14: a whole token that the grammar allows there, or the 33rd line; with its first byte every sheet is past the limit on levels, nodes or lines
+  pub token-14 : (k : ℕ) → readSheet s ≡ refused 14 k → Allowed s k ⊎ ((cs : List Clause) × Sheet (take k s) cs × (length cs ≡ 32))
   pub over-14 : (k : ℕ) → readSheet s ≡ refused 14 k → (k < length s) × Beyond (take (suc k) s)
-  -- 15: a whole number that the grammar allows there; with it, and its `%`, every sheet has a number out of range
-  pub number-15 : (k : ℕ) → readSheet s ≡ refused 15 k → Whole s k
-  pub wide-15 : (k : ℕ) → readSheet s ≡ refused 15 k → TooLarge s k
+  -- 15: the first byte of a number out of range, whole with its `%`, in a mark its first digit, that the grammar allows there
+  pub number-15 : (k : ℕ) → readSheet s ≡ refused 15 k → OutOfRange s k
 
 pub promises : (s : List ℕ) → Promises s
 promises s = record {
@@ -52,10 +42,9 @@ promises s = record {
   standing = λ c q. let e : 0 + nodes countNodes c ≡ nodes countNodes c = omega arith in subst (λ (n : ℕ). Stands StandsCount (flatClause c 0 ++ q) (n - 1) c) e (clause-stands c [] q);
   long-12 = long-12 s;
   codes = codes s;
-  first-13 = begun-13 s;
+  before = before-in-range s;
   stuck-13 = stuck-13 s;
   token-14 = allowed-14 s;
   over-14 = over-14 s;
-  number-15 = allowed-15 s;
-  wide-15 = large-15 s;
+  number-15 = out-15 s;
 }

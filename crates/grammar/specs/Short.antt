@@ -1,24 +1,21 @@
 -- A reader goes on in the text: whatever it gives or refuses stands no further back than the first byte that it sees.
-use Prim.Native.Nat.{ℕ, zero, suc, _+_, _*_, _-_, _≤_, _<_, max}
-use mathlib.Core.Path.{_≡_, refl, ap, subst, sym, _∙_}
-use mathlib.Core.Logic.{_⊎_, inl, inr}
-use mathlib.Core.Bool.{Bool, true, false, _&&_}
-use mathlib.Core.List.{List, [], _∷_, _++_}
+use Prim.Native.Nat.{ℕ, zero, suc, _+_, _*_, _-_, _≤_}
+use mathlib.Core.Path.{refl}
+use mathlib.Core.Logic.{inl, inr}
+use mathlib.Core.Bool.{Bool, true, false}
+use mathlib.Core.List.{List, [], _∷_}
 use native.Mathlib.Omega.{arith}
 use lib.ListN.{length}
-use lib.Dec.{leb, ltb, eqb}
-use Rattle.grammar.specs.Grammar.{Form, top, Spaces, none, space, Number, Percent, Inner, Threshold, counted, Clause, prefixed, reached}
+use lib.Dec.{leb, eqb}
+use Rattle.grammar.specs.Grammar.{Form, Inner, Threshold, counted}
 use Rattle.grammar.specs.Limits.{most}
-use Rattle.grammar.specs.Reader.{pick, Got, got, no, Reader, bind, node, skip, expectAt, expect, literal, isDigit, digits, number, percent, Kind, kind, Onward, stop, onward, Deeper, shut, open', chainAt, chainMore, chain, andChain, orChain, byKind, smallAt, smallOf, byOnward, untilAt, untilOf, deeper, smalls, untils, ors, markBy, marks, inners, threshold, countBy, counts, clauses, clauseLine, lines}
+use Rattle.grammar.specs.Reader.{Got, got, no, Reader, bind, node, skip, expectAt, expect, literal, isDigit, digits, number, percent, Kind, kind, Onward, stop, onward, Deeper, shut, open', chainAt, chainMore, chain, andChain, orChain, byKind, smallAt, smallOf, byOnward, untilAt, untilOf, deeper, smalls, untils, ors, markBy, marks, inners, threshold, countBy, counts, clauses, clauseLine, lines}
+use Rattle.grammar.specs.Answers.{Code}
 use Rattle.grammar.specs.Each.{Each, gives, denies, each-bind, each-map, each-node, either, skip-spaces}
 use Rattle.grammar.specs.Sound.{spaces-short}
 
 pub skip-short : (s : List ℕ) → length (skip s) ≤ length s
 skip-short s = spaces-short (skip-spaces s)
-
--- the refusals within a sheet
-abbrev pub Code : ℕ → Type 0
-Code w = (w ≡ 13) ⊎ ((w ≡ 14) ⊎ (w ≡ 15))
 
 c13 : Code 13
 c13 = inl refl

@@ -1,10 +1,9 @@
 -- The readers' equations, one for each way that a program goes: what the proof of four functions that call each other cites.
-use Prim.Native.Nat.{ℕ, zero, suc, _+_, _≤_}
+use Prim.Native.Nat.{ℕ, suc}
 use mathlib.Core.Path.{_≡_, refl, ap, _∙_}
-use mathlib.Core.Bool.{Bool, true, false}
 use mathlib.Core.List.{List, [], _∷_}
 use Rattle.grammar.specs.Grammar.{Form, top, and, or, Prefix, prefixByte, prefixed, Reach, reachByte, reached}
-use Rattle.grammar.specs.Reader.{Got, got, no, Reader, bind, node, skip, expect, literal, Kind, kind, Onward, stop, onward, Deeper, shut, open', chainMore, chain, andChain, orChain, byKind, smallAt, smallOf, byOnward, untilAt, untilOf, deeper, smalls, untils, ands, ors}
+use Rattle.grammar.specs.Reader.{got, no, Reader, bind, node, skip, expect, literal, Kind, kind, Onward, stop, onward, chainMore, chain, andChain, orChain, byKind, smallAt, smallOf, byOnward, untilAt, untilOf, deeper, smalls, untils, ands, ors}
 use Rattle.grammar.specs.Agree.{kind-prefix, onward-reach}
 
 module _ {L : Type 0} (lf : ℕ → Reader L) where

@@ -1,3 +1,4 @@
 pub mod Staying
 pub mod Rippling
 pub mod Spreading
+pub mod Doubling

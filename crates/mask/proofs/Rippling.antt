@@ -1,13 +1,14 @@
 -- Planes as a carry runs over them.
 use Prim.Native.Nat.{ℕ, suc, _≤_, _<_}
 use mathlib.Core.Path.{_≡_, refl, sym, ap, ap₂, subst, _∙_}
-use mathlib.Core.List.{List, [], _∷_, _++_, append-nil}
+use mathlib.Core.List.{List, [], _++_, append-nil}
 use native.Mathlib.Omega.{arith}
 use lib.Bits.{bitAnd, bitXor}
 use lib.ListN.{length, take, drop, getD, set, length-set}
 use lib.Seq.{take-all, drop-length, take-suc-set, drop-set-lt, drop-cons, append-snoc}
 use Rattle.mask.specs.Planes.{Added}
-use Rattle.mask.specs.Counting.{ripple, added}
+use Rattle.mask.specs.Carry.{ripple}
+use Rattle.mask.specs.Counting.{added}
 
 -- i planes are done, and the carry goes on over the others
 pub record Rippling (old : List ℕ) (w : ℕ) (planes : List ℕ) (carry i : ℕ) : Type 0 where

@@ -18,8 +18,8 @@ pub record Spreading (h m : ℕ) (planes : List ℕ) (n i : ℕ) : Type 0 where
   pub small : n < 2 ^ (7 - i)
   pub rest : (xs : List ℕ) → Each h n xs → Each h m (take i planes ++ xs)
 
-pub begun : (h m : ℕ) (planes : List ℕ) → length planes ≡ 7 → m < 128 → Spreading h m planes m 0
-begun h m planes e p = record { within = omega arith; wide = e; small = p; rest = λ xs each. each }
+pub begun : (h m n : ℕ) (planes : List ℕ) → length planes ≡ 7 → m < 128 → n ≡ m → Spreading h m planes n 0
+begun h m n planes e p q = record { within = omega arith; wide = e; small = omega arith; rest = λ xs each. subst (λ (k : ℕ). Each h k xs) q each }
 
 pub onward : (h m : ℕ) (planes : List ℕ) (n i x : ℕ) → Spreading h m planes n i → i < 7 → Row h x (λ s. eqb (n % 2) 1) → Spreading h m (set planes i x) (n / 2) (suc i)
 onward h m planes n i x r p row =

@@ -1,6 +1,6 @@
 -- Planes count: a carry runs from plane to plane, and the last plane tells whether the number is large.
 use Prim.Native.Nat.{ℕ, zero, suc, _+_, _*_, _-_, _/_, _%_, _^_, _≤_, _<_}
-use mathlib.Core.Path.{_≡_, refl, sym, ap, ap₂, subst, _∙_}
+use mathlib.Core.Path.{_≡_, refl, sym, ap, ap₂, _∙_}
 use mathlib.Core.Bool.{Bool, true, false, xor, cond, _&&_}
 use mathlib.Core.List.{List, [], _∷_}
 use native.Mathlib.Omega.{arith}
@@ -12,18 +12,15 @@ use lib.Pow.{pow-pos}
 use borrow.Author.Tests.{le-leb, lt-leb}
 use Rattle.row.specs.Round.{pick}
 use Rattle.cltl.specs.Rules.{tally}
+use Rattle.cltl.specs.Tally.{tally-le}
 use Rattle.mask.specs.Mask.{on, Row}
 use Rattle.mask.specs.Planes.{digit, number, Below, Each, Added}
+use Rattle.mask.specs.Carry.{ripple}
 use Rattle.mask.specs.EachBit.{binary, on-and, on-xor}
 
 pub digit-le : (b : Bool) → digit b ≤ 1
 digit-le true = omega arith
 digit-le false = omega arith
-
--- a carry added from the lowest plane on
-unfoldable pub ripple : List ℕ → ℕ → List ℕ
-ripple [] c = []
-ripple (x ∷ xs) c = bitXor x c ∷ ripple xs (bitAnd x c)
 
 half-adder : (x y : Bool) → digit (xor x y) + 2 * digit (x && y) ≡ digit x + digit y
 unfolding xor
@@ -97,10 +94,16 @@ pub at-least : (m n : ℕ) → m ≤ 64 → leb 64 (64 - m + n) ≡ leb m n
 at-least m n p =
     pick n m (_≡_ {A = Bool} (leb 64 (64 - m + n)) (leb m n)) (λ q. lt-leb 64 (64 - m + n) (omega arith) ∙ sym (lt-leb m n q)) (λ q. le-leb 64 (64 - m + n) (omega arith) ∙ sym (le-leb m n q))
 
-pub tally-more : (f : ℕ → Bool) (n : ℕ) → tally f (suc n) ≡ tally f n + digit (f n)
+tally-more : (f : ℕ → Bool) (n : ℕ) → tally f (suc n) ≡ tally f n + digit (f n)
 unfolding tally
 tally-more f n = tells (f n)
   where
     tells : (b : Bool) → cond b (suc (tally f n)) (tally f n) ≡ tally f n + digit b
     tells true = omega arith
     tells false = omega arith
+
+-- one cart more
+pub counted : (f : ℕ → Bool) (start i w s : ℕ) (before after : List ℕ) → Added before w after → on w s ≡ f i → start + i < 127 → number before s ≡ start + tally f i → number after s ≡ start + tally f (suc i)
+counted f start i w s before after a e p q =
+    let d : digit (on w s) ≡ digit (f i) = ap digit e in
+    omega (arith, a .at s (omega (arith, tally-le f i)), tally-more f i)

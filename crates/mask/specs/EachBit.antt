@@ -1,6 +1,6 @@
 -- Operations on masks go bit by bit.
 use Prim.Native.Nat.{ℕ, zero, suc, _+_, _*_, _-_, _/_, _%_, _^_, _≤_, _<_, min, max}
-use mathlib.Core.Path.{_≡_, refl, sym, ap, ap₂, subst, _∙_}
+use mathlib.Core.Path.{_≡_, refl, sym, ap, _∙_}
 use mathlib.Core.Bool.{Bool, true, false, not, xor, _&&_, _||_}
 use native.Mathlib.Omega.{arith}
 use native.Mathlib.Nat.{min-le-left, max-le, mod-lt, div-eq-of-lt, pow-suc, mul-assoc}
@@ -17,6 +17,14 @@ binary P p q n = go (n % 2) (mod-lt n (omega arith))
     go zero h = p
     go (suc zero) h = q
     go (suc (suc m)) h = absurd (omega arith)
+
+pub on-one : (a s : ℕ) → a / 2 ^ s % 2 ≡ 1 → on a s ≡ true
+unfolding on
+on-one a s e = ap (λ (x : ℕ). eqb x 1) e
+
+pub on-none : (a s : ℕ) → a / 2 ^ s % 2 ≡ 0 → on a s ≡ false
+unfolding on
+on-none a s e = ap (λ (x : ℕ). eqb x 1) e
 
 -- an operation f on digits that tells as g does
 abbrev Tells : (ℕ → ℕ → ℕ) → (Bool → Bool → Bool) → ℕ → ℕ → Type 0
@@ -45,6 +53,16 @@ differ-lt a b = binary (λ m. differ m (b % 2) < 2) (omega arith) (binary (λ n.
 pub on-xor : (a b s : ℕ) → on (bitXor a b) s ≡ xor (on a s) (on b s)
 unfolding xor
 on-xor = bitwise bitXor differ (λ x y. xor x y) xor-shr (λ a b. omega (arith, xor-step a b, differ-lt a b)) refl refl refl refl
+
+except : (x y : Bool) → xor x (x && y) ≡ (x && not y)
+unfolding xor
+except true true = refl
+except true false = refl
+except false y = refl
+
+-- a without the bits of b
+pub on-except : (a b s : ℕ) → on (bitXor a (bitAnd a b)) s ≡ (on a s && not (on b s))
+on-except a b s = on-xor a (bitAnd a b) s ∙ ap (xor (on a s)) (on-and a b s) ∙ except (on a s) (on b s)
 
 -- moved down
 pub on-shr : (a k s : ℕ) → on (a / 2 ^ k) s ≡ on a (k + s)

@@ -1,16 +1,15 @@
 -- The row of what comes a step later.
 use Prim.Native.Nat.{ℕ, zero, suc, _+_, _*_, _-_, _/_, _%_, _^_, _≤_, _<_}
-use mathlib.Core.Path.{_≡_, refl, sym, ap, ap₂, subst, _∙_}
-use mathlib.Core.Bool.{Bool, false, _&&_, _||_, or-false, and-true}
+use mathlib.Core.Path.{_≡_, sym, ap, ap₂, subst, _∙_}
+use mathlib.Core.Bool.{Bool, _||_, or-false}
 use native.Mathlib.Omega.{arith}
 use native.Mathlib.Nat.{mod-eq-of-lt}
-use lib.Bits.{bitAnd, bitOr, and-mask, and-lt, or-lt}
-use lib.Pow.{pow-pos, pow-mono, shl-lt, shr-le}
+use lib.Bits.{bitOr, or-lt}
+use lib.Pow.{pow-mono, shl-lt}
 use Rattle.row.specs.Lasso.{nextStep, stepOf}
 use Rattle.row.specs.Round.{pick, next-low, next-last, next-below, step-low, step-next}
-use Rattle.cltl.specs.Rules.{window, every}
 use Rattle.mask.specs.Mask.{on, Row}
-use Rattle.mask.specs.EachBit.{on-and, on-or, on-shr, on-beyond, on-moved, on-under}
+use Rattle.mask.specs.EachBit.{on-or, on-shr, on-beyond, on-moved, on-under}
 
 -- the lap's first bit moved up to the last step
 module _ (a h l : ℕ) (low : a < 2 ^ h) (some : l < h) (few : h ≤ 64) where
@@ -23,11 +22,9 @@ module _ (a h l : ℕ) (low : a < 2 ^ h) (some : l < h) (few : h ≤ 64) where
       let e : 1 + (h - 1) ≡ h = omega arith in
       subst (λ (k : ℕ). last < 2 ^ k) e (shl-lt 1 (h - 1) (omega arith))
 
-  last-is : bitAnd (a / 2 ^ l) 1 * 2 ^ (h - 1) % 2 ^ 64 ≡ last
+  last-fits : last % 2 ^ 64 ≡ last
   unfolding last
-  last-is =
-      ap (λ (t : ℕ). t * 2 ^ (h - 1) % 2 ^ 64) (and-mask (a / 2 ^ l) 1)
-      ∙ mod-eq-of-lt (omega (arith, last-lt, pow-mono {i = h} {j = 64} few))
+  last-fits = mod-eq-of-lt (omega (arith, last-lt, pow-mono {i = h} {j = 64} few))
 
   -- "After step h − 1 comes step l"
   turns : (s : ℕ) → s < h → on (bitOr (a / 2) last) s ≡ on a (nextStep h l s)
@@ -43,9 +40,10 @@ module _ (a h l : ℕ) (low : a < 2 ^ h) (some : l < h) (few : h ≤ 64) where
       ap₂ (λ (x y : Bool). x || y) (e ∙ on-beyond a h (suc s) low q) (ap (on last) k ∙ on-moved a l (h - 1))
       ∙ ap (on a) (sym (next-last h l s q)))
 
-  pub turned : Row h (bitOr (a / 2) (bitAnd (a / 2 ^ l) 1 * 2 ^ (h - 1) % 2 ^ 64)) (λ s. on a (nextStep h l s))
-  turned =
-      subst (λ (x : ℕ). Row h (bitOr (a / 2) x) (λ s. on a (nextStep h l s))) (sym last-is)
+  pub turned : (t : ℕ) → t ≡ a / 2 ^ l % 2 → Row h (bitOr (a / 2) (t * 2 ^ (h - 1) % 2 ^ 64)) (λ s. on a (nextStep h l s))
+  unfolding last
+  turned t e =
+      subst (λ (x : ℕ). Row h (bitOr (a / 2) x) (λ s. on a (nextStep h l s))) (sym (ap (λ (x : ℕ). x * 2 ^ (h - 1) % 2 ^ 64) e ∙ last-fits))
       (record { low = or-lt h (a / 2) last (omega (arith, low)) last-lt; at = turns })
 
 module _ (h l : ℕ) (some : l < h) where

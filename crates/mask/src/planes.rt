@@ -16,11 +16,11 @@ pub fn start_planes(planes: &mut [u64; 7], m: usize, h: usize)
     ensures { λ _. ⌜ Each h (64 - m) (now (planes .exit)) ⌝ }
 {
     let mut n = 64 - m;
-    let mut i = 0;
-    while i < 7 {
-        planes[i] = constant(n % 2 == 1, h);
+    let mut k = 0;
+    while k < 7 {
+        planes[k] = constant(n % 2 == 1, h);
         n /= 2;
-        i += 1;
+        k += 1;
     }
 }
 

@@ -11,8 +11,9 @@ use Rattle.floor.specs.declared.Floor.{Floor}
 use Rattle.plan.specs.Plan.{Numbers}
 use Rattle.plan.specs.After.{ReadAs}
 use Rattle.row.specs.Moves.{lanesIn}
-use Rattle.row.specs.Meaning.{Unending}
-use Rattle.moves.specs.Carts.{classOf, startOf, rowVerdict, checkedMoves}
+use Rattle.row.specs.Meaning.{Unending, Lowest}
+use Rattle.row.specs.declared.MoveAnswer.the-variants.{Shut}
+use Rattle.moves.specs.Carts.{classOf, startOf, verdictOf, rowVerdict, checkedMoves}
 
 -- cart c begins at its start, and its move at every counter is open to its class
 abbrev pub CartUnending : List ℕ → Numbers → ℕ → Type 0
@@ -20,6 +21,10 @@ CartUnending floor p c = Unending (lanesIn floor) (classOf floor c) (startOf flo
 
 abbrev pub AllUnending : List ℕ → Floor → Numbers → Type 0
 AllUnending floor f p = (c : ℕ) → c < f .carts → CartUnending floor p c
+
+-- step k is the lowest of cart c's that is left by a move that is not open
+abbrev pub LowestLeft : List ℕ → Numbers → ℕ → ℕ → Type 0
+LowestLeft floor p c k = Lowest (lanesIn floor) (classOf floor c) (getD (p .rows) c []) (p .head .steps) (p .head .stem) 0 k
 
 -- floor and plan are read, and every cart's moves go on without end
 pub record Moving (floor plan : List ℕ) : Type 0 where
@@ -34,6 +39,8 @@ pub record FirstRefused (floor : List ℕ) (f : Floor) (p : Numbers) (v : Verdic
   pub there : cart < f .carts
   pub refused : rowVerdict floor p cart ≡ v
   pub before : (c : ℕ) → c < cart → CartUnending floor p c
+  -- 11 names the "lowest step left"
+  pub lowest : (k : ℕ) → v ≡ verdictOf cart (Shut k) → LowestLeft floor p cart k
 
 pub record MovesChecked (floor plan : List ℕ) (v : Verdict) : Type 0 where
   -- the answer, for every floor and plan

@@ -8,6 +8,7 @@ use lib.Dec.{eqb}
 use borrow.Author.Tests.{eqb-true, eqb-false}
 use Rattle.refusal.specs.Stages.{isAccepted}
 use Rattle.refusal.specs.Accepting.{accepted-is}
+use Rattle.refusal.specs.Codes.{codeOf}
 use Rattle.refusal.specs.declared.Verdict.{Verdict}
 use Rattle.refusal.specs.declared.Verdict.the-variants.{Accepted}
 use Rattle.floor.specs.declared.Floor.{Floor}
@@ -15,7 +16,7 @@ use Rattle.plan.specs.Plan.{Numbers, accepted, readPlan}
 use Rattle.plan.specs.After.{ReadAs}
 use Rattle.plan.specs.RoundTrip.{valid}
 use Rattle.plan.specs.Read.{Went, no-floor, no-plan, on, went, read-on}
-use Rattle.row.specs.Unending.{unending, accepts-all}
+use Rattle.row.specs.Unending.{unending, accepts-all, refused-step}
 use Rattle.row.specs.declared.MoveAnswer.{MoveAnswer}
 use Rattle.row.specs.declared.MoveAnswer.the-variants.{Open, Elsewhere, Shut}
 use Rattle.moves.specs.Carts.{startOf, verdictOf, rowVerdict, judgedCarts, movesVerdict, checkedMoves}
@@ -25,6 +26,11 @@ only-open : (c : ℕ) (a : MoveAnswer) → verdictOf c a ≡ Accepted → a ≡ 
 only-open c Open e = refl
 only-open c Elsewhere e = let z : _≡_ {A = ℕ} 0 1 = cc in absurd (omega arith)
 only-open c (Shut s) e = let z : _≡_ {A = ℕ} 0 1 = cc in absurd (omega arith)
+
+only-shut : (c k : ℕ) (a : MoveAnswer) → verdictOf c a ≡ verdictOf c (Shut k) → a ≡ Shut k
+only-shut c k Open e = let z = ap (λ (v : Verdict). codeOf v .number) e in absurd (omega arith)
+only-shut c k Elsewhere e = let z = ap (λ (v : Verdict). codeOf v .number) e in absurd (omega arith)
+only-shut c k (Shut s) e = ap Shut (ap (λ (v : Verdict). codeOf v .second) e)
 
 module _ (floor : List ℕ) (p : Numbers) where
   -- cart c's row is not refused
@@ -95,7 +101,7 @@ module _ (floor : List ℕ) (p : Numbers) where
       first-refused : isAccepted (movesVerdict floor f p) ≡ false → FirstRefused floor f p (movesVerdict floor f p)
       first-refused e =
           let w = first-from (f .carts) 0 e in
-          record { cart = w .cart; there = omega (arith, w .below); refused = w .refused; before = λ c l. cart-unending c (w .passed c (omega arith) l) }
+          record { cart = w .cart; there = omega (arith, w .below); refused = w .refused; before = λ c l. cart-unending c (w .passed c (omega arith) l); lowest = λ k q. refused-step _ _ _ _ _ (startOf floor (w .cart)) k (only-shut (w .cart) k _ (w .refused ∙ q)) .1 }
 
 stem-low : (f : Floor) (plan : List ℕ) (n : Numbers) → readPlan f plan ≡ accepted n → n .head .stem < n .head .steps
 stem-low f plan n e = valid f plan n e .head .stem

@@ -9,14 +9,15 @@ use Rattle.grammar.specs.Grammar.{Form, and, or}
 use Rattle.grammar.specs.Limits.{nodes}
 use Rattle.grammar.specs.Nodes.{Node, twoN, Op₂, and₂, or₂, flat}
 use Rattle.grammar.specs.Reader.{Got, got, no, Reader, chain, andChain, orChain, smalls, untils, ands, ors}
-use Rattle.sheet.specs.Block.{twoByte}
-use Rattle.sheet.specs.Parts.{PartIs, LeafOf, leafNodes, leafFlat, leafReader}
-use Rattle.sheet.specs.More.{WithNode}
-use Rattle.sheet.specs.Operator.{OperatorAt}
-use Rattle.sheet.specs.Joined.{part-length}
+use Rattle.token.specs.Block.{twoByte}
+use Rattle.token.specs.Parts.{PartIs}
+use Rattle.sheet.specs.Ranks.{LeafOf, leafNodes, leafFlat, leafReader}
+use Rattle.token.specs.More.{WithNode}
+use Rattle.token.specs.Operator.{OperatorAt}
+use Rattle.token.specs.Joined.{part-length}
 use Rattle.sheet.specs.Room.{flat-size, Room, room, refused-part}
 use Rattle.sheet.specs.Chained.{Chain, begun, ended, spent, onward}
-use Rattle.sheet.specs.declared.Part.{Part}
+use Rattle.token.specs.declared.Part.{Part}
 
 -- the two chains
 pub data Joint : Type 0 where

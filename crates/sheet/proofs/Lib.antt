@@ -1,6 +1,1 @@
-pub mod Numbers
-pub mod Adding
-pub mod Behind
-pub mod Words
-pub mod Counting
 pub mod Cycle

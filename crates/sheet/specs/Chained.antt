@@ -12,12 +12,12 @@ use Rattle.grammar.specs.Limits.{nodes}
 use Rattle.grammar.specs.Nodes.{Node, twoN, Op₂, flat}
 use Rattle.grammar.specs.Reader.{Got, got, no, Reader, bind, skip, chainAt, chainMore, chain}
 use Rattle.grammar.specs.Agree.{more-stop, more-out, more-go}
-use Rattle.sheet.specs.Block.{twoByte}
-use Rattle.sheet.specs.Parts.{Held, PartIs}
-use Rattle.sheet.specs.More.{WithNode}
-use Rattle.sheet.specs.Joined.{two-parts}
-use Rattle.sheet.specs.Operator.{OperatorAt}
-use Rattle.sheet.specs.declared.Part.{Part}
+use Rattle.token.specs.Block.{twoByte}
+use Rattle.token.specs.Parts.{Held, PartIs}
+use Rattle.token.specs.More.{WithNode}
+use Rattle.token.specs.Joined.{two-parts}
+use Rattle.token.specs.Operator.{OperatorAt}
+use Rattle.token.specs.declared.Part.{Part}
 
 bind-bind : {A : Type 0} (g : Got A) (f : A → A) (k : A → ℕ → List ℕ → Got A) → bind g (λ b m t. k (f b) m t) ≡ bind (bind g (λ b m t. got (f b) m t)) k
 unfolding bind

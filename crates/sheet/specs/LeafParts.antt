@@ -11,11 +11,11 @@ use Rattle.grammar.specs.Grammar.{Form, Threshold, Clause}
 use Rattle.grammar.specs.Limits.{markNodes}
 use Rattle.grammar.specs.Nodes.{markN, flat, flatMark}
 use Rattle.grammar.specs.Reader.{Got, got, no, bind, node, marks, inners, countBy, counts, ors}
-use Rattle.sheet.specs.Leaves.{LeafIs}
-use Rattle.sheet.specs.Parts.{PartIs}
-use Rattle.sheet.specs.Counts.{countGot}
-use Rattle.sheet.specs.Placed.{placed-part}
-use Rattle.sheet.specs.declared.Part.{Part}
+use Rattle.token.specs.Leaves.{LeafIs}
+use Rattle.token.specs.Parts.{PartIs}
+use Rattle.token.specs.Counts.{countGot}
+use Rattle.token.specs.Placed.{placed-part}
+use Rattle.token.specs.declared.Part.{Part}
 
 pub mark-part : (s : List ℕ) (n left : ℕ) (before : List ℕ) (r : Part) (after : List ℕ) (g : Got ℕ) → LeafIs markN s n left before r after g
     → PartIs markNodes flatMark s n left before r after (bind g (λ x m t. got (Form.leaf x) m t))

@@ -14,9 +14,9 @@ use Rattle.grammar.specs.Grammar.{Clause}
 use Rattle.grammar.specs.Limits.{countNodes}
 use Rattle.grammar.specs.Nodes.{flatCount}
 use Rattle.grammar.specs.Reader.{Got, got, no, pick, bind, clauseLine, lines, Read, outcome, start, readSheet}
-use Rattle.sheet.specs.Parts.{PartIs}
+use Rattle.token.specs.Parts.{PartIs}
 use Rattle.sheet.specs.Rules.{readVerdict, rulesVerdict, linesVerdict}
-use Rattle.sheet.specs.declared.Part.{Part}
+use Rattle.token.specs.declared.Part.{Part}
 
 module _ (s : List ℕ) where
   pub too-long : 16384 < length s → rulesVerdict s ≡ AboutRules (atOffset 12 0)

@@ -11,13 +11,13 @@ use Rattle.grammar.specs.Limits.{nodes}
 use Rattle.grammar.specs.Nodes.{Node, twoN, Op₂, until₂, release₂, flat}
 use Rattle.grammar.specs.Reader.{Got, got, no, Reader, pick, bind, skip, node, stop, reach, onward, untilAt, deeper, smalls, untils}
 use Rattle.grammar.specs.Steps.{until-is, until-end, until-stop, until-none, until-on}
-use Rattle.sheet.specs.Block.{twoByte}
-use Rattle.sheet.specs.Leaves.{Refused}
-use Rattle.sheet.specs.Parts.{Held, PartIs}
-use Rattle.sheet.specs.More.{WithNode}
-use Rattle.sheet.specs.Joined.{two-parts}
-use Rattle.sheet.specs.Operator.{OperatorAt, reachOp}
-use Rattle.sheet.specs.declared.Part.{Part}
+use Rattle.token.specs.Block.{twoByte}
+use Rattle.token.specs.Leaves.{Refused}
+use Rattle.token.specs.Parts.{Held, PartIs}
+use Rattle.token.specs.More.{WithNode}
+use Rattle.token.specs.Joined.{two-parts}
+use Rattle.token.specs.Operator.{OperatorAt, reachOp}
+use Rattle.token.specs.declared.Part.{Part}
 
 -- a byte that is neither goes no further
 neither : (b : ℕ) → (b ≡ 85 → ⊥) → (b ≡ 82 → ⊥) → onward b ≡ stop

@@ -7,11 +7,13 @@ use mathlib.Core.List.{List}
 use lib.ListN.{length, drop}
 use Rattle.grammar.specs.Grammar.{Form, top, leaf, neg, and, or, next, until, release, ev, gl, counted}
 use Rattle.grammar.specs.Limits.{nodes}
-use Rattle.grammar.specs.Nodes.{flat, inner-flat, clause-flat}
+use Rattle.grammar.specs.Nodes.{flat}
+use Rattle.grammar.specs.Standing.{inner-flat, clause-flat}
 use Rattle.grammar.specs.Reader.{Got, got, no}
-use Rattle.sheet.specs.Parts.{PartIs, LeafOf, leafNodes, leafFlat}
-use Rattle.sheet.specs.Placed.{refused-at}
-use Rattle.sheet.specs.declared.Part.{Part}
+use Rattle.token.specs.Parts.{PartIs}
+use Rattle.sheet.specs.Ranks.{LeafOf, leafNodes, leafFlat}
+use Rattle.token.specs.Placed.{refused-at}
+use Rattle.token.specs.declared.Part.{Part}
 
 pub flat-size : (inner : Bool) (a : Form (LeafOf inner)) (b : ℕ) → length (flat (leafNodes inner) (leafFlat inner) a b) ≡ nodes (leafNodes inner) a
 flat-size true = inner-flat

@@ -12,14 +12,14 @@ use Rattle.grammar.specs.Limits.{nodes}
 use Rattle.grammar.specs.Nodes.{Node, topN, oneN, Op₁, neg₁, next₁, ev₁, gl₁, flat}
 use Rattle.grammar.specs.Reader.{Got, got, no, Reader, pick, bind, skip, node, literal, Kind, kind, smalls, ors}
 use Rattle.grammar.specs.Steps.{small-end, small-true, small-leaf, small-paren-none, small-paren, small-prefix-none, small-prefix}
-use Rattle.sheet.specs.Block.{oneByte}
-use Rattle.sheet.specs.Leaves.{LeafIs, Expected, wordGot}
-use Rattle.sheet.specs.Parts.{PartIs}
-use Rattle.sheet.specs.More.{WithNode}
-use Rattle.sheet.specs.Joined.{one-part}
-use Rattle.sheet.specs.Placed.{placed-part}
-use Rattle.sheet.specs.Ended.{ended-part}
-use Rattle.sheet.specs.declared.Part.{Part}
+use Rattle.token.specs.Block.{oneByte}
+use Rattle.token.specs.Leaves.{LeafIs, Expected, wordGot}
+use Rattle.token.specs.Parts.{PartIs}
+use Rattle.token.specs.More.{WithNode}
+use Rattle.token.specs.Joined.{one-part}
+use Rattle.token.specs.Placed.{placed-part}
+use Rattle.token.specs.Ended.{ended-part}
+use Rattle.token.specs.declared.Part.{Part}
 
 abbrev pub prefixOp : Prefix → Op₁
 prefixOp not = neg₁

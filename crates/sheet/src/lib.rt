@@ -1,41 +1,6 @@
 // The rule sheet: its bytes read into nodes.
-mod counts;
-mod leaves;
-mod nodes;
 mod parts;
 mod reading;
-mod tokens;
 
 pub use reading::read;
 pub use reading::read_clause;
-
-// What reading a part gives: the refusal's number, or 0; the offset behind the part, or the refused one; the nodes still
-// allowed; and how many nodes stand in the block, the last of them the part's own.
-pub struct Part {
-    pub fault: u32,
-    pub at: usize,
-    pub left: usize,
-    pub n: usize,
-}
-
-// What reading a number gives: its value, or 1,000 if it is more, and the offset behind it; or not ok, and the refused offset.
-pub struct Num {
-    pub value: usize,
-    pub at: usize,
-    pub ok: bool,
-}
-
-// What reading a count's number gives: the refusal's number or 0, the offset behind it or the refused one, its value, and
-// whether it is a percentage.
-pub struct Limit {
-    pub fault: u32,
-    pub at: usize,
-    pub value: usize,
-    pub percent: bool,
-}
-
-// `U` or `R` behind a part: its offset and its node's kind, or the sheet's length.
-pub struct ReachAt {
-    pub at: usize,
-    pub kind: u8,
-}

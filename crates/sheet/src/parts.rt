@@ -1,21 +1,21 @@
 // The four levels of a clause, which call each other in a cycle: an or-chain over and-chains over until-chains over smallest
 // parts. The levels still allowed fall at each call that goes further in.
-use crate::Part;
-use crate::counts::count_end;
-use crate::leaves::expect;
-use crate::leaves::mark;
-use crate::leaves::operator_at;
-use crate::leaves::reach_at;
-use crate::leaves::word;
-use crate::nodes::refused;
-use crate::nodes::with_one;
-use crate::nodes::with_two;
-use crate::tokens::spaces;
+use token::Part;
+use token::count_end;
+use token::expect;
+use token::mark;
+use token::operator_at;
+use token::reach_at;
+use token::refused;
+use token::spaces;
+use token::with_one;
+use token::with_two;
+use token::word;
 ghost use mathlib.Core.Path.{_≡_};
 ghost use Prim.Native.Nat.{_+_, _≤_, _<_};
 ghost use lib.ListN.{length};
 ghost use Rattle.grammar.specs.Grammar.{small, untils, ands, ors};
-ghost use Rattle.sheet.specs.Parts.{Reads, LeafReads};
+ghost use Rattle.sheet.specs.Ranks.{Reads, LeafReads};
 ghost use Rattle.sheet.specs.Small.{prefixKind};
 
 // A prefix operator's node by its byte, 0 for any other byte.

@@ -1,8 +1,8 @@
 // Reading a rule sheet line by line.
-use crate::Part;
-use crate::leaves::expect;
 use crate::parts::or_part;
 use refusal::Verdict;
+use token::Part;
+use token::expect;
 ghost use mathlib.Core.Path.{_≡_};
 ghost use Prim.Native.Nat.{_≤_, _<_};
 ghost use lib.ListN.{length, drop};
@@ -11,7 +11,7 @@ ghost use Rattle.grammar.specs.Nodes.{flatCount};
 ghost use Rattle.grammar.specs.Reader.{clauseLine};
 ghost use Rattle.refusal.specs.Codes.{atOffset};
 ghost use Rattle.refusal.specs.declared.Verdict.the-variants.{Rules as AboutRules};
-ghost use Rattle.sheet.specs.Parts.{PartIs};
+ghost use Rattle.token.specs.Parts.{PartIs};
 ghost use Rattle.sheet.specs.Promises.{RulesRead};
 
 // A line: a clause and byte 10. The clause's nodes are put into the block, its own the last.

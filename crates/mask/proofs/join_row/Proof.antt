@@ -1,4 +1,3 @@
-use Prim.Native.Nat.{ℕ}
 use mathlib.Core.Path.{sym, subst}
 use mathlib.Core.Bool.{Bool}
 use lib.Bits.{bitAnd, bitOr}

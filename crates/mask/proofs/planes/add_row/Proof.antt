@@ -37,13 +37,13 @@ loop-again : tie.Need-loop-again Inv-loop μ-loop
 loop-again c =
     let a = c .before .before .before .args in
     let v = c .before .before .loop in
-    subst (Rippling (a .planes .now) (a .w) _ _) (sym (add-one (v .i))) (onward (a .planes .now) (a .w) (v .planes) (v .carry) (v .i) (v .inv) (c .before .loop-test .taken))
+    subst (Rippling (a .planes .now) (a .w) _ _) (sym (add-one (v .i))) (onward (a .planes .now) (a .w) (v .planes) (v .carry) (v .i) (v .inv) (omega arith))
 
 returns : tie.Need-returns Inv-loop μ-loop
 returns c =
     let a = c .before .before .args in
     let v = c .before .loop in
-    (v .inv .wide, ended (a .planes .now) (a .w) (v .planes) (v .carry) (v .i) (v .inv) (c .before .before .pre) (c .loop-test .left))
+    (v .inv .wide, ended (a .planes .now) (a .w) (v .planes) (v .carry) (v .i) (v .inv) (c .before .before .pre) (omega arith))
 
 pub add-row-spec : {M : Type 1} → statement M
 add-row-spec =

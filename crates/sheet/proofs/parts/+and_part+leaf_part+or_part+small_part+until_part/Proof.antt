@@ -9,13 +9,14 @@ use borrow.Author.Needs.{needs}
 use borrow.Fn.Kinds.{In}
 use borrow.Fn.PlainCycle.{Measures, is, falls, and}
 use Rattle.sheet.specs.Small.{nothing, leaf-is, paren-shut, paren-closed, prefix-shut, prefix-spent, prefix-over, word-is, prefix-of, other-byte}
-use Rattle.sheet.specs.Counts.{countGot}
-use Rattle.sheet.specs.Parts.{LeafReads, PartIs, leafReader, leafNodes, leafFlat}
+use Rattle.token.specs.Counts.{countGot}
+use Rattle.token.specs.Parts.{PartIs}
+use Rattle.sheet.specs.Ranks.{LeafReads, leafReader, leafNodes, leafFlat}
 use Rattle.sheet.specs.LeafParts.{mark-part, no-count, count-shut, count-spent, count-is}
-use Rattle.sheet.specs.More.{WithNode}
+use Rattle.token.specs.More.{WithNode}
 use Rattle.sheet.specs.Reached.{until-ended, until-spent, until-shut, until-joined}
 use Rattle.sheet.specs.Room.{flat-size, room, refused-part, part-inside}
-use Rattle.sheet.specs.Joined.{part-length}
+use Rattle.token.specs.Joined.{part-length}
 use Rattle.grammar.specs.Nodes.{flatCount, flatMark}
 use Rattle.grammar.specs.Limits.{countNodes, markNodes}
 use Rattle.grammar.specs.Reader.{marks, ors, smalls, untils}
@@ -37,17 +38,17 @@ use Rattle.sheet.proofs.parts.+and_part+leaf_part+or_part+small_part+un
 use Rattle.sheet.proofs.parts.until_part.Reads as until-part
 use Rattle.sheet.proofs.parts.until_part.Kinds as until-part-kinds
 use Rattle.sheet.proofs.parts.+and_part+leaf_part+or_part+small_part+until_part.Lts-until_part as until-part-lts
-use Rattle.sheet.proofs.counts.count_end.Reads as count-end-reads
-use Rattle.sheet.proofs.leaves.expect.Reads as expect-reads
-use Rattle.sheet.proofs.leaves.mark.Reads as mark-reads
-use Rattle.sheet.proofs.leaves.operator_at.Reads as operator-at-reads
-use Rattle.sheet.proofs.leaves.reach_at.Reads as reach-at-reads
-use Rattle.sheet.proofs.leaves.word.Reads as word-reads
-use Rattle.sheet.proofs.nodes.refused.Reads as refused-reads
-use Rattle.sheet.proofs.nodes.with_one.Reads as with-one-reads
-use Rattle.sheet.proofs.nodes.with_two.Reads as with-two-reads
+use Rattle.token.proofs.count_end.Reads as count-end-reads
+use Rattle.token.proofs.expect.Reads as expect-reads
+use Rattle.token.proofs.mark.Reads as mark-reads
+use Rattle.token.proofs.operator_at.Reads as operator-at-reads
+use Rattle.token.proofs.reach_at.Reads as reach-at-reads
+use Rattle.token.proofs.word.Reads as word-reads
+use Rattle.token.proofs.refused.Reads as refused-reads
+use Rattle.token.proofs.with_one.Reads as with-one-reads
+use Rattle.token.proofs.with_two.Reads as with-two-reads
 use Rattle.sheet.proofs.parts.prefix_kind.Reads as prefix-kind-reads
-use Rattle.sheet.proofs.tokens.spaces.Reads as spaces-reads
+use Rattle.token.proofs.spaces.Reads as spaces-reads
 
 abbrev μ-and-part : Measures 2 and-part-kinds.ps ℕ
 μ-and-part κs a = a .1 .1 .0 * 5 + 3

@@ -8,7 +8,7 @@ use Rattle.grammar.specs.Reader.{clauseLine}
 use Rattle.grammar.specs.Promises.{promises}
 use Rattle.grammar.specs.Nodes.{flatCount}
 use Rattle.grammar.specs.Limits.{countNodes}
-use Rattle.sheet.specs.Joined.{part-length}
+use Rattle.token.specs.Joined.{part-length}
 use Rattle.sheet.specs.Room.{part-inside, flat-size}
 use Rattle.sheet.specs.Rules.{rulesVerdict}
 use Rattle.sheet.specs.Lines.{fromLine, too-long, empty, by-lines, all-read, line-33, line-refused, line-read}

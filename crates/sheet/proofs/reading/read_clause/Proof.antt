@@ -4,8 +4,8 @@ use native.Mathlib.Omega.{arith}
 use Rattle.grammar.specs.Reader.{counts, ors, clauses, clauseLine}
 use Rattle.grammar.specs.Nodes.{flatCount}
 use Rattle.grammar.specs.Limits.{countNodes}
-use Rattle.sheet.specs.Ended.{ended-part}
-use Rattle.sheet.specs.Joined.{part-length}
+use Rattle.token.specs.Ended.{ended-part}
+use Rattle.token.specs.Joined.{part-length}
 use Rattle.sheet.specs.Room.{part-inside, flat-size}
 use borrow.Author.Needs.{needs}
 use Rattle.sheet.proofs.reading.read_clause.Statement.{statement}

@@ -1,0 +1,34 @@
+-- What a node is, by the tests on its kind.
+use Prim.Native.Nat.{ℕ, _+_, _*_, _≤_, _<_}
+use mathlib.Core.Path.{_≡_}
+use lib.Dec.{eqb}
+use borrow.Author.Tests.{eq-eqb, ne-eqb, lt-ltb, le-ltb}
+use Rattle.grammar.specs.Nodes.{topN, markN, countN, oneN, twoN}
+use Rattle.drift.specs.Tree.{nodeOf, oneOf, twoOf}
+use native.Mathlib.Omega.{arith}
+
+module _ (kind x y z : ℕ) where
+  pub kind-top : kind ≡ 0 → nodeOf kind x y z ≡ topN
+  kind-top e = rw (eq-eqb kind 0 e)
+
+  pub kind-mark : kind ≡ 1 → nodeOf kind x y z ≡ markN x
+  kind-mark e = let a : (kind ≡ 0) → ⊥ = (λ d. omega arith) in rw (ne-eqb kind 0 a, eq-eqb kind 1 e)
+
+  pub kind-one : 2 ≤ kind → kind < 6 → nodeOf kind x y z ≡ oneN (oneOf kind) x
+  kind-one p q =
+      let a : (kind ≡ 0) → ⊥ = (λ d. omega arith) in
+      let b : (kind ≡ 1) → ⊥ = (λ d. omega arith) in
+      rw (ne-eqb kind 0 a, ne-eqb kind 1 b, lt-ltb kind 6 q)
+
+  pub kind-two : 6 ≤ kind → kind < 10 → nodeOf kind x y z ≡ twoN (twoOf kind) x y
+  kind-two p q =
+      let a : (kind ≡ 0) → ⊥ = (λ d. omega arith) in
+      let b : (kind ≡ 1) → ⊥ = (λ d. omega arith) in
+      rw (ne-eqb kind 0 a, ne-eqb kind 1 b, le-ltb kind 6 p, lt-ltb kind 10 q)
+
+  pub kind-count : 10 ≤ kind → nodeOf kind x y z ≡ countN x (y + 256 * z) (eqb kind 11)
+  kind-count p =
+      let a : (kind ≡ 0) → ⊥ = (λ d. omega arith) in
+      let b : (kind ≡ 1) → ⊥ = (λ d. omega arith) in
+      let c : 6 ≤ kind = omega arith in
+      rw (ne-eqb kind 0 a, ne-eqb kind 1 b, le-ltb kind 6 c, le-ltb kind 10 p)

@@ -1,0 +1,68 @@
+-- A block of nodes, four bytes to each, and the text that a node stands for.
+use Prim.Native.Nat.{ℕ, zero, suc, _+_, _*_, _≤_, _<_}
+use mathlib.Core.Bool.{Bool, cond}
+use mathlib.Core.List.{List}
+use lib.Dec.{eqb, ltb}
+use lib.ListN.{getD, length}
+use Rattle.grammar.specs.Grammar.{Form, top, leaf, neg, and, or, next, until, release, ev, gl, Inner, counted, Clause}
+use Rattle.grammar.specs.Nodes.{Node, topN, markN, countN, oneN, twoN, Op₁, neg₁, next₁, ev₁, gl₁, Op₂, and₂, or₂, until₂, release₂}
+
+abbrev pub oneOf : ℕ → Op₁
+oneOf kind = cond (eqb kind 2) neg₁ (cond (eqb kind 3) next₁ (cond (eqb kind 4) ev₁ gl₁))
+
+abbrev pub twoOf : ℕ → Op₂
+twoOf kind = cond (eqb kind 6) and₂ (cond (eqb kind 7) or₂ (cond (eqb kind 8) until₂ release₂))
+
+-- by its kind and the three bytes behind it
+abbrev pub nodeOf : ℕ → ℕ → ℕ → ℕ → Node
+nodeOf kind x y z =
+    cond (eqb kind 0) topN (cond (eqb kind 1) (markN x) (cond (ltb kind 6) (oneN (oneOf kind) x) (cond (ltb kind 10) (twoN (twoOf kind) x y) (countN x (y + 256 * z) (eqb kind 11)))))
+
+abbrev pub nodeAt : List ℕ → ℕ → Node
+nodeAt block k = nodeOf (getD block (4 * k) 0) (getD block (4 * k + 1) 0) (getD block (4 * k + 2) 0) (getD block (4 * k + 3) 0)
+
+-- operands have smaller numbers than their operator, marks are below 32
+abbrev pub Below : ℕ → Node → Type 0
+Below k topN = Unit {0}
+Below k (markN m) = m < 32
+Below k (oneN o i) = i < k
+Below k (twoN o i j) = (i < k) × (j < k)
+Below k (countN i m percent) = i < k
+
+-- n nodes
+pub record Ordered (block : List ℕ) (n : ℕ) : Type 0 where
+  pub room : 4 * n ≤ length block
+  pub below : (k : ℕ) → k < n → Below k (nodeAt block k)
+
+abbrev pub one : {L : Type 0} → Op₁ → Form L → Form L
+one neg₁ a = neg a
+one next₁ a = next a
+one ev₁ a = ev a
+one gl₁ a = gl a
+
+abbrev pub two : {L : Type 0} → Op₂ → Form L → Form L → Form L
+two and₂ a b = and a b
+two or₂ a b = or a b
+two until₂ a b = until a b
+two release₂ a b = release a b
+
+-- a text whose operands are given by their numbers, over what a mark and a count stand for
+abbrev pub formOf : {L : Type 0} → (ℕ → Form L) → (ℕ → ℕ → Bool → Form L) → (ℕ → Form L) → Node → Form L
+formOf mark count operand topN = top
+formOf mark count operand (markN m) = mark m
+formOf mark count operand (countN i m percent) = count i m percent
+formOf mark count operand (oneN o i) = one o (operand i)
+formOf mark count operand (twoN o i j) = two o (operand i) (operand j)
+
+-- what node k stands for, looked up at most n nodes deep
+unfoldable pub tree : {L : Type 0} → (ℕ → Form L) → (ℕ → ℕ → Bool → Form L) → List ℕ → ℕ → ℕ → Form L
+tree mark count block zero k = top
+tree mark count block (suc n) k = formOf mark count (λ i. tree mark count block n i) (nodeAt block k)
+
+-- inner text has marks and no counts
+unfoldable pub innerTree : List ℕ → ℕ → ℕ → Inner
+innerTree block n k = tree (λ m. leaf m) (λ i m percent. top) block n k
+
+-- a clause has counts and no marks outside them
+unfoldable pub clauseTree : List ℕ → ℕ → ℕ → Clause
+clauseTree block n k = tree (λ m. top) (λ i m percent. leaf (counted (innerTree block (length block) i) m percent)) block n k

@@ -1,0 +1,75 @@
+// A count over all carts, at every step at once.
+use crate::inner::inner_row;
+ghost use mathlib.Core.Path.{_≡_};
+ghost use Prim.Native.Nat.{_+_, _<_, _≤_, min};
+ghost use lib.ListN.{length};
+ghost use Rattle.cltl.specs.Threshold.{threshold as «threshold_of», quota as «quota_of»};
+ghost use Rattle.cltl.specs.Rules.{inner, quorum};
+ghost use Rattle.mask.specs.Mask.{Row};
+ghost use Rattle.marks.specs.Table.{Tabled, rowsIn};
+ghost use Rattle.drift.specs.Tree.{Ordered, innerTree};
+
+// The number of carts that a count asks for.
+pub fn threshold(number: usize, percent: bool, carts: usize) -> usize
+    requires { ⌜ (number < 65536) × (carts ≤ 32) ⌝ }
+    ensures { λ r. ⌜ r ≡ «threshold_of» number percent carts ⌝ }
+{
+    if percent {
+        (number * carts + 99) / 100
+    } else {
+        number
+    }
+}
+
+// The threshold of the count (p), or of its negation.
+pub fn quota(p: bool, m: usize, carts: usize) -> usize
+    requires { ⌜ carts ≤ 32 ⌝ }
+    ensures { λ r. ⌜ r ≡ «quota_of» p m carts ⌝ }
+{
+    if p {
+        return m;
+    }
+    if m <= carts { carts + 1 - m } else { 0 }
+}
+
+// More than 32 carts there are not.
+fn capped(m: usize) -> usize
+    ensures { λ r. ⌜ r ≡ min m 33 ⌝ }
+{
+    if m < 33 { m } else { 33 }
+}
+
+// The rule for a count of threshold m over the inner text of node x.
+pub fn count_row(
+    nodes: &[u8],
+    table: &[u64],
+    carts: usize,
+    h: usize,
+    l: usize,
+    d: usize,
+    p: bool,
+    m: usize,
+    x: usize,
+) -> u64
+    requires { ⌜ (l < h) × (h ≤ 64) × (carts ≤ 32) ⌝ }
+    requires { ⌜ Ordered (now nodes) (x + 1) ⌝ }
+    requires { ⌜ Tabled (now table) carts h ⌝ }
+    ensures { λ r. ⌜ Row h r (quorum h l carts d m (λ i. inner (rowsIn (now (table .entry)) carts h l) i p (innerTree (now (nodes .entry)) (length (now (nodes .entry))) x))) ⌝ }
+{
+    let mut planes = [0u64; 7];
+    mask::start_planes(&mut planes, capped(m), h);
+    let mut all = mask::full(h);
+    let mut i = 0;
+    while i < carts {
+        let a = inner_row(nodes, table, h, l, i, p, x);
+        all = mask::join_row(true, a, all);
+        mask::add_row(&mut planes, mask::window_row(a, h, l, d));
+        i += 1;
+    }
+    let many = mask::reached(&planes);
+    if m == 1 {
+        mask::join_row(false, many, all)
+    } else {
+        many
+    }
+}

@@ -1,0 +1,64 @@
+-- "Checking a plan: floor, plan, moves, sheet as above; then 16 with d above 0, X outside a count (lowest clause, 0); then 17, lowest clause
+-- not true (clause, step)."
+use Prim.Native.Nat.{ℕ, suc}
+use mathlib.Core.Bool.{cond}
+use mathlib.Core.List.{List, [], _∷_}
+use lib.Dec.{eqb}
+use lib.ListN.{getD}
+use Rattle.refusal.specs.Codes.{refused}
+use Rattle.refusal.specs.Stages.{andThen}
+use Rattle.refusal.specs.declared.Verdict.{Verdict}
+use Rattle.refusal.specs.declared.Verdict.the-variants.{Accepted, Rules as AboutRules}
+use Rattle.floor.specs.Numbers.{numbersOf}
+use Rattle.floor.specs.declared.Floor.{Floor}
+use Rattle.plan.specs.Plan.{Numbers}
+use Rattle.plan.specs.After.{afterReading}
+use Rattle.row.specs.Moves.{bit}
+use Rattle.moves.specs.Carts.{movesVerdict}
+use Rattle.grammar.specs.Grammar.{Clause}
+use Rattle.grammar.specs.Reader.{Read, readSheet}
+use Rattle.grammar.specs.Reader as reader
+use Rattle.sheet.specs.Rules.{rulesVerdict}
+use Rattle.cltl.specs.Meaning.{Rows}
+use Rattle.cltl.specs.Rules.{rules, hasNext}
+use Rattle.cltl.specs.Step.{failing}
+
+-- the number of place q: "one bit for each mark m0 (lowest) to m31"
+abbrev pub marksAt : List ℕ → ℕ → ℕ
+marksAt floor q = getD (numbersOf floor .places) q 0
+
+-- the place on step s of cart i's row
+abbrev pub placeOn : Numbers → ℕ → ℕ → ℕ
+placeOn p i s = getD (getD (p .rows) i []) s 0
+
+-- "Rows and marks are those of the files"
+abbrev pub planRows : List ℕ → Floor → Numbers → Rows
+planRows floor f p = record { carts = f .carts; h = p .head .steps; l = p .head .stem; bears = λ i s k. bit k (marksAt floor (placeOn p i s)) }
+
+-- a sheet's clauses; a refused one has none
+abbrev pub clausesOf : Read → List Clause
+clausesOf (reader.accepted cs) = cs
+clausesOf (reader.refused w k) = []
+
+-- 16, from clause n on: "X outside a count (lowest clause, 0)"
+unfoldable pub nextVerdict : ℕ → List Clause → Verdict
+nextVerdict n [] = Accepted
+nextVerdict n (c ∷ cs) = cond (hasNext c) (AboutRules (refused 16 n 0)) (nextVerdict (suc n) cs)
+
+module _ (P : Rows) (d : ℕ) where
+  -- 17, from clause n on: "A plan is kept if every clause is true at step 0."
+  unfoldable pub keptVerdict : ℕ → List Clause → Verdict
+  keptVerdict n [] = Accepted
+  keptVerdict n (c ∷ cs) = cond (rules P d c 0) (keptVerdict (suc n) cs) (AboutRules (refused 17 n (failing P d c)))
+
+  -- 16 "with d above 0", then 17
+  abbrev pub clausesVerdict : List Clause → Verdict
+  clausesVerdict cs = andThen (cond (eqb d 0) Accepted (nextVerdict 0 cs)) (keptVerdict 0 cs)
+
+-- the stages in order, once floor and plan are read
+abbrev pub stages : List ℕ → List ℕ → Floor → Numbers → Verdict
+stages floor sheet f p =
+    andThen (movesVerdict floor f p) (andThen (rulesVerdict sheet) (clausesVerdict (planRows floor f p) (p .head .drift) (clausesOf (readSheet sheet))))
+
+unfoldable pub checked : List ℕ → List ℕ → List ℕ → Verdict
+checked floor plan sheet = afterReading (λ v. v) (stages floor sheet) floor plan

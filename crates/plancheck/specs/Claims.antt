@@ -1,0 +1,101 @@
+-- The check keeps its promises.
+use Prim.Native.Nat.{ℕ, _≤_}
+use native.Mathlib.Omega.{arith}
+use mathlib.Core.Path.{_≡_, refl, sym, ap, subst, _∙_}
+use mathlib.Core.Logic.{_⊎_, inl, inr, ⊎-elim}
+use mathlib.Core.List.{List, [], _∷_}
+use lib.Dec.{T}
+use Rattle.endian.specs.Little.{bytes, Bytes}
+use Rattle.refusal.specs.declared.Verdict.{Verdict}
+use Rattle.refusal.specs.declared.Verdict.the-variants.{Accepted}
+use Rattle.record.specs.All.{All}
+use Rattle.record.specs.Record.{encoded, layout}
+use Rattle.record.specs.Buffer.{stored}
+use Rattle.floor.specs.Located.{accepts}
+use Rattle.floor.specs.declared.Floor.{Floor}
+use Rattle.plan.specs.Plan.{Numbers, readPlan}
+use Rattle.plan.specs.Plan as plan
+use Rattle.plan.specs.Valid.{Valid}
+use Rattle.plan.specs.Numbers.{headOf, planFile}
+use Rattle.plan.specs.After.{ReadAs}
+use Rattle.plan.specs.Complete.{file-reads}
+use Rattle.plan.specs.RoundTrip.{valid, bytes-back}
+use Rattle.grammar.specs.Grammar.{Clause}
+use Rattle.grammar.specs.Reader.{accepted, readSheet}
+use Rattle.cltl.specs.Meaning.{Proper, Run, TrueOf, TrueInStep}
+use Rattle.cltl.specs.Rules.{rules}
+use Rattle.cltl.specs.Promises as cltl
+use Rattle.plancheck.specs.Check.{planRows, clausesOf, checked}
+use Rattle.plancheck.specs.Promises.{Plain, Readable, PlanChecked}
+use Rattle.plancheck.specs.Stages.{Kept, accepted-as, as-accepted, accepted-read}
+
+all-map : {Q R : Clause → Type 0} → ((c : Clause) → Q c → R c) → (cs : List Clause) → All Q cs → All R cs
+all-map f [] a = tt
+all-map f (c ∷ cs) a = (f c (a .0), all-map f cs (a .1))
+
+all-both : {Q R S : Clause → Type 0} → ((c : Clause) → Q c → R c → S c) → (cs : List Clause) → All Q cs → All R cs → All S cs
+all-both f [] a b = tt
+all-both f (c ∷ cs) a b = (f c (a .0) (b .0), all-both f cs (a .1) (b .1))
+
+-- the plan with another drift
+abbrev drifted : Numbers → ℕ → Numbers
+drifted p d = record { head = headOf (p .head .steps) (p .head .stem) d; rows = p .rows }
+
+drifted-file : (p : Numbers) (d : ℕ) → stored (planFile p) 8 (bytes 2 d) ≡ planFile (drifted p d)
+unfolding layout encoded bytes
+drifted-file p d = refl
+
+module _ (floor s sheet : List ℕ) (fb : Bytes floor) (pb : Bytes s) where
+  proper : (f : Floor) (p : Numbers) → ReadAs floor s f p → Proper (planRows floor f p)
+  proper f p files = record { some = accepts floor f fb (files .floor-read) .valid .some-cart; lap = valid f s p (files .plan-read) .head .stem }
+
+  same-clauses : (cs cs′ : List Clause) → readSheet sheet ≡ accepted cs → readSheet sheet ≡ accepted cs′ → cs ≡ cs′
+  same-clauses cs cs′ e e′ = ap clausesOf (sym e ∙ e′)
+
+  module _ (f : Floor) (p : Numbers) (files : ReadAs floor s f p) (yes : checked floor s sheet ≡ Accepted) where
+    all-kept : (cs : List Clause) → readSheet sheet ≡ accepted cs → All (Kept (planRows floor f p) (p .head .drift)) cs
+    all-kept cs e =
+        let a = accepted-as floor s sheet f p files yes in
+        subst (All (Kept (planRows floor f p) (p .head .drift))) (same-clauses (a .0) cs (a .1 .readable .clauses) e) (a .2)
+
+    in-runs : (cs : List Clause) → Readable floor s sheet f p cs → All Plain cs → (r : Run (f .carts) (p .head .drift)) → All (TrueOf (planRows floor f p) r) cs
+    in-runs cs w plain r = all-both (λ c n k. cltl.runs (planRows floor f p) (proper f p files) (p .head .drift) c n k r) cs plain (all-kept cs (w .clauses))
+
+    drifted-read : (d : ℕ) → d ≤ p .head .drift → ReadAs floor (stored s 8 (bytes 2 d)) f (drifted p d)
+    drifted-read d less =
+        let v = valid f s p (files .plan-read) in
+        let v′ : Valid (drifted p d) f =
+        record { head = record { some = v .head .some; steps = v .head .steps; stem = v .head .stem; drift = let x = v .head .drift in omega arith }; carts = v .carts; steps = v .steps; places = v .places } in
+        let e : planFile (drifted p d) ≡ stored s 8 (bytes 2 d) = sym (drifted-file p d) ∙ ap (λ (x : List ℕ). stored x 8 (bytes 2 d)) (bytes-back f s p pb (files .plan-read)) in
+        record {
+          floor-read = files .floor-read;
+          plan-read = subst (λ (x : List ℕ). readPlan f x ≡ plan.accepted (drifted p d)) e (file-reads f (drifted p d) (accepts floor f fb (files .floor-read) .valid .few-carts) v′);
+        }
+
+    less-drift : (d : ℕ) → d ≤ p .head .drift → checked floor (stored s 8 (bytes 2 d)) sheet ≡ Accepted
+    less-drift d less =
+        let a = accepted-as floor s sheet f p files yes in
+        let w = a .1 .readable in
+        as-accepted floor (stored s 8 (bytes 2 d)) sheet f (drifted p d) (a .0)
+        (record { readable = record { files = drifted-read d less; moves = w .moves; clauses = w .clauses }; steady = ⊎-elim (λ z. inl (omega arith)) (λ x. inr x) (a .1 .steady) })
+        (all-map (λ c k. cltl.smaller (planRows floor f p) (proper f p files) (p .head .drift) d less c 0 k) (a .0) (a .2))
+
+  module _ (f : Floor) (p : Numbers) (files : ReadAs floor s f p) (none : p .head .drift ≡ 0) where
+    step-kept : (c : Clause) → TrueInStep (planRows floor f p) c → Kept (planRows floor f p) (p .head .drift) c
+    step-kept c t = subst (λ (d : ℕ). T (rules (planRows floor f p) d c 0)) (sym none) (cltl.in-step (planRows floor f p) (proper f p files) c .1 t)
+
+    kept-step : (c : Clause) → Kept (planRows floor f p) (p .head .drift) c → TrueInStep (planRows floor f p) c
+    kept-step c k = cltl.in-step (planRows floor f p) (proper f p files) c .0 (subst (λ (d : ℕ). T (rules (planRows floor f p) d c 0)) none k)
+
+  pub claims : (v : Verdict) → v ≡ checked floor s sheet → PlanChecked floor s sheet v
+  claims v e = record {
+    verdict = e;
+    in-step = λ f p files none. (
+      λ yes. let a = accepted-as floor s sheet f p files (sym e ∙ yes) in (a .0, a .1 .readable, all-map (kept-step f p files none) (a .0) (a .2)),
+      λ w. e ∙ as-accepted floor s sheet f p (w .0) (record { readable = w .1; steady = inl none }) (all-map (step-kept f p files none) (w .0) (w .2)),
+    );
+    kept = λ f p cs a. (λ yes. all-kept f p (a .readable .files) (sym e ∙ yes) cs (a .readable .clauses), λ k. e ∙ as-accepted floor s sheet f p cs a k);
+    runs = λ yes f p cs w plain r. in-runs f p (w .files) (sym e ∙ yes) cs w plain r;
+    smaller = λ yes f p files d less. less-drift f p files (sym e ∙ yes) d less;
+    readable = λ yes. let w = accepted-read floor s sheet (sym e ∙ yes) in let a = accepted-as floor s sheet (w .0) (w .1) (w .2) (sym e ∙ yes) in (w .0, w .1, a .0, a .1);
+  }

@@ -1,0 +1,153 @@
+-- What is accepted, stage by stage.
+use Prim.Native.Nat.{ℕ, suc, _<_}
+use native.Mathlib.Omega.{arith}
+use mathlib.Core.Path.{_≡_, refl, sym, ap, _∙_}
+use mathlib.Core.Bool.{Bool, true, false, cond}
+use mathlib.Core.Logic.{_⊎_, inl, inr}
+use mathlib.Core.List.{List, [], _∷_}
+use lib.Dec.{T, eqb}
+use borrow.Author.Tests.{eq-eqb, eqb-true}
+use Rattle.refusal.specs.Codes.{refused}
+use Rattle.refusal.specs.Stages.{andThen}
+use Rattle.refusal.specs.Accepting.{both-accepted}
+use Rattle.refusal.specs.declared.Refusal.{Refusal}
+use Rattle.refusal.specs.declared.Verdict.{Verdict}
+use Rattle.refusal.specs.declared.Verdict.the-variants.{Accepted, Rules as AboutRules}
+use Rattle.record.specs.All.{All}
+use Rattle.floor.specs.declared.Floor.{Floor}
+use Rattle.plan.specs.Plan.{Numbers}
+use Rattle.plan.specs.After.{ReadAs}
+use Rattle.plan.specs.Read.{Went, no-floor, no-plan, on, went, read-on}
+use Rattle.plan.specs.RoundTrip.{valid}
+use Rattle.moves.specs.Carts.{movesVerdict}
+use Rattle.moves.specs.Unending.{all-unending, all-accepted}
+use Rattle.grammar.specs.Grammar.{Clause}
+use Rattle.grammar.specs.Reader.{Read, accepted, readSheet}
+use Rattle.grammar.specs.Reader as reader
+use Rattle.sheet.specs.Rules.{readVerdict, rulesVerdict}
+use Rattle.cltl.specs.Meaning.{Rows}
+use Rattle.cltl.specs.Rules.{rules, hasNext}
+use Rattle.plancheck.specs.Check.{planRows, clausesOf, nextVerdict, keptVerdict, clausesVerdict, stages, checked}
+use Rattle.plancheck.specs.Promises.{Plain, Ahead}
+
+not-refused : {x : Refusal} → AboutRules x ≡ Accepted → ⊥
+not-refused e = let z : _≡_ {A = ℕ} 0 1 = cc in omega arith
+
+-- a test that must hold, or must not, before the next clause
+passes : (b : Bool) (v : Verdict) (x : Refusal) → cond b v (AboutRules x) ≡ Accepted → T b × (v ≡ Accepted)
+passes true v x e = (tt, e)
+passes false v x e = absurd (not-refused e)
+
+fails : (b : Bool) (v : Verdict) (x : Refusal) → cond b (AboutRules x) v ≡ Accepted → (T b → ⊥) × (v ≡ Accepted)
+fails true v x e = absurd (not-refused e)
+fails false v x e = (λ t. t, e)
+
+if-true : (b : Bool) (v w : Verdict) → T b → cond b v w ≡ v
+if-true true v w t = refl
+if-true false v w t = absurd t
+
+if-false : (b : Bool) (v w : Verdict) → (T b → ⊥) → cond b v w ≡ w
+if-false true v w t = absurd (t tt)
+if-false false v w t = refl
+
+pub next-plain : (n : ℕ) (cs : List Clause) → nextVerdict n cs ≡ Accepted → All Plain cs
+unfolding nextVerdict
+next-plain n [] e = tt
+next-plain n (c ∷ cs) e = let r = fails (hasNext c) (nextVerdict (suc n) cs) _ e in (r .0, next-plain (suc n) cs (r .1))
+
+pub plain-next : (n : ℕ) (cs : List Clause) → All Plain cs → nextVerdict n cs ≡ Accepted
+unfolding nextVerdict
+plain-next n [] a = refl
+plain-next n (c ∷ cs) a = if-false (hasNext c) _ _ (a .0) ∙ plain-next (suc n) cs (a .1)
+
+module _ (P : Rows) (d : ℕ) where
+  abbrev pub Kept : Clause → Type 0
+  Kept c = T (rules P d c 0)
+
+  -- no refusal 16
+  abbrev pub Steady : List Clause → Type 0
+  Steady cs = (d ≡ 0) ⊎ All Plain cs
+
+  verdict-kept : (n : ℕ) (cs : List Clause) → keptVerdict P d n cs ≡ Accepted → All Kept cs
+  unfolding keptVerdict
+  verdict-kept n [] e = tt
+  verdict-kept n (c ∷ cs) e = let r = passes (rules P d c 0) (keptVerdict P d (suc n) cs) _ e in (r .0, verdict-kept (suc n) cs (r .1))
+
+  kept-verdict : (n : ℕ) (cs : List Clause) → All Kept cs → keptVerdict P d n cs ≡ Accepted
+  unfolding keptVerdict
+  kept-verdict n [] a = refl
+  kept-verdict n (c ∷ cs) a = if-true (rules P d c 0) _ _ (a .0) ∙ kept-verdict (suc n) cs (a .1)
+
+  steady-is : (cs : List Clause) → cond (eqb d 0) Accepted (nextVerdict 0 cs) ≡ Accepted → Steady cs
+  steady-is cs e = go (eqb d 0) refl e
+    where
+      go : (b : Bool) → eqb d 0 ≡ b → cond b Accepted (nextVerdict 0 cs) ≡ Accepted → Steady cs
+      go true q e = inl (eqb-true d 0 q)
+      go false q e = inr (next-plain 0 cs e)
+
+  is-steady : (cs : List Clause) → Steady cs → cond (eqb d 0) Accepted (nextVerdict 0 cs) ≡ Accepted
+  is-steady cs (inl z) = ap (λ (b : Bool). cond b Accepted (nextVerdict 0 cs)) (eq-eqb d 0 z)
+  is-steady cs (inr a) = go (eqb d 0)
+    where
+      go : (b : Bool) → cond b Accepted (nextVerdict 0 cs) ≡ Accepted
+      go true = refl
+      go false = plain-next 0 cs a
+
+  pub clauses-accepted : (cs : List Clause) → clausesVerdict P d cs ≡ Accepted → Steady cs × All Kept cs
+  clauses-accepted cs e = let r = both-accepted _ (keptVerdict P d 0 cs) e in (steady-is cs (r .0), verdict-kept 0 cs (r .1))
+
+  pub accepted-clauses : (cs : List Clause) → Steady cs → All Kept cs → clausesVerdict P d cs ≡ Accepted
+  accepted-clauses cs s a = ap (λ (v : Verdict). andThen v (keptVerdict P d 0 cs)) (is-steady cs s) ∙ kept-verdict 0 cs a
+
+sheet-read : (r : Read) → readVerdict r ≡ Accepted → r ≡ accepted (clausesOf r)
+sheet-read (reader.accepted cs) e = refl
+sheet-read (reader.refused w k) e = absurd (not-refused e)
+
+module _ (floor plan sheet : List ℕ) where
+  abbrev K : Floor → Numbers → Clause → Type 0
+  K f p = Kept (planRows floor f p) (p .head .drift)
+
+  module _ (f : Floor) (p : Numbers) (files : ReadAs floor plan f p) where
+    stem-low : p .head .stem < p .head .steps
+    stem-low = valid f plan p (files .plan-read) .head .stem
+
+    stages-accepted : stages floor sheet f p ≡ Accepted → (cs : List Clause) × Ahead floor plan sheet f p cs × All (K f p) cs
+    unfolding rulesVerdict
+    stages-accepted e =
+        let m = both-accepted (movesVerdict floor f p) _ e in
+        let r = both-accepted (rulesVerdict sheet) _ (m .1) in
+        let k = clauses-accepted (planRows floor f p) (p .head .drift) (clausesOf (readSheet sheet)) (r .1) in (
+          clausesOf (readSheet sheet),
+          record { readable = record { files = files; moves = all-unending floor p stem-low f (m .0); clauses = sheet-read (readSheet sheet) (r .0) }; steady = k .0 },
+          k .1,
+        )
+
+  accepted-stages : (f : Floor) (p : Numbers) (cs : List Clause) → Ahead floor plan sheet f p cs → All (K f p) cs → stages floor sheet f p ≡ Accepted
+  unfolding rulesVerdict
+  accepted-stages f p cs a k =
+      let w = a .readable in
+      let m = all-accepted floor p (stem-low f p (w .files)) f (w .moves) in
+      ap (λ (v : Verdict). andThen v (andThen (rulesVerdict sheet) (clausesVerdict (planRows floor f p) (p .head .drift) (clausesOf (readSheet sheet))))) m
+      ∙ ap (λ (r : Read). andThen (readVerdict r) (clausesVerdict (planRows floor f p) (p .head .drift) (clausesOf r))) (w .clauses)
+      ∙ accepted-clauses (planRows floor f p) (p .head .drift) cs (a .steady) k
+
+  pub stages-read : (f : Floor) (p : Numbers) → ReadAs floor plan f p → checked floor plan sheet ≡ stages floor sheet f p
+  unfolding checked
+  stages-read f p files = read-on (λ v. v) (stages floor sheet) floor plan f p files
+
+  -- with floor and plan read as these
+  pub accepted-as : (f : Floor) (p : Numbers) → ReadAs floor plan f p → checked floor plan sheet ≡ Accepted → (cs : List Clause) × Ahead floor plan sheet f p cs × All (K f p) cs
+  accepted-as f p files e = stages-accepted f p files (sym (stages-read f p files) ∙ e)
+
+  pub as-accepted : (f : Floor) (p : Numbers) (cs : List Clause) → Ahead floor plan sheet f p cs → All (K f p) cs → checked floor plan sheet ≡ Accepted
+  as-accepted f p cs a k = stages-read f p (a .readable .files) ∙ accepted-stages f p cs a k
+
+  -- what is accepted could be read
+  pub accepted-read : checked floor plan sheet ≡ Accepted → (f : Floor) × (p : Numbers) × ReadAs floor plan f p
+  unfolding checked
+  accepted-read e = go (went (λ v. v) (stages floor sheet) floor plan)
+    where
+      go : Went (λ (v : Verdict). v) (stages floor sheet) floor plan → (f : Floor) × (p : Numbers) × ReadAs floor plan f p
+      go (no-floor x q) = let z : _≡_ {A = ℕ} 0 1 = cc in absurd (omega arith)
+      go (no-plan x q) = let z : _≡_ {A = ℕ} 0 1 = cc in absurd (omega arith)
+      go (on f n w r) = (f, n, w)

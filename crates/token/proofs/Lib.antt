@@ -1,0 +1,5 @@
+pub mod Numbers
+pub mod Adding
+pub mod Behind
+pub mod Words
+pub mod Counting

@@ -1,0 +1,67 @@
+-- What the readers of single tokens give, in the terms of a part.
+use Prim.Native.Nat.{ℕ, suc, _+_, _*_, _≤_, _<_}
+use mathlib.Core.Path.{_≡_}
+use mathlib.Core.Bool.{Bool, true, false}
+use mathlib.Core.List.{List, [], _∷_}
+use lib.Dec.{leb}
+use lib.ListN.{length, drop}
+use Rattle.record.specs.Buffer.{stored}
+use Rattle.grammar.specs.Nodes.{Node}
+use Rattle.grammar.specs.Reader.{Got, got, no, pick, bind, node, literal, number, percent, skip}
+use Rattle.grammar.specs.Limits.{most}
+use Rattle.token.specs.Block.{nodeBytes}
+use Rattle.token.specs.declared.Part.{Part}
+use Rattle.token.specs.declared.Limit.{Limit}
+
+-- a refusal, and the block still has its length
+pub record Refused (s before : List ℕ) (r : Part) (after : List ℕ) (w : ℕ) (rest : List ℕ) : Type 0 where
+  pub number : r .fault ≡ w
+  pub some : r .fault ≡ 0 → ⊥
+  pub none : r .left ≡ 0
+  pub behind : drop (r .at) s ≡ rest
+  pub inside : r .at ≤ length s
+  pub block : length after ≡ length before
+
+-- a leaf with its one node
+module _ {A : Type 0} (node : A → Node) (s : List ℕ) (n left : ℕ) (before : List ℕ) (r : Part) (after : List ℕ) where
+  pub record Placed (x : A) (m : ℕ) (rest : List ℕ) : Type 0 where
+    pub fine : r .fault ≡ 0
+    pub behind : drop (r .at) s ≡ rest
+    pub inside : r .at ≤ length s
+    pub allowed : r .left ≡ m
+    pub slots : r .n ≡ n + 1
+    pub kept : r .n + r .left ≡ n + left
+    pub block : after ≡ stored before (4 * n) (nodeBytes (node x))
+
+  abbrev pub LeafIs : Got A → Type 0
+  LeafIs (got x m rest) = Placed x m rest
+  LeafIs (no w rest) = Refused s before r after w rest
+
+-- byte c behind a part that was read: the part up to behind it, or 13 where it should be
+pub record Expected (s : List ℕ) (r : Part) (c : ℕ) (q : Part) : Type 0 where
+  pub refused : (r .fault ≡ 0 → ⊥) → q ≡ r
+  pub inside : q .at ≤ length s
+  pub kept : q .fault ≡ 0 → (r .fault ≡ 0) × (q .n ≡ r .n)
+  pub found : r .fault ≡ 0 → (t : List ℕ) → skip (drop (r .at) s) ≡ c ∷ t
+      → (q .fault ≡ 0) × (drop (q .at) s ≡ t) × (q .left ≡ r .left) × (q .n ≡ r .n)
+  pub missing : r .fault ≡ 0 → ((t : List ℕ) → skip (drop (r .at) s) ≡ c ∷ t → ⊥)
+      → (q .fault ≡ 13) × (drop (q .at) s ≡ skip (drop (r .at) s)) × (q .left ≡ 0)
+
+-- `true`, from its first byte on
+abbrev pub wordGot : List ℕ → ℕ → ℕ → Got (Unit {0})
+wordGot s left i = bind (literal {A = Unit {0}} (114 ∷ 117 ∷ 101 ∷ []) tt left (drop (suc i) s)) (λ u m r₁. node (drop i s) m (λ m₁. got tt m₁ r₁))
+
+-- whether byte c stands at an offset
+pub record ByteAt (s : List ℕ) (j c : ℕ) (b : Bool) : Type 0 where
+  pub yes : b ≡ true → drop j s ≡ c ∷ drop (suc j) s
+  pub low : b ≡ true → j < length s
+  pub no : b ≡ false → (t : List ℕ) → drop j s ≡ c ∷ t → ⊥
+
+-- a count's number and whether it is a percentage, from its first digit on
+abbrev pub limitGot : List ℕ → ℕ → Got (ℕ × Bool)
+limitGot s i =
+    bind (number 0 (drop i s)) (λ k m r. bind (percent m r) (λ p m₁ r₁. pick (leb k (most p)) (got (k, p) m₁ r₁) (no 15 (drop i s))))
+
+abbrev pub LimitIs : List ℕ → Limit → Got (ℕ × Bool) → Type 0
+LimitIs s r (got x m t) = (r .fault ≡ 0) × (drop (r .at) s ≡ t) × (r .value ≡ x .0) × (r .percent ≡ x .1) × (r .value ≤ 999)
+LimitIs s r (no w t) = (r .fault ≡ w) × (drop (r .at) s ≡ t) × (w ≡ 0 → ⊥)
