@@ -1,28 +1,22 @@
 -- A mark that no word bears is not among the marks of all of them.
 use Prim.Native.Nat.{ℕ, zero, suc, _<_}
 use mathlib.Core.Path.{_≡_, sym, ap, _∙_}
-use mathlib.Core.Bool.{Bool, true, false, _||_}
+use mathlib.Core.Bool.{Bool, false}
 use mathlib.Core.List.{List}
 use native.Mathlib.Omega.{arith}
 use lib.ListN.{getD}
+use Rattle.refusal.specs.Faults.{either-false}
 use Rattle.row.specs.Round.{pick}
 use Rattle.mask.specs.Mask.{on}
 use Rattle.mask.specs.EachBit.{on-or}
 use Rattle.mask.specs.Combined.{all-false}
 use Rattle.marks.specs.Stored.{RowIn, joined}
 
-neither : (x y : Bool) → (x || y) ≡ false → (x ≡ false) × (y ≡ false)
-neither true y e = absurd (never e)
-  where
-    never : true ≡ false → ⊥
-    never q = let z : _≡_ {A = ℕ} 0 1 = cc in omega arith
-neither false y e = (cc, e)
-
 unseen : (words : List ℕ) (k n : ℕ) → on (joined words n) k ≡ false → (s : ℕ) → s < n → on (getD words s 0) k ≡ false
 unfolding joined
 unseen words k zero e s p = absurd (omega arith)
 unseen words k (suc n) e s p =
-    let w = neither (on (joined words n) k) (on (getD words n 0) k) (sym (on-or (joined words n) (getD words n 0) k) ∙ e) in
+    let w = either-false (on (joined words n) k) (on (getD words n 0) k) (sym (on-or (joined words n) (getD words n 0) k) ∙ e) in
     pick s n (_≡_ {A = Bool} (on (getD words s 0) k) false) (λ q. unseen words k n (w .0) s q)
     (λ q. let e : s ≡ n = omega arith in ap (λ (j : ℕ). on (getD words j 0) k) e ∙ w .1)
 
