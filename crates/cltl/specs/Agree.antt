@@ -41,7 +41,7 @@ unfolding every
 every-agrees f g zero e = refl
 every-agrees f g (suc n) e = rw (e n (le-refl (suc n)), every-agrees f g n (λ i p. e i (omega arith)))
 
-lowest-agrees : (f g : ℕ → Bool) (n s e : ℕ) → ((i : ℕ) → i < e → f i ≡ g i) → s + n ≤ e → lowest f n s ≡ lowest g n s
+pub lowest-agrees : (f g : ℕ → Bool) (n s e : ℕ) → ((i : ℕ) → i < e → f i ≡ g i) → s + n ≤ e → lowest f n s ≡ lowest g n s
 unfolding lowest
 lowest-agrees f g zero s e x q = refl
 lowest-agrees f g (suc n) s e x q = rw (x s (omega arith), lowest-agrees f g n (suc s) e x (omega arith))

@@ -10,3 +10,5 @@ pub mod NodeRows
 pub mod InnerRows
 pub mod CountRows
 pub mod ClauseRows
+pub mod Trees
+pub mod Off

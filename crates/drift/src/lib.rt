@@ -4,5 +4,8 @@ mod counts;
 mod inner;
 mod nodes;
 mod operators;
+mod refused;
 
 pub use clauses::clause_row;
+pub use refused::failing_step;
+pub use refused::has_next;

@@ -1,0 +1,72 @@
+// What the refusals of a clause name: "next" outside a count, and the step at which a G fails.
+use crate::clauses::clause_row;
+use crate::nodes::first_at;
+use crate::nodes::kind_at;
+use crate::nodes::second_at;
+ghost use mathlib.Core.Path.{_≡_};
+ghost use Prim.Native.Nat.{ℕ, _+_, _<_, _≤_};
+ghost use Rattle.cltl.specs.Rules.{hasNext};
+ghost use Rattle.cltl.specs.Step.{lowest, failing};
+ghost use Rattle.mask.specs.Mask.{on};
+ghost use Rattle.marks.specs.Table.{Tabled, rowsIn};
+ghost use Rattle.drift.specs.Tree.{Ordered, clauseTree};
+
+// Whether "next" stands outside the counts of node k's clause.
+pub fn has_next(nodes: &[u8], k: usize) -> bool
+    requires { ⌜ Ordered (now nodes) (k + 1) ⌝ }
+    ensures { λ r. ⌜ ((n : ℕ) → k < n → r ≡ hasNext (clauseTree (now (nodes .entry)) n k)) ⌝ }
+{
+    let kind = kind_at(nodes, k);
+    if kind == 3 {
+        return true;
+    }
+    if kind < 2 {
+        return false;
+    }
+    if 9 < kind {
+        return false;
+    }
+    let a = has_next(nodes, first_at(nodes, k));
+    if kind < 6 {
+        return a;
+    }
+    a | has_next(nodes, second_at(nodes, k))
+}
+
+// The lowest step at which a row is false.
+fn lowest_off(a: u64, h: usize) -> usize
+    requires { ⌜ h ≤ 64 ⌝ }
+    ensures { λ r. ⌜ (r ≡ lowest (on a) h 0) × (r ≤ h) ⌝ }
+{
+    let mut s = 0;
+    while s < h {
+        if (a >> s) % 2 == 0 {
+            return s;
+        }
+        s += 1;
+    }
+    h
+}
+
+// The step at which node k's clause fails, if it does.
+pub fn failing_step(
+    nodes: &[u8],
+    table: &[u64],
+    carts: usize,
+    h: usize,
+    l: usize,
+    d: usize,
+    k: usize,
+) -> usize
+    requires { ⌜ (l < h) × (h ≤ 64) × (carts ≤ 32) ⌝ }
+    requires { ⌜ Ordered (now nodes) (k + 1) ⌝ }
+    requires { ⌜ Tabled (now table) carts h ⌝ }
+    ensures { λ r. ⌜ ((n : ℕ) → k < n → r ≡ failing (rowsIn (now (table .entry)) carts h l) d (clauseTree (now (nodes .entry)) n k)) × (r ≤ 64) ⌝ }
+{
+    if kind_at(nodes, k) == 5 {
+        let body = clause_row(nodes, table, carts, h, l, d, true, first_at(nodes, k));
+        lowest_off(body, h)
+    } else {
+        0
+    }
+}
