@@ -99,7 +99,7 @@ module _ (P : Rows) (d : ℕ) where
   pub accepted-clauses : (cs : List Clause) → Steady cs → All Kept cs → clausesVerdict P d cs ≡ Accepted
   accepted-clauses cs s a = ap (λ (v : Verdict). andThen v (keptVerdict P d 0 cs)) (is-steady cs s) ∙ kept-verdict 0 cs a
 
-sheet-read : (r : Read) → readVerdict r ≡ Accepted → r ≡ accepted (clausesOf r)
+pub sheet-read : (r : Read) → readVerdict r ≡ Accepted → r ≡ accepted (clausesOf r)
 sheet-read (reader.accepted cs) e = refl
 sheet-read (reader.refused w k) e = absurd (not-refused e)
 

@@ -1,1 +1,2 @@
 // Checking a plan.
+mod clauses;
