@@ -74,6 +74,18 @@ pub fn judge_carts<'a>(
     Verdict::Accepted
 }
 
+// Judges the rows of an accepted plan.
+pub fn judge_plan(floor: &[u8], f: Floor, h: Head, block: &[u8]) -> Verdict
+    requires { ⌜ Accepts (now floor) f ⌝ }
+    requires { ⌜ (h .stem < h .steps) × (h .steps ≤ 64) × (length (now block) ≡ 2048) ⌝ }
+    ensures { λ r. ⌜ r ≡ judgedCarts (now (floor .entry)) (heldNumbers (f .carts) h (now (block .entry))) (f .carts) 0 ⌝ }
+{
+    let links = row::linked(floor, f);
+    let first = links.first;
+    let next = links.next;
+    judge_carts(floor, f, &first, &next, h, block)
+}
+
 // Checks the moves of a plan.
 pub fn check(floor: &[u8], plan: &[u8]) -> Verdict
     ensures { λ v. ⌜ MovesChecked (now (floor .entry)) (now (plan .entry)) v ⌝ }
@@ -83,11 +95,7 @@ pub fn check(floor: &[u8], plan: &[u8]) -> Verdict
     if !refusal::accepts(v) {
         return v;
     }
-    let f = r.floor;
-    let links = row::linked(floor, f);
-    let first = links.first;
-    let next = links.next;
     let p = r.plan;
     let block = p.block;
-    judge_carts(floor, f, &first, &next, p.head, &block)
+    judge_plan(floor, r.floor, p.head, &block)
 }

@@ -8,4 +8,5 @@ pub mod Claims
 pub mod Lines
 pub mod LineHeld
 pub mod Turns
+pub mod Marked
 pub mod NodesHeld

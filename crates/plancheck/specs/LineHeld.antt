@@ -1,14 +1,14 @@
 -- The nodes of a line that was read: in order, and its clause's.
-use Prim.Native.Nat.{ℕ, _+_, _-_, _*_, _≤_, _<_}
+use Prim.Native.Nat.{ℕ, _+_, _-_, _≤_, _<_}
 use native.Mathlib.Omega.{arith}
-use mathlib.Core.Path.{_≡_, sym, ap, subst, _∙_}
-use mathlib.Core.List.{List, []}
+use mathlib.Core.Path.{_≡_, sym, subst, _∙_}
+use mathlib.Core.List.{List}
 use lib.ListN.{length, drop}
 use Rattle.refusal.specs.declared.Verdict.{Verdict}
 use Rattle.record.specs.Buffer.{stored}
 use Rattle.grammar.specs.Grammar.{Clause}
 use Rattle.grammar.specs.Limits.{countNodes}
-use Rattle.grammar.specs.Nodes.{flat, flatCount, flatClause}
+use Rattle.grammar.specs.Nodes.{flatCount, flatClause}
 use Rattle.grammar.specs.Reader.{clauseLine}
 use Rattle.token.specs.Block.{nodesBytes}
 use Rattle.token.specs.Parts.{PartIs}

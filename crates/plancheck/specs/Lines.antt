@@ -5,7 +5,7 @@ use mathlib.Core.Path.{_≡_, refl, sym, ap, subst, _∙_}
 use mathlib.Core.Bool.{Bool, true, false}
 use mathlib.Core.List.{List, [], _∷_}
 use borrow.Author.Tests.{le-ltb}
-use lib.ListN.{length, getD, drop, drop-of-length-le}
+use lib.ListN.{length, drop, drop-of-length-le}
 use lib.Seq.{drop-cons}
 use Rattle.refusal.specs.declared.Verdict.{Verdict}
 use Rattle.refusal.specs.declared.Verdict.the-variants.{Accepted}
@@ -13,12 +13,12 @@ use Rattle.record.specs.All.{All}
 use Rattle.grammar.specs.Grammar.{Clause, Sheet, done, line}
 use Rattle.grammar.specs.Limits.{nodes, countNodes, InRange, CountOk, Fits}
 use Rattle.grammar.specs.Nodes.{flatCount}
-use Rattle.grammar.specs.Reader.{Got, got, no, pick, bind, clauseLine, lines, Read, accepted, outcome, start, readSheet}
+use Rattle.grammar.specs.Reader.{Got, got, no, pick, bind, clauseLine, lines, accepted, outcome, start, readSheet}
 use Rattle.grammar.specs.Reader as reader
 use Rattle.grammar.specs.Promises.{promises}
 use Rattle.token.specs.Parts.{Held, PartIs}
 use Rattle.token.specs.declared.Part.{Part}
-use Rattle.sheet.specs.Rules.{readVerdict, rulesVerdict}
+use Rattle.sheet.specs.Rules.{rulesVerdict}
 use Rattle.plancheck.specs.Check.{clausesOf}
 use Rattle.plancheck.specs.Stages.{sheet-read}
 
@@ -120,6 +120,10 @@ module _ (s before : List ℕ) (r : Part) (block : List ℕ) (at n : ℕ) (insid
 pub accepted-short : (s : List ℕ) → rulesVerdict s ≡ Accepted → length s ≤ 16384
 unfolding rulesVerdict
 accepted-short s e = promises s .sound (clausesOf (readSheet s)) (sheet-read (readSheet s) e) .short
+
+pub accepted-good : (s : List ℕ) → rulesVerdict s ≡ Accepted → All Good (clausesOf (readSheet s))
+unfolding rulesVerdict
+accepted-good s e = let a = promises s .sound (clausesOf (readSheet s)) (sheet-read (readSheet s) e) in fits-good (a .sheet) (a .fits)
 
 ---- A stage that goes through the clauses, with what it still has to say.
 module _ (go : ℕ → List Clause → Verdict) (s : List ℕ) where

@@ -8,8 +8,8 @@ use mathlib.Core.List.{List, [], _∷_}
 use lib.Dec.{T, eqb}
 use borrow.Author.Tests.{eq-eqb, eqb-true}
 use Rattle.refusal.specs.Codes.{refused}
-use Rattle.refusal.specs.Stages.{andThen}
-use Rattle.refusal.specs.Accepting.{both-accepted}
+use Rattle.refusal.specs.Stages.{isAccepted, andThen}
+use Rattle.refusal.specs.Accepting.{both-accepted, stops, goes-on}
 use Rattle.refusal.specs.declared.Refusal.{Refusal}
 use Rattle.refusal.specs.declared.Verdict.{Verdict}
 use Rattle.refusal.specs.declared.Verdict.the-variants.{Accepted, Rules as AboutRules}
@@ -151,3 +151,21 @@ module _ (floor plan sheet : List ℕ) where
       go (no-floor x q) = let z : _≡_ {A = ℕ} 0 1 = cc in absurd (omega arith)
       go (no-plan x q) = let z : _≡_ {A = ℕ} 0 1 = cc in absurd (omega arith)
       go (on f n w r) = (f, n, w)
+
+---- The stages one after the other, each by its own verdict.
+module _ (floor sheet : List ℕ) (f : Floor) (p : Numbers) (m : Verdict) (em : m ≡ movesVerdict floor f p) where
+  abbrev Rest : Verdict → Verdict
+  Rest v = andThen v (clausesVerdict (planRows floor f p) (p .head .drift) (clausesOf (readSheet sheet)))
+
+  pub stage-moves : isAccepted m ≡ false → m ≡ stages floor sheet f p
+  stage-moves e = sym (stops m (Rest (rulesVerdict sheet)) e) ∙ ap (λ (v : Verdict). andThen v (Rest (rulesVerdict sheet))) em
+
+  module _ (yes : isAccepted m ≡ true) (r : Verdict) (er : r ≡ rulesVerdict sheet) where
+    moved-on : Rest r ≡ stages floor sheet f p
+    moved-on = ap Rest er ∙ sym (goes-on m (Rest (rulesVerdict sheet)) yes) ∙ ap (λ (v : Verdict). andThen v (Rest (rulesVerdict sheet))) em
+
+    pub stage-sheet : isAccepted r ≡ false → r ≡ stages floor sheet f p
+    stage-sheet e = sym (stops r (clausesVerdict (planRows floor f p) (p .head .drift) (clausesOf (readSheet sheet))) e) ∙ moved-on
+
+    pub stage-clauses : isAccepted r ≡ true → (v : Verdict) → v ≡ clausesVerdict (planRows floor f p) (p .head .drift) (clausesOf (readSheet sheet)) → v ≡ stages floor sheet f p
+    stage-clauses e v ev = ev ∙ sym (goes-on r (clausesVerdict (planRows floor f p) (p .head .drift) (clausesOf (readSheet sheet))) e) ∙ moved-on

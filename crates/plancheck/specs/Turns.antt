@@ -2,14 +2,12 @@
 use Prim.Native.Nat.{ℕ, suc, _+_, _/_, _%_, _^_, _<_}
 use native.Mathlib.Omega.{arith}
 use native.Mathlib.Numerals.{add-one}
-use mathlib.Core.Path.{_≡_, refl, sym, ap, subst, _∙_}
+use mathlib.Core.Path.{_≡_, refl, sym, ap, _∙_}
 use mathlib.Core.Bool.{Bool, true, false, cond}
 use mathlib.Core.List.{List, [], _∷_}
-use lib.Dec.{eqb}
 use borrow.Author.Tests.{eq-eqb, ne-eqb}
 use Rattle.refusal.specs.Codes.{refused}
-use Rattle.refusal.specs.declared.Verdict.{Verdict}
-use Rattle.refusal.specs.declared.Verdict.the-variants.{Accepted, Rules as AboutRules}
+use Rattle.refusal.specs.declared.Verdict.the-variants.{Rules as AboutRules}
 use Rattle.record.specs.All.{All}
 use Rattle.grammar.specs.Grammar.{Clause}
 use Rattle.cltl.specs.Meaning.{Rows}
@@ -45,3 +43,14 @@ module _ (n : ℕ) (c : Clause) (cs : List Clause) where
       where
         odd : (x : ℕ) → (x ≡ 0 → ⊥) → x < 2 → x ≡ 1
         odd x f q = omega arith
+
+-- rows that bear the same marks keep the same clauses
+module _ (carts h l : ℕ) (ok : l < h) (b b′ : ℕ → ℕ → ℕ → Bool) (same : (i s k : ℕ) → i < carts → s < h → k < 32 → b i s k ≡ b′ i s k) where
+  abbrev by : (ℕ → ℕ → ℕ → Bool) → Rows
+  by b = record { carts = carts; h = h; l = l; bears = b }
+
+  pub kept-agrees : (d n : ℕ) (cs : List Clause) → All Good cs → keptVerdict (by b) d n cs ≡ keptVerdict (by b′) d n cs
+  unfolding keptVerdict
+  kept-agrees d n [] g = refl
+  kept-agrees d n (c ∷ cs) g =
+      rw (rules-agree carts h l ok b b′ same d c (g .0 .1) 0 (omega arith), kept-agrees d (suc n) cs (g .1), failing-agrees carts h l ok b b′ same d c (g .0 .1))

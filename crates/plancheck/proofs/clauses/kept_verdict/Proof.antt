@@ -1,12 +1,10 @@
-use Prim.Native.Nat.{ℕ, _-_, _+_, _<_, _≤_}
+use Prim.Native.Nat.{_-_}
 use native.Mathlib.Omega.{arith}
 use native.Mathlib.Nat.{le-refl}
 use mathlib.Core.Path.{_≡_, refl, sym, ap, subst, _∙_}
-use mathlib.Core.List.{List}
 use mathlib.Core.Bool.{true}
 use lib.ListN.{length}
 use borrow.Author.Needs.{needs}
-use Rattle.refusal.specs.declared.Verdict.{Verdict}
 use Rattle.refusal.specs.declared.Verdict.the-variants.{Rules as AboutRules}
 use Rattle.grammar.specs.Grammar.{Clause}
 use Rattle.cltl.specs.Meaning.{Rows}
@@ -20,12 +18,6 @@ use Rattle.plancheck.specs.LineHeld.{ready}
 use Rattle.plancheck.specs.Turns.{kept-stops, kept-passes}
 use Rattle.plancheck.proofs.clauses.kept_verdict.Statement.{statement}
 use Rattle.plancheck.proofs.clauses.kept_verdict.Tie as tie
-use Rattle.plancheck.proofs.clauses.kept_verdict.Reads as reads
-use Rattle.plancheck.proofs.clauses.kept_verdict.Lts as lts
-use Rattle.drift.proofs.clause_row.Reads as clause-row-reads
-use Rattle.drift.proofs.failing_step.Reads as failing-step-reads
-use Rattle.refusal.proofs.refuse.Reads as refuse-reads
-use Rattle.sheet.proofs.read_clause.Reads as read-clause-reads
 
 abbrev Inv-loop : tie.InvT-loop
 Inv-loop rules table carts h l d nodes₀ at₀ n₀ nodes at n = (length nodes ≡ 512) × Going (keptVerdict (rowsIn table carts h l) d) rules at n

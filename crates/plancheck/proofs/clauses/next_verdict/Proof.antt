@@ -1,24 +1,18 @@
-use Prim.Native.Nat.{ℕ, _-_, _+_, _<_, _≤_}
+use Prim.Native.Nat.{_-_}
 use native.Mathlib.Omega.{arith}
 use mathlib.Core.Path.{_≡_, refl, sym, ap, _∙_}
-use mathlib.Core.Bool.{Bool, true, false, cond}
-use mathlib.Core.List.{List, _∷_}
+use mathlib.Core.Bool.{true, false}
 use lib.ListN.{length}
 use native.Mathlib.Nat.{le-refl}
 use borrow.Author.Needs.{needs}
 use Rattle.cltl.specs.Rules.{hasNext}
 use Rattle.plancheck.specs.Check.{nextVerdict}
-use Rattle.plancheck.specs.Lines.{Going, accepted-short, next-line, going-start, going-end, going-here, going-on}
+use Rattle.plancheck.specs.Lines.{Going, accepted-short, going-start, going-end, going-here, going-on}
 use Rattle.refusal.specs.declared.Verdict.the-variants.{Rules as AboutRules}
 use Rattle.plancheck.specs.LineHeld.{ready}
 use Rattle.plancheck.specs.Turns.{next-stops, next-passes}
 use Rattle.plancheck.proofs.clauses.next_verdict.Statement.{statement}
 use Rattle.plancheck.proofs.clauses.next_verdict.Tie as tie
-use Rattle.plancheck.proofs.clauses.next_verdict.Reads as reads
-use Rattle.plancheck.proofs.clauses.next_verdict.Lts as lts
-use Rattle.drift.proofs.has_next.Reads as has-next-reads
-use Rattle.refusal.proofs.refuse.Reads as refuse-reads
-use Rattle.sheet.proofs.read_clause.Reads as read-clause-reads
 
 abbrev Inv-loop : tie.InvT-loop
 Inv-loop rules nodes₀ at₀ n₀ nodes at n = (length nodes ≡ 512) × Going nextVerdict rules at n

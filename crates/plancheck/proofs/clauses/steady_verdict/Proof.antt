@@ -7,9 +7,6 @@ use Rattle.plancheck.specs.Check.{clausesOf, nextVerdict}
 use borrow.Author.Needs.{needs}
 use Rattle.plancheck.proofs.clauses.steady_verdict.Statement.{statement}
 use Rattle.plancheck.proofs.clauses.steady_verdict.Tie as tie
-use Rattle.plancheck.proofs.clauses.steady_verdict.Reads as reads
-use Rattle.plancheck.proofs.clauses.steady_verdict.Lts as lts
-use Rattle.plancheck.proofs.clauses.next_verdict.Reads as next-verdict-reads
 
 -- src/clauses.rt:38:9
 returns : tie.Need-returns
