@@ -57,6 +57,13 @@ struct cartplan_verdict cartplan_read_rules(const uint8_t *rules, size_t rules_l
 struct cartplan_verdict cartplan_check_moves(const uint8_t *floor, size_t floor_len,
                                              const uint8_t *plan, size_t plan_len);
 
+/* Checks a plan. The refusals of cartplan_check_moves come first, then those of cartplan_read_rules; then, about the rules: with
+ * a drift above 0, 16 (clause, 0) for the lowest clause with X outside a count; then 17 (clause, step) for the lowest clause that
+ * is not true, the step being the lowest at which its body fails if its outermost operator is G, else 0. */
+struct cartplan_verdict cartplan_check(const uint8_t *floor, size_t floor_len,
+                                       const uint8_t *plan, size_t plan_len,
+                                       const uint8_t *rules, size_t rules_len);
+
 /* Moves a plan on by s steps and writes the result to out: each cart's place at counter v is that of the plan at counter
  * s + v. For s up to l the first s steps of each row go; beyond it l becomes 0 and each lap is turned by (s - l) mod (h - l);
  * d stays. The result is never longer than the plan, and bytes of out past it stay. The refusals of reading come first, then

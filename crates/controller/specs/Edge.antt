@@ -14,6 +14,7 @@ use Rattle.plan.specs.declared.Head.{Head}
 use Rattle.moves.specs.Promises.{MovesChecked}
 use Rattle.edit.specs.Promises.{MovedOn, RowReplaced}
 use Rattle.sheet.specs.Promises.{RulesRead}
+use Rattle.plancheck.specs.Promises.{PlanChecked}
 
 -- cartplan_read_floor
 abbrev pub readFloorCode : List ℕ → Code
@@ -44,6 +45,10 @@ RulesReadCode rules c = Coded (RulesRead rules) c
 -- cartplan_check_moves
 abbrev pub MovesCheckedCode : List ℕ → List ℕ → Code → Type 0
 MovesCheckedCode floor plan c = Coded (MovesChecked floor plan) c
+
+-- cartplan_check
+abbrev pub PlanCheckedCode : List ℕ → List ℕ → List ℕ → Code → Type 0
+PlanCheckedCode floor plan rules c = Coded (PlanChecked floor plan rules) c
 
 -- cartplan_move_on
 abbrev pub MovedOnCode : List ℕ → List ℕ → ℕ → List ℕ → Code → List ℕ → Type 0

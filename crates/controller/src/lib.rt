@@ -5,7 +5,7 @@ ghost use mathlib.Core.Path.{_≡_};
 ghost use Rattle.floor.specs.Numbers.{numbers};
 ghost use Rattle.plan.specs.Numbers.{headOf};
 ghost use Rattle.clause.specs.Promises.{Picked};
-ghost use Rattle.controller.specs.Edge.{readFloorCode, readPlanCode, FloorWrittenCode, PlanWrittenCode, RulesReadCode, MovesCheckedCode, MovedOnCode, RowReplacedCode};
+ghost use Rattle.controller.specs.Edge.{readFloorCode, readPlanCode, FloorWrittenCode, PlanWrittenCode, RulesReadCode, MovesCheckedCode, PlanCheckedCode, MovedOnCode, RowReplacedCode};
 
 // Reads a floor.
 #[no_mangle]
@@ -67,6 +67,14 @@ pub extern "C" fn cartplan_check_moves(floor: &[u8], plan: &[u8]) -> Code
     ensures { λ c. ⌜ MovesCheckedCode (now (floor .entry)) (now (plan .entry)) c ⌝ }
 {
     refusal::code_of(moves::check(floor, plan))
+}
+
+// Checks a plan.
+#[no_mangle]
+pub extern "C" fn cartplan_check(floor: &[u8], plan: &[u8], rules: &[u8]) -> Code
+    ensures { λ c. ⌜ PlanCheckedCode (now (floor .entry)) (now (plan .entry)) (now (rules .entry)) c ⌝ }
+{
+    refusal::code_of(plancheck::check(floor, plan, rules))
 }
 
 // Moves a plan on by s steps.
