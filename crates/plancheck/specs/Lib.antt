@@ -5,6 +5,7 @@ pub mod Promises
 -- laws
 pub mod Stages
 pub mod Claims
+pub mod Demands
 pub mod Lines
 pub mod LineHeld
 pub mod Turns
