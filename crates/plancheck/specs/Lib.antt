@@ -2,6 +2,8 @@
 pub mod Check
 -- promises
 pub mod Promises
+-- worked cases
+pub mod Starred
 -- laws
 pub mod Stages
 pub mod Claims
