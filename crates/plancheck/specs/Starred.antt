@@ -7,7 +7,7 @@ use mathlib.Core.List.{List, [], _∷_, flatten}
 use Rattle.endian.specs.Little.{value}
 use Rattle.refusal.specs.Codes.{refused}
 use Rattle.refusal.specs.declared.Verdict.{Verdict}
-use Rattle.refusal.specs.declared.Verdict.the-variants.{Accepted, Rules as AboutRules}
+use Rattle.refusal.specs.declared.Verdict.the-variants.{Accepted, Plan as AboutPlan, Rules as AboutRules}
 use Rattle.record.specs.Record.{split, recordsIn}
 use Rattle.record.specs.Parts.{partsIn, parts}
 use Rattle.floor.specs.Floor.{judged, walk, readFloor}
@@ -52,6 +52,16 @@ sheet (c then s) = code c ∷ sheet s
 abbrev verdict : String → ℕ → Verdict
 verdict clause d = checked floor (plan d) (sheet clause)
 
+-- the definitions that a check computes with, under one name
+computing : List ℕ → List ℕ → List ℕ → Verdict
+unfolding
+    flatten value split recordsIn partsIn parts judged walk readFloor bodiesOf judgedHead judgedPlaces judgedRow readRows readPlan afterReading
+    nextStep stepOf isOpen lowestShut judgedMoves judgedCarts
+    bind node skip expectAt expect digits number percent chainAt chainMore chain andChain orChain byKind smallAt smallOf byOnward untilAt untilOf deeper smalls untils ors markBy marks inners
+    threshold countBy counts clauses clauseLine lines outcome start readSheet rulesVerdict
+    quota carts.threshold tally every fix window quorum judge mark inner count rules lowest failing nextVerdict keptVerdict checked
+computing floor plan sheet = checked floor plan sheet
+
 pub starred :
     (verdict "F [m1,2]" 0 ≡ Accepted)
     × (verdict "F [m1,2]" 1 ≡ AboutRules (refused 17 0 0))
@@ -65,10 +75,13 @@ pub starred :
     × (verdict "X [m1,1]" 1 ≡ AboutRules (refused 16 0 0))
     × (verdict "[m0,0]" 16 ≡ Accepted)
     × (verdict "[m0,3]" 0 ≡ AboutRules (refused 17 0 0))
-unfolding
-    flatten value split recordsIn partsIn parts judged walk readFloor bodiesOf judgedHead judgedPlaces judgedRow readRows readPlan afterReading
-    nextStep stepOf isOpen lowestShut judgedMoves judgedCarts
-    bind node skip expectAt expect digits number percent chainAt chainMore chain andChain orChain byKind smallAt smallOf byOnward untilAt untilOf deeper smalls untils ors markBy marks inners
-    threshold countBy counts clauses clauseLine lines outcome start readSheet rulesVerdict
-    quota carts.threshold tally every fix window quorum judge mark inner count rules lowest failing nextVerdict keptVerdict checked
+unfolding computing
 starred = (refl, refl, refl, refl, refl, refl, refl, refl, refl, refl, refl, refl)
+
+-- the stages in order: moves before the sheet, which is empty here, and 16 before a 17 of a lower clause
+abbrev astray : List ℕ
+astray = 6 ∷ 0 ∷ 4 ∷ 0 ∷ 1 ∷ 0 ∷ 0 ∷ 0 ∷ 0 ∷ 0 ∷ 1 ∷ 0 ∷ 5 ∷ 0 ∷ 1 ∷ 1 ∷ 0 ∷ 5 ∷ 0 ∷ 0 ∷ []
+
+pub ordered : (checked floor astray [] ≡ AboutPlan (refused 10 0 0)) × (verdict "[m0,3]\nX [m1,1]" 1 ≡ AboutRules (refused 16 1 0))
+unfolding computing
+ordered = (refl, refl)
