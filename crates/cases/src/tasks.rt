@@ -1,5 +1,4 @@
 // What a data set asks for: its file `task` names an operation and holds what that takes besides the files.
-use crate::report;
 
 // Moves the plan on by the number behind the first byte.
 fn move_on(floor: &[u8], plan: &[u8], task: &[u8], out: &mut [u8]) {

@@ -2,11 +2,11 @@ use borrow.Author.Needs.{needs}
 use lib.ListN.{length}
 use native.Mathlib.Omega.{arith}
 use Prim.Native.Nat.{_-_}
-use Rattle.cases.proofs.report.print_bytes.Statement.{statement}
-use Rattle.cases.proofs.report.print_bytes.Tie as tie
-use Rattle.cases.proofs.report.print_bytes.Reads as reads
-use Rattle.cases.proofs.report.print_bytes.Lts as lts
-use Rattle.cases.proofs.report.print_byte.Reads as print-byte-reads
+use Rattle.report.proofs.print_bytes.Statement.{statement}
+use Rattle.report.proofs.print_bytes.Tie as tie
+use Rattle.report.proofs.print_bytes.Reads as reads
+use Rattle.report.proofs.print_bytes.Lts as lts
+use Rattle.report.proofs.print_byte.Reads as print-byte-reads
 use Rattle.io.proofs.write_all.Reads as write-all-reads
 
 abbrev Inv-loop : tie.InvT-loop
