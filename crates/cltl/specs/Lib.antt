@@ -6,7 +6,7 @@ pub mod Step
 -- promises
 pub mod Promises
 -- worked cases
-pub mod Cases
+pub mod Examples
 -- laws
 pub mod Basics
 pub mod Pace
