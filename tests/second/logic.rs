@@ -60,6 +60,10 @@ impl Collection {
         self.traces.len()
     }
 
+    pub fn steps(&self) -> usize {
+        self.h
+    }
+
     fn row(&self, value: impl Fn(usize) -> bool) -> Row {
         let mut row = [false; 64];
         for t in 0..self.h {
