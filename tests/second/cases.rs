@@ -1,0 +1,154 @@
+//! Document 01's own cases and the settled readings, for both checkers.
+
+use crate::check;
+use crate::library;
+use crate::verdict::{Refusal, Verdict, PLAN, RULES};
+
+pub const FLOOR: [u8; 56] = [
+    4, 0, 1, 0, 1, 0, 0, 0, 4, 0, 1, 0, 2, 0, 0, 0, // places with m0, with m1
+    3, 0, 2, 0, 0, 1, 255, 3, 0, 2, 0, 1, 0, 255, // lanes between them
+    3, 0, 2, 0, 0, 0, 255, 3, 0, 2, 0, 1, 1, 255, // lanes for standing still
+    2, 0, 3, 0, 0, 0, 2, 0, 3, 0, 0, 0, // carts
+];
+
+pub fn plan(d: u8) -> Vec<u8> {
+    let mut plan = vec![6, 0, 4, 0, 4, 0, 0, 0, d, 0];
+    plan.extend([4, 0, 5, 0, 0, 1, 1, 0]);
+    plan.extend([4, 0, 5, 0, 0, 0, 1, 1]);
+    plan
+}
+
+const ACCEPTED: Refusal = Refusal(0, 0, 0);
+
+/// Clause, drift, verdict: the cases table.
+const TABLE: [(&str, u8, Refusal); 12] = [
+    ("F [m1,2]", 0, ACCEPTED),
+    ("F [m1,2]", 1, Refusal(17, 0, 0)),
+    ("F [m1,1]", 1, ACCEPTED),
+    ("F [m1,1]", 2, ACCEPTED),
+    ("G ![m1,2]", 0, Refusal(17, 0, 2)),
+    ("G [m0,1]", 0, Refusal(17, 0, 2)),
+    ("G [m0,1]", 1, Refusal(17, 0, 1)),
+    ("[G F m1,2]", 16, ACCEPTED),
+    ("X [m1,1]", 0, ACCEPTED),
+    ("X [m1,1]", 1, Refusal(16, 0, 0)),
+    ("[m0,0]", 16, ACCEPTED),
+    ("[m0,3]", 0, Refusal(17, 0, 0)),
+];
+
+/// Whole sheets at drift 0, after document 01's text and the settled readings.
+const SHEETS: [(&str, Refusal); 29] = [
+    ("", Refusal(7, 0, 0)),
+    ("\n", Refusal(13, 0, 0)),
+    ("true", Refusal(13, 4, 0)),
+    ("true\n ", Refusal(13, 6, 0)),
+    ("tru", Refusal(13, 3, 0)),
+    ("trux", Refusal(13, 3, 0)),
+    ("[m31,0]\n", ACCEPTED),
+    ("[m32,0]\n", Refusal(15, 2, 0)),
+    ("[m32", Refusal(15, 2, 0)),
+    ("[m01,0]\n", Refusal(13, 3, 0)),
+    ("[m", Refusal(13, 2, 0)),
+    ("[m0,1000", Refusal(15, 4, 0)),
+    ("[m0,1000x", Refusal(15, 4, 0)),
+    ("[m0,101", Refusal(13, 7, 0)),
+    ("[m0,101%", Refusal(15, 4, 0)),
+    ("[m0,1 %]\n", Refusal(13, 6, 0)),
+    ("[m0,01]\n", Refusal(13, 5, 0)),
+    ("[m0 , 100% ]  \n", ACCEPTED),
+    ("[m0,999]\n", Refusal(17, 0, 0)),
+    ("m0\n", Refusal(13, 0, 0)),
+    ("[[m0,1],1]\n", Refusal(13, 1, 0)),
+    ("(true,1]\n", Refusal(13, 5, 0)),
+    ("[(m0,1]\n", Refusal(13, 4, 0)),
+    ("true true\n", Refusal(13, 5, 0)),
+    ("(G [m0,1])\n", Refusal(17, 0, 2)),
+    ("!F ![m0,1]\n", Refusal(17, 0, 0)),
+    ("!!G [m0,1]\n", Refusal(17, 0, 0)),
+    ("G [m0,1] & true\n", Refusal(17, 0, 0)),
+    ("!true U [m0,2] & true | !true\n", ACCEPTED),
+];
+
+/// Sheets at the limits, built by repeating.
+fn limit_sheets() -> Vec<(String, Refusal)> {
+    let nots = |k: usize| "!".repeat(k);
+    let untils = |k: usize| format!("true{}\n", " U true".repeat(k));
+    let ands = |k: usize| format!("true{}\n", "&true".repeat(k));
+    vec![
+        (nots(32) + "true\n", ACCEPTED),
+        (nots(33) + "true\n", Refusal(14, 32, 0)),
+        (nots(31) + "!(true)\n", Refusal(14, 32, 0)),
+        (nots(30) + "!(true U true)\n", Refusal(14, 37, 0)),
+        (nots(30) + "(true U true)\n", ACCEPTED),
+        (nots(30) + "(true & true)\n", ACCEPTED),
+        (untils(32), ACCEPTED),
+        (untils(33), Refusal(14, 5 + 32 * 7, 0)),
+        (ands(63), ACCEPTED),
+        (ands(63).replace('\n', "&x"), Refusal(13, 320, 0)),
+        (ands(63).replace("\n", "&") + "truex", Refusal(14, 320, 0)),
+        ("!".to_owned() + &ands(63), Refusal(17, 0, 0)),
+        ("true\n".repeat(32), ACCEPTED),
+        ("true\n".repeat(32) + "]", Refusal(14, 160, 0)),
+        (" ".repeat(16_379) + "true\n", ACCEPTED),
+        (" ".repeat(16_380) + "true\n", Refusal(12, 0, 0)),
+    ]
+}
+
+/// Heads (h, l, d) of the example's plan, with the number of a refusal at offset 0.
+const HEADS: [([u8; 3], u32); 6] = [
+    ([4, 0, 16], 0),
+    ([4, 3, 16], 0),
+    ([4, 4, 0], 8),
+    ([4, 0, 17], 8),
+    ([0, 0, 0], 8),
+    ([65, 0, 0], 8),
+];
+
+fn heads() -> impl Iterator<Item = (Vec<u8>, Verdict)> {
+    HEADS.iter().map(|&([h, l, d], number)| {
+        let mut plan = plan(d);
+        (plan[4], plan[6]) = (h, l);
+        let about = if number == 0 { 0 } else { PLAN };
+        (plan, Verdict::refused(about, Refusal(number, 0, 0)))
+    })
+}
+
+fn wanted(refusal: Refusal) -> Verdict {
+    match refusal {
+        ACCEPTED => Verdict::ACCEPTED,
+        _ => Verdict::refused(RULES, refusal),
+    }
+}
+
+fn sheets() -> impl Iterator<Item = (String, u8, Refusal)> {
+    let table = TABLE.iter().map(|(c, d, r)| (format!("{c}\n"), *d, *r));
+    let sheets = SHEETS.iter().map(|(s, r)| (s.to_string(), 0, *r));
+    let limits = limit_sheets().into_iter().map(|(s, r)| (s, 0, r));
+    table.chain(sheets).chain(limits)
+}
+
+fn compare(plan: &[u8], rules: &[u8], wanted: Verdict) -> Result<(), String> {
+    let second = check::check(&FLOOR, plan, rules);
+    let (first, _) = library::check(&FLOOR, plan, rules);
+    if second == wanted && first == wanted {
+        return Ok(());
+    }
+    let sheet = String::from_utf8_lossy(rules);
+    Err(format!(
+        "plan {plan:?}, sheet {sheet:?}: {wanted} is wanted, second checker: {second}, library: {first}"
+    ))
+}
+
+/// The number of cases; the first case that comes out otherwise is told.
+pub fn run() -> Result<usize, String> {
+    let mut count = 0;
+    for (sheet, d, refusal) in sheets() {
+        compare(&plan(d), sheet.as_bytes(), wanted(refusal))?;
+        count += 1;
+    }
+    for (plan, verdict) in heads() {
+        compare(&plan, b"true\n", verdict)?;
+        count += 1;
+    }
+    Ok(count)
+}

@@ -1,0 +1,147 @@
+//! Random clauses with thresholds close to what the rows make of them.
+
+use crate::formula::{Clause, Op, Threshold};
+use crate::logic::Collection;
+use crate::random::Random;
+
+pub struct Clauses<'a> {
+    pub random: &'a mut Random,
+    pub collection: &'a Collection,
+    pub marks: &'a [u32],
+    /// Whether X may stand outside a count.
+    pub next_outside: bool,
+}
+
+const UNARY: [Op; 4] = [Op::Not, Op::Finally, Op::Globally, Op::Next];
+const BINARY: [Op; 4] = [Op::And, Op::Or, Op::Until, Op::Release];
+
+impl Clauses<'_> {
+    /// A clause of exactly so many nodes.
+    pub fn clause(&mut self, nodes: usize) -> Clause {
+        let mut clause = Clause::default();
+        clause.root = if nodes > 2 && self.random.chance(35) {
+            let body = self.outer(&mut clause, nodes - 1);
+            let op = self.random.pick(&[Op::Globally, Op::Globally, Op::Finally]);
+            clause.push(op, body, 0)
+        } else {
+            self.outer(&mut clause, nodes)
+        };
+        clause
+    }
+
+    /// A number of nodes: mostly few, at times as many as there may be.
+    pub fn nodes(&mut self) -> usize {
+        let (low, high) =
+            [(2, 8), (9, 20), (21, 60), (61, 128)][self.random.weighted(&[62, 26, 9, 3])];
+        self.random.range(low, high)
+    }
+
+    fn outer(&mut self, clause: &mut Clause, nodes: usize) -> usize {
+        let count = match nodes {
+            1 => return clause.push(Op::True, 0, 0),
+            2 => 90,
+            3..=6 => 60,
+            7..=12 => 20,
+            _ => 3,
+        };
+        if self.random.chance(count) {
+            return self.count(clause, nodes - 1);
+        }
+        let unary = if self.next_outside {
+            &UNARY
+        } else {
+            &UNARY[..3]
+        };
+        let op = self.operator(unary, nodes);
+        self.operands(clause, nodes, op, Clauses::outer)
+    }
+
+    fn inner(&mut self, clause: &mut Clause, nodes: usize) -> usize {
+        if nodes == 1 {
+            let op = match self.random.below(20) {
+                0 => Op::True,
+                1 => Op::Mark(self.random.below(32) as u32),
+                _ => Op::Mark(self.random.pick(self.marks)),
+            };
+            return clause.push(op, 0, 0);
+        }
+        let op = self.operator(&UNARY, nodes);
+        self.operands(clause, nodes, op, Clauses::inner)
+    }
+
+    fn operator(&mut self, unary: &[Op], nodes: usize) -> Op {
+        if nodes == 2 || self.random.chance(if nodes < 10 { 45 } else { 10 }) {
+            self.random.pick(unary)
+        } else {
+            self.random.pick(&BINARY)
+        }
+    }
+
+    /// An operator over operands that share the other nodes.
+    fn operands(
+        &mut self,
+        clause: &mut Clause,
+        nodes: usize,
+        op: Op,
+        part: fn(&mut Self, &mut Clause, usize) -> usize,
+    ) -> usize {
+        if op.operands() == 1 {
+            let operand = part(self, clause, nodes - 1);
+            return clause.push(op, operand, 0);
+        }
+        let share = self.random.range(1, nodes - 2);
+        let left = part(self, clause, share);
+        let right = part(self, clause, nodes - 1 - share);
+        clause.push(op, left, right)
+    }
+
+    fn count(&mut self, clause: &mut Clause, nodes: usize) -> usize {
+        let inner = self.inner(clause, nodes);
+        let threshold = self.threshold(clause, inner);
+        clause.push(Op::Count(threshold), inner, 0)
+    }
+
+    fn threshold(&mut self, clause: &Clause, inner: usize) -> Threshold {
+        let carts = self.collection.carts();
+        let number = match self.random.below(20) {
+            0 => self.random.below(1000),
+            1 => self.random.below(carts + 2),
+            2 | 3 => 1,
+            4 => carts,
+            _ => self.telling(clause, inner),
+        };
+        if number <= carts && self.random.chance(25) {
+            return self.percentage(number);
+        }
+        let number = number as u32;
+        Threshold {
+            number,
+            percent: false,
+        }
+    }
+
+    /// A number at which the count, or its negation, just turns at some step.
+    fn telling(&mut self, clause: &Clause, inner: usize) -> usize {
+        let carts = self.collection.carts();
+        let negated = self.random.chance(40);
+        let step = self.random.below(self.collection.steps());
+        let holds = |&n: &usize| {
+            let mut z = self.collection.z(clause, inner, n);
+            z.iter_mut().for_each(|value| *value ^= negated);
+            self.collection.r(&z)[step]
+        };
+        let robust = (0..carts).filter(holds).count();
+        let number = if negated { carts + 1 - robust } else { robust };
+        (number + self.random.pick(&[1, 1, 1, 0, 2])).saturating_sub(1)
+    }
+
+    /// A percentage that rounds up to this number, or one beside it.
+    fn percentage(&mut self, number: usize) -> Threshold {
+        let percent = number * 100 / self.collection.carts();
+        let number = (percent + self.random.pick(&[0, 0, 1])).min(100) as u32;
+        Threshold {
+            number,
+            percent: true,
+        }
+    }
+}

@@ -1,0 +1,118 @@
+//! Both checkers on random triples: every answer has to be the same.
+
+use std::fs;
+use std::path::PathBuf;
+use std::time::Instant;
+
+use crate::aims;
+use crate::check;
+use crate::damage::Triple;
+use crate::library;
+use crate::random::Random;
+use crate::verdict::Verdict;
+
+/// The least number of times that every verdict has to be met in a whole run of the gate.
+const LEAST: usize = 500;
+
+/// What came out of a run, for each number 0 (accepted) to 17.
+#[derive(Default)]
+pub struct Tally {
+    numbers: [usize; 18],
+    smaller: usize,
+}
+
+/// Compares so many triples; false once a difference was told.
+pub fn run(cases: u64, seed: u64) -> bool {
+    let begun = Instant::now();
+    let mut tally = Tally::default();
+    for case in 0..cases {
+        let triple = aims::triple(&mut Random::new(seed, case));
+        if let Err(text) = compare(&triple, &mut tally) {
+            tell(&triple, seed, case, &text);
+            return false;
+        }
+    }
+    tally.print();
+    println!("{:.0} seconds", begun.elapsed().as_secs_f64());
+    let met = tally.numbers.iter().all(|count| *count >= LEAST);
+    if cases >= 300_000 && !met {
+        println!("second: a verdict was met less than {LEAST} times");
+        return false;
+    }
+    println!("{cases} cases, 0 differences");
+    true
+}
+
+/// One triple, and if it is accepted the same with each smaller drift.
+fn compare(triple: &Triple, tally: &mut Tally) -> Result<(), String> {
+    let verdict = both(triple)?;
+    tally.numbers[verdict.number as usize] += 1;
+    if verdict == Verdict::ACCEPTED {
+        tally.smaller += smaller_drifts(triple)?;
+    }
+    Ok(())
+}
+
+/// The answer of both checkers.
+pub fn both(triple: &Triple) -> Result<Verdict, String> {
+    let Triple { floor, plan, rules } = triple;
+    let second = check::check(floor, plan, rules);
+    let (first, untouched) = library::check(floor, plan, rules);
+    if first != second {
+        return Err(format!("second checker: {second}, library: {first}"));
+    }
+    if !untouched {
+        return Err(format!("{first}, but a lent buffer has changed"));
+    }
+    Ok(first)
+}
+
+/// An accepted plan is accepted with every smaller drift; the number of them.
+pub fn smaller_drifts(triple: &Triple) -> Result<usize, String> {
+    let mut lower = triple.clone();
+    // The head is an accepted plan's first record; d is its last field.
+    let d = triple.plan[8];
+    for smaller in 0..d {
+        lower.plan[8] = smaller;
+        let verdict = both(&lower).map_err(|text| format!("at drift {smaller}: {text}"))?;
+        if verdict != Verdict::ACCEPTED {
+            return Err(format!("accepted at drift {d}, but at {smaller} {verdict}"));
+        }
+    }
+    Ok(d as usize)
+}
+
+impl Tally {
+    fn print(&self) {
+        for (number, count) in self.numbers.iter().enumerate() {
+            let name = if number == 0 {
+                "accepted".into()
+            } else {
+                format!("refused {number}")
+            };
+            println!("{name:>10}: {count}");
+        }
+        println!("smaller drifts of accepted plans: {}", self.smaller);
+    }
+}
+
+/// Tells a difference and saves its three files.
+pub fn tell(triple: &Triple, seed: u64, case: u64, text: &str) {
+    println!("second: a difference at seed {seed}, case {case}: {text}");
+    match save(triple, seed, case) {
+        Ok(folder) => println!(
+            "its files floor, plan and rules are in {}",
+            folder.display()
+        ),
+        Err(error) => println!("its files could not be saved: {error}"),
+    }
+}
+
+fn save(triple: &Triple, seed: u64, case: u64) -> std::io::Result<PathBuf> {
+    let folder = std::env::temp_dir().join(format!("second-{seed}-{case}"));
+    fs::create_dir_all(&folder)?;
+    fs::write(folder.join("floor"), &triple.floor)?;
+    fs::write(folder.join("plan"), &triple.plan)?;
+    fs::write(folder.join("rules"), &triple.rules)?;
+    Ok(folder)
+}

@@ -1,0 +1,89 @@
+//! The reader of a floor: places, lanes and carts.
+
+use crate::record::{Record, LONGEST_FILE};
+use crate::verdict::Refusal;
+
+pub struct Lane {
+    pub from: usize,
+    pub to: usize,
+    pub classes: u8,
+}
+
+pub struct Cart {
+    pub class: u8,
+    pub start: u8,
+}
+
+#[derive(Default)]
+pub struct Floor {
+    /// The marks of each place, m0 in the lowest bit: the labels L of definition 1.
+    pub places: Vec<u32>,
+    pub lanes: Vec<Lane>,
+    pub carts: Vec<Cart>,
+}
+
+impl Floor {
+    pub fn read(file: &[u8]) -> Result<Floor, Refusal> {
+        if file.len() > LONGEST_FILE {
+            return Err(Refusal(1, 0, 0));
+        }
+        let mut floor = Floor::default();
+        let mut offset = 0;
+        while offset < file.len() {
+            let record = Record::at(file, offset)?;
+            floor.take(&record)?;
+            offset = record.end();
+        }
+        if floor.places.is_empty() || floor.carts.is_empty() {
+            return Err(Refusal(7, file.len(), 0));
+        }
+        Ok(floor)
+    }
+
+    /// Kinds may only grow along the file.
+    fn in_order(&self, kind: u16) -> bool {
+        match kind {
+            1 => self.lanes.is_empty() && self.carts.is_empty(),
+            2 => self.carts.is_empty(),
+            3 => true,
+            _ => false,
+        }
+    }
+
+    fn take(&mut self, record: &Record) -> Result<(), Refusal> {
+        record.demand(self.in_order(record.kind), 3)?;
+        match record.kind {
+            1 => self.take_place(record),
+            2 => self.take_lane(record),
+            _ => self.take_cart(record),
+        }
+    }
+
+    fn take_place(&mut self, record: &Record) -> Result<(), Refusal> {
+        record.demand(record.body.len() == 4, 4)?;
+        record.demand(self.places.len() < 256, 5)?;
+        let b = record.body;
+        self.places
+            .push(u32::from_le_bytes([b[0], b[1], b[2], b[3]]));
+        Ok(())
+    }
+
+    fn take_lane(&mut self, record: &Record) -> Result<(), Refusal> {
+        record.demand(record.body.len() == 3, 4)?;
+        record.demand(self.lanes.len() < 1024, 5)?;
+        let (from, to) = (record.body[0] as usize, record.body[1] as usize);
+        record.demand(from < self.places.len() && to < self.places.len(), 6)?;
+        let classes = record.body[2];
+        self.lanes.push(Lane { from, to, classes });
+        Ok(())
+    }
+
+    fn take_cart(&mut self, record: &Record) -> Result<(), Refusal> {
+        record.demand(record.body.len() == 2, 4)?;
+        record.demand(self.carts.len() < 32, 5)?;
+        let (class, start) = (record.body[0], record.body[1]);
+        record.demand(class <= 7 && (start as usize) < self.places.len(), 6)?;
+        self.carts.push(Cart { class, start });
+        Ok(())
+    }
+}

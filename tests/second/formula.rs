@@ -1,0 +1,87 @@
+//! Formulas: the clause of a line as a tree in one vector.
+
+#[derive(Clone, Copy, Debug, PartialEq, Eq)]
+pub enum Op {
+    True,
+    Mark(u32),
+    Not,
+    Next,
+    Finally,
+    Globally,
+    And,
+    Or,
+    Until,
+    Release,
+    /// A temporal counting proposition; `left` is the inner formula.
+    Count(Threshold),
+}
+
+/// The number of a count as written.
+#[derive(Clone, Copy, Debug, PartialEq, Eq)]
+pub struct Threshold {
+    pub number: u32,
+    pub percent: bool,
+}
+
+impl Threshold {
+    /// The number of carts that is asked for.
+    pub fn of(self, carts: usize) -> usize {
+        let number = self.number as usize;
+        if self.percent {
+            (number * carts + 99) / 100
+        } else {
+            number
+        }
+    }
+}
+
+/// An operator with its operands; one operand is `left`, and what isn't there is 0.
+#[derive(Clone, Copy, Debug)]
+pub struct Node {
+    pub op: Op,
+    pub left: usize,
+    pub right: usize,
+}
+
+#[derive(Clone, Debug, Default)]
+pub struct Clause {
+    pub nodes: Vec<Node>,
+    pub root: usize,
+}
+
+impl Op {
+    pub fn operands(self) -> usize {
+        match self {
+            Op::True | Op::Mark(_) => 0,
+            Op::And | Op::Or | Op::Until | Op::Release => 2,
+            _ => 1,
+        }
+    }
+}
+
+impl Clause {
+    pub fn push(&mut self, op: Op, left: usize, right: usize) -> usize {
+        self.nodes.push(Node { op, left, right });
+        self.nodes.len() - 1
+    }
+
+    /// Whether X stands outside a count at or below this node.
+    pub fn next_outside(&self, node: usize) -> bool {
+        let Node { op, left, right } = self.nodes[node];
+        match op {
+            Op::Next => true,
+            Op::Count(_) => false,
+            _ if op.operands() == 2 => self.next_outside(left) || self.next_outside(right),
+            _ if op.operands() == 1 => self.next_outside(left),
+            _ => false,
+        }
+    }
+
+    /// Whether two trees are alike, however they are stored.
+    pub fn same(&self, node: usize, other: &Clause, its: usize) -> bool {
+        let (a, b) = (self.nodes[node], other.nodes[its]);
+        a.op == b.op
+            && (a.op.operands() < 1 || self.same(a.left, other, b.left))
+            && (a.op.operands() < 2 || self.same(a.right, other, b.right))
+    }
+}

@@ -1,0 +1,265 @@
+//! Clauses judged by the encodings of document 002: z and y variables over the steps, loops by z_loop.
+//!
+//! Where document 01 narrows them: every or outside counts is equation 26, every until outside counts
+//! is equation 11 over y, and the window of equation 22 includes step s + d.
+
+use crate::floor::Floor;
+use crate::formula::{Clause, Node, Op};
+use crate::plan::Plan;
+use crate::verdict::Refusal;
+
+/// One Boolean variable for each step; those from h on are not used.
+pub type Row = [bool; 64];
+
+/// The trajectories of all carts in prefix-suffix form.
+pub struct Collection {
+    h: usize,
+    d: usize,
+    /// Equation 5c: one step alone, to which the loop goes back.
+    z_loop: Row,
+    /// The step on each counter up to h + d.
+    step: Vec<usize>,
+    /// The trace of each cart (definition 2).
+    traces: Vec<Vec<u32>>,
+}
+
+/// A clause in positive normal form (equation 21), with False for a negated True.
+pub enum Pnf {
+    Constant(bool),
+    Count(Count),
+    And(Box<[Pnf; 2]>),
+    Or(Box<[Pnf; 2]>),
+    Next(Box<Pnf>),
+    Until(Box<[Pnf; 2]>),
+    Release(Box<[Pnf; 2]>),
+}
+
+/// `[inner,m]`, or `[!inner,m]` if negated.
+pub struct Count {
+    pub inner: usize,
+    pub negated: bool,
+    pub m: usize,
+}
+
+impl Collection {
+    pub fn new(floor: &Floor, plan: &Plan) -> Collection {
+        let mut z_loop = [false; 64];
+        z_loop[plan.l] = true;
+        let label = |place: &u8| floor.places[*place as usize];
+        let trace = |row: &Vec<u8>| row.iter().map(label).collect();
+        Collection {
+            h: plan.h,
+            d: plan.d,
+            z_loop,
+            step: (0..plan.h + plan.d).map(|v| plan.step(v)).collect(),
+            traces: plan.rows.iter().map(trace).collect(),
+        }
+    }
+
+    pub fn carts(&self) -> usize {
+        self.traces.len()
+    }
+
+    pub fn steps(&self) -> usize {
+        self.h
+    }
+
+    fn row(&self, value: impl Fn(usize) -> bool) -> Row {
+        let mut row = [false; 64];
+        for t in 0..self.h {
+            row[t] = value(t);
+        }
+        row
+    }
+
+    /// The or over all t of z_loop(t) and x(t).
+    fn looped(&self, x: &Row) -> bool {
+        (0..self.h).any(|t| self.z_loop[t] && x[t])
+    }
+
+    /// z of an inner formula for cart n: equations 6 to 11.
+    pub fn z(&self, clause: &Clause, node: usize, n: usize) -> Row {
+        let Node { op, left, right } = clause.nodes[node];
+        let z = |operand| self.z(clause, operand, n);
+        match op {
+            Op::True => self.row(|_| true),
+            Op::Mark(a) => self.row(|t| self.traces[n][t] >> a & 1 == 1),
+            Op::Not => self.not(&z(left)),
+            Op::And => self.and(&z(left), &z(right)),
+            Op::Or => self.or(&z(left), &z(right)),
+            Op::Next => self.next(&z(left)),
+            Op::Until => self.until(&z(left), &z(right)),
+            Op::Finally => self.finally(&z(left)),
+            Op::Globally => self.not(&self.finally(&self.not(&z(left)))),
+            Op::Release => self.not(&self.until(&self.not(&z(left)), &self.not(&z(right)))),
+            Op::Count(_) => unreachable!("a count within a count"),
+        }
+    }
+
+    fn not(&self, x: &Row) -> Row {
+        self.row(|t| !x[t])
+    }
+
+    fn and(&self, a: &Row, b: &Row) -> Row {
+        self.row(|t| a[t] && b[t])
+    }
+
+    fn or(&self, a: &Row, b: &Row) -> Row {
+        self.row(|t| a[t] || b[t])
+    }
+
+    /// Equation 10.
+    fn next(&self, x: &Row) -> Row {
+        self.row(|t| {
+            if t + 1 < self.h {
+                x[t + 1]
+            } else {
+                self.looped(x)
+            }
+        })
+    }
+
+    /// Equation 11.
+    fn until(&self, a: &Row, b: &Row) -> Row {
+        let last = self.h - 1;
+        let mut auxiliary = [false; 64];
+        auxiliary[last] = b[last];
+        for t in (0..last).rev() {
+            auxiliary[t] = b[t] || a[t] && auxiliary[t + 1];
+        }
+        let mut z = [false; 64];
+        z[last] = b[last] || a[last] && self.looped(&auxiliary);
+        for t in (0..last).rev() {
+            z[t] = b[t] || a[t] && z[t + 1];
+        }
+        z
+    }
+
+    /// F a is true U a.
+    fn finally(&self, a: &Row) -> Row {
+        self.until(&self.row(|_| true), a)
+    }
+
+    /// Equation 28.
+    fn release(&self, a: &Row, b: &Row) -> Row {
+        let last = self.h - 1;
+        let mut auxiliary = [false; 64];
+        auxiliary[last] = b[last];
+        for t in (0..last).rev() {
+            auxiliary[t] = b[t] && (a[t] || auxiliary[t + 1]);
+        }
+        let mut y = [false; 64];
+        y[last] = b[last] && (a[last] || self.looped(&auxiliary));
+        for t in (0..last).rev() {
+            y[t] = b[t] && (a[t] || y[t + 1]);
+        }
+        y
+    }
+
+    /// r: equation 22.
+    pub fn r(&self, z: &Row) -> Row {
+        self.row(|t| (0..=self.d).all(|k| z[self.step[t + k]]))
+    }
+
+    /// y of a clause in positive normal form.
+    pub fn y(&self, clause: &Clause, pnf: &Pnf) -> Row {
+        match pnf {
+            Pnf::Constant(value) => self.row(|_| *value),
+            Pnf::Count(count) => self.count(clause, count),
+            Pnf::And(both) => self.and(&self.y(clause, &both[0]), &self.y(clause, &both[1])),
+            Pnf::Or(both) => self.or(&self.y(clause, &both[0]), &self.y(clause, &both[1])),
+            Pnf::Next(one) => self.next(&self.y(clause, one)),
+            Pnf::Until(both) => self.until(&self.y(clause, &both[0]), &self.y(clause, &both[1])),
+            Pnf::Release(both) => {
+                self.release(&self.y(clause, &both[0]), &self.y(clause, &both[1]))
+            }
+        }
+    }
+
+    /// Equations 23 and 24.
+    fn count(&self, clause: &Clause, count: &Count) -> Row {
+        let mut sum_r = [0; 64];
+        let mut sum_z = [0; 64];
+        for n in 0..self.carts() {
+            let z = self.z(clause, count.inner, n);
+            let z = if count.negated { self.not(&z) } else { z };
+            let r = self.r(&z);
+            for t in 0..self.h {
+                sum_z[t] += z[t] as usize;
+                sum_r[t] += r[t] as usize;
+            }
+        }
+        let all = self.carts();
+        self.row(|t| sum_r[t] >= count.m || count.m == 1 && sum_z[t] == all)
+    }
+
+    /// Remark 2: negations driven inward down to the counts, where N + 1 - m takes over.
+    pub fn pnf(&self, clause: &Clause, node: usize, negate: bool) -> Pnf {
+        let Node { op, left, right } = clause.nodes[node];
+        let one = |operand| self.pnf(clause, operand, negate);
+        let both = || Box::new([one(left), one(right)]);
+        let lone = |value: bool| Box::new([Pnf::Constant(value), one(left)]);
+        match (op, negate) {
+            (Op::True, _) => Pnf::Constant(!negate),
+            (Op::Count(_), _) => Pnf::Count(self.counted(clause, node, negate)),
+            (Op::Not, _) => self.pnf(clause, left, !negate),
+            (Op::Next, _) => Pnf::Next(Box::new(one(left))),
+            (Op::And, false) | (Op::Or, true) => Pnf::And(both()),
+            (Op::Or, false) | (Op::And, true) => Pnf::Or(both()),
+            (Op::Until, false) | (Op::Release, true) => Pnf::Until(both()),
+            (Op::Release, false) | (Op::Until, true) => Pnf::Release(both()),
+            (Op::Finally, false) | (Op::Globally, true) => Pnf::Until(lone(true)),
+            (Op::Globally, false) | (Op::Finally, true) => Pnf::Release(lone(false)),
+            (Op::Mark(_), _) => unreachable!("a mark outside a count"),
+        }
+    }
+
+    fn counted(&self, clause: &Clause, node: usize, negated: bool) -> Count {
+        let Node { op, left, .. } = clause.nodes[node];
+        let Op::Count(threshold) = op else {
+            unreachable!("no count")
+        };
+        let m = threshold.of(self.carts());
+        Count {
+            inner: left,
+            negated,
+            m: if negated {
+                (self.carts() + 1).saturating_sub(m)
+            } else {
+                m
+            },
+        }
+    }
+
+    /// y of a formula outside counts.
+    pub fn judge(&self, clause: &Clause, node: usize) -> Row {
+        self.y(clause, &self.pnf(clause, node, false))
+    }
+
+    /// None if the clause is true at step 0, else the step of its refusal.
+    pub fn broken_at(&self, clause: &Clause) -> Option<usize> {
+        if self.judge(clause, clause.root)[0] {
+            return None;
+        }
+        let Node { op, left, .. } = clause.nodes[clause.root];
+        if op != Op::Globally {
+            return Some(0);
+        }
+        let body = self.judge(clause, left);
+        Some((0..self.h).find(|t| !body[*t]).expect("a body that fails"))
+    }
+
+    /// Refusals 16 and 17.
+    pub fn check(&self, clauses: &[Clause]) -> Result<(), Refusal> {
+        let next_outside = |c: &Clause| c.next_outside(c.root);
+        if let (true, Some(i)) = (self.d > 0, clauses.iter().position(next_outside)) {
+            return Err(Refusal(16, i, 0));
+        }
+        for (i, clause) in clauses.iter().enumerate() {
+            if let Some(step) = self.broken_at(clause) {
+                return Err(Refusal(17, i, step));
+            }
+        }
+        Ok(())
+    }
+}
