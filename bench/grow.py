@@ -31,17 +31,25 @@ def plan(steps, drift, carts):
     return record(4, head) + b"".join(record(5, [2 * n + (s >> 1 & 1) for s in range(steps)]) for n in range(carts))
 
 
-def clause(nodes):
-    """One count that is always true, its inner text of marks under U, &, X and F in turn: as many nodes as asked for."""
+def count(nodes):
+    """A count that is always true, its inner text of marks under U, &, X, F and ! in turn: as many nodes as asked for."""
     text, made, mark = "m0", 2, 1
     while made < nodes:
         left = nodes - made
-        if left >= 4:
-            text, made = f"(F m{mark % 32} U X m{(mark + 1) % 32} & {text})" if left >= 6 else f"(m{mark % 32} U X {text})", made + (6 if left >= 6 else 3)
-            mark += 2
+        if left >= 6:
+            text, made = f"(F m{mark % 32} U X m{(mark + 1) % 32} & {text})", made + 6
+        elif left >= 3:
+            text, made = f"(m{mark % 32} U X {text})", made + 3
         else:
-            text, made = f"!{text}" if left == 1 else f"(m{mark % 32} & {text})", made + (1 if left == 1 else 2)
+            text, made = f"!{text}", made + 1
+        mark += 2
     return f"[{text},0]"
+
+
+def clause(nodes):
+    """Four counts under &."""
+    inside = nodes - 3
+    return " & ".join(count(inside // 4 + (k < inside % 4)) for k in range(4))
 
 
 def write(folder, steps, drift, carts, nodes, clauses, lanes):
