@@ -3,6 +3,7 @@ pub mod Threshold
 pub mod Meaning
 pub mod Rules
 pub mod Step
+pub mod Broken
 -- promises
 pub mod Promises
 -- worked cases

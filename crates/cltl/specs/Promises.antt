@@ -15,7 +15,8 @@ use Rattle.cltl.specs.Sound.{rules-sound}
 use Rattle.cltl.specs.Monotone.{rules-mono}
 use Rattle.cltl.specs.Exact.{rules-exact}
 use Rattle.cltl.specs.Standing.{gather, gathered, highest}
-use Rattle.cltl.specs.Complete.{Broken, count-complete}
+use Rattle.cltl.specs.Broken.{Broken}
+use Rattle.cltl.specs.Complete.{count-complete}
 
 module _ (P : Rows) (proper : Proper P) where
   -- inner text on a row is decided exactly, at every counter
@@ -39,7 +40,7 @@ module _ (P : Rows) (proper : Proper P) where
 
   -- a count's rule is complete: where it is false, a run within d breaks the count (or, for its negation, keeps it) at a moment when its hindmost
   -- cart is at counter s
-  pub complete : (d : ℕ) (p : Bool) (x : Threshold) (s : ℕ) → s < P .h → (T (count P d p x s) → ⊥) → Broken P proper d p x s
+  pub complete : (d : ℕ) (p : Bool) (x : Threshold) (s : ℕ) → s < P .h → (T (count P d p x s) → ⊥) → Broken P d p x s
   complete d p x s low other = count-complete P proper d p x s low other
 
 -- every standing of spread at most d is reached by a run

@@ -13,7 +13,7 @@ ghost use mathlib.Core.Path.{_≡_};
 ghost use Prim.Native.Nat.{_+_, _<_, _≤_};
 ghost use Rattle.marks.specs.Table.{Tabled};
 ghost use Rattle.drift.specs.Tree.{Ordered};
-ghost use Rattle.drift.specs.NodeRows.{kindAt};
+ghost use Rattle.drift.specs.Tree.{kindAt};
 ghost use Rattle.drift.specs.Answer.{ClauseRow};
 
 // A count's row, or its negation's.

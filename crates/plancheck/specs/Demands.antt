@@ -11,8 +11,8 @@ use Rattle.record.specs.All.{All}
 use Rattle.record.specs.Buffer.{stored}
 use Rattle.floor.specs.declared.Floor.{Floor}
 use Rattle.plan.specs.Plan.{Numbers}
-use Rattle.grammar.specs.Grammar.{Form, top, Clause}
-use Rattle.cltl.specs.Meaning.{Run, TrueOf, TrueInStep}
+use Rattle.grammar.specs.Grammar.{top, Clause}
+use Rattle.cltl.specs.Meaning.{Run, TrueOf}
 use Rattle.plancheck.specs.Check.{planRows, checked}
 use Rattle.plancheck.specs.Promises.{Plain, Readable, PlanChecked}
 

@@ -22,23 +22,19 @@ use Rattle.cltl.specs.Rules.{rules, hasNext}
 use Rattle.cltl.specs.Step.{failing}
 use Rattle.cltl.specs.Agree.{rules-agree, failing-agrees}
 use Rattle.mask.specs.Mask.{on, Row}
-use Rattle.plancheck.specs.Check.{clausesOf, nextVerdict, keptVerdict, clausesVerdict}
+use Rattle.plancheck.specs.Check.{clauseVerdict, clausesOf, nextVerdict, keptVerdict, clausesVerdict}
 use Rattle.plancheck.specs.Lines.{Good, Left, Line, all-left, none-left}
 use lib.ListN.{length}
 use Prim.Native.Nat.{_≤_}
 
 module _ (P : Rows) (d : ℕ) where
-  -- 17 for clause n, if it is not kept
-  abbrev pub clauseVerdict : ℕ → Clause → Verdict
-  clauseVerdict n c = cond (rules P d c 0) Accepted (AboutRules (refused 17 n (failing P d c)))
-
   module _ (n : ℕ) (c : Clause) (r : ℕ) (some : 0 < P .h) (row : Row (P .h) r (rules P d c)) where
     -- the lowest bit is the truth at step 0
-    pub clause-kept : r % 2 ≡ 1 → Accepted ≡ clauseVerdict n c
+    pub clause-kept : r % 2 ≡ 1 → Accepted ≡ clauseVerdict P d n c
     unfolding on
     clause-kept e = ap (λ (b : Bool). cond b Accepted (AboutRules (refused 17 n (failing P d c)))) (sym (eq-eqb (r / 2 ^ 0 % 2) 1 (omega arith)) ∙ row .at 0 some)
 
-    pub clause-fails : (r % 2 ≡ 1 → ⊥) → (step : ℕ) → step ≡ failing P d c → AboutRules (refused 17 n step) ≡ clauseVerdict n c
+    pub clause-fails : (r % 2 ≡ 1 → ⊥) → (step : ℕ) → step ≡ failing P d c → AboutRules (refused 17 n step) ≡ clauseVerdict P d n c
     unfolding on
     clause-fails e step q =
         ap (λ (s : ℕ). AboutRules (refused 17 n s)) q
@@ -81,10 +77,10 @@ module _ (P : Rows) (d : ℕ) where
       go false false e = let x : _≡_ {A = ℕ} 0 1 = cc in absurd (omega arith)
 
   -- on to the next clause
-  pub goes-on-to : (found : Verdict) (n : ℕ) (c : Clause) (cs : List Clause) → false ≡ cond (eqb d 0) false (hasNext c) → seen found n (c ∷ cs) ≡ seen (andThen found (clauseVerdict n c)) (n + 1) cs
+  pub goes-on-to : (found : Verdict) (n : ℕ) (c : Clause) (cs : List Clause) → false ≡ cond (eqb d 0) false (hasNext c) → seen found n (c ∷ cs) ≡ seen (andThen found (clauseVerdict P d n c)) (n + 1) cs
   unfolding nextVerdict keptVerdict
   goes-on-to found n c cs e =
-      ap₂ andThen (sixteen (eqb d 0) (hasNext c) e) (seventeen (isAccepted found) refl (rules P d c 0)) ∙ ap (λ (m : ℕ). seen (andThen found (clauseVerdict n c)) m cs) (sym (add-one n))
+      ap₂ andThen (sixteen (eqb d 0) (hasNext c) e) (seventeen (isAccepted found) refl (rules P d c 0)) ∙ ap (λ (m : ℕ). seen (andThen found (clauseVerdict P d n c)) m cs) (sym (add-one n))
     where
       sixteen : (z b : Bool) → false ≡ cond z false b → cond z Accepted (cond b (AboutRules (refused 16 n 0)) (nextVerdict (suc n) cs)) ≡ cond z Accepted (nextVerdict (suc n) cs)
       sixteen true b e = refl
@@ -106,7 +102,7 @@ module _ (P : Rows) (d : ℕ) where
     pub going-16 : true ≡ cond (eqb d 0) false (hasNext (l .clause)) → AboutRules (refused 16 n 0) ≡ clausesVerdict P d (clausesOf (readSheet s))
     going-16 e = stops-16 found n (l .clause) (l .rest) e ∙ ap (seen found n) (sym (l .first)) ∙ g .same
 
-    pub going-on : false ≡ cond (eqb d 0) false (hasNext (l .clause)) → (v : Verdict) → v ≡ andThen found (clauseVerdict n (l .clause)) → Going s (r .at) (n + 1) v
+    pub going-on : false ≡ cond (eqb d 0) false (hasNext (l .clause)) → (v : Verdict) → v ≡ andThen found (clauseVerdict P d n (l .clause)) → Going s (r .at) (n + 1) v
     going-on e v q = record {
       rest = l .rest;
       left = l .left;

@@ -11,8 +11,7 @@ ghost use Rattle.sheet.specs.Rules.{rulesVerdict};
 ghost use Rattle.cltl.specs.Rules.{hasNext};
 ghost use Rattle.marks.specs.Table.{Tabled, rowsIn};
 ghost use Rattle.drift.specs.Tree.{Ordered, clauseTree};
-ghost use Rattle.plancheck.specs.Check.{clausesOf, clausesVerdict};
-ghost use Rattle.plancheck.specs.Turns.{clauseVerdict};
+ghost use Rattle.plancheck.specs.Check.{clausesOf, clauseVerdict, clausesVerdict};
 
 // Whether a clause looks one tick on although there is drift.
 fn looks_on(nodes: &[u8], k: usize, d: usize) -> bool

@@ -14,7 +14,8 @@ use Rattle.cltl.specs.Rules.{hasNext}
 use Rattle.marks.specs.Table.{rowsIn}
 use Rattle.plancheck.specs.Lines.{accepted-short}
 use Rattle.plancheck.specs.LineHeld.{ready}
-use Rattle.plancheck.specs.Turns.{clauseVerdict, Going, going-start, going-end, going-16, going-on}
+use Rattle.plancheck.specs.Check.{clauseVerdict}
+use Rattle.plancheck.specs.Turns.{Going, going-start, going-end, going-16, going-on}
 use Rattle.plancheck.proofs.clauses.judge_lines.Statement.{statement}
 use Rattle.plancheck.proofs.clauses.judge_lines.Tie as tie
 
