@@ -24,4 +24,5 @@ pub mod Exact
 pub mod Standing
 pub mod Complete
 pub mod Lowest
+pub mod Globally
 pub mod Agree

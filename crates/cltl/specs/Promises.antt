@@ -5,7 +5,8 @@ use mathlib.Core.Bool.{Bool, true}
 use mathlib.Core.Logic.{_↔_}
 use native.Mathlib.Omega.{arith}
 use lib.Dec.{T}
-use Rattle.grammar.specs.Grammar.{Inner, Threshold, Clause}
+use Rattle.cltl.specs.Globally.{globally-broken}
+use Rattle.grammar.specs.Grammar.{leaf, gl, Inner, Threshold, Clause}
 use Rattle.row.specs.Lasso.{stepOf}
 use Rattle.row.specs.Round.{step-low}
 use Rattle.cltl.specs.Meaning.{Rows, Proper, Run, Satisfies, TrueOf, InStepAt, TrueInStep}
@@ -42,6 +43,10 @@ module _ (P : Rows) (proper : Proper P) where
   -- cart is at counter s
   pub complete : (d : ℕ) (p : Bool) (x : Threshold) (s : ℕ) → s < P .h → (T (count P d p x s) → ⊥) → Broken P d p x s
   complete d p x s low other = count-complete P proper d p x s low other
+
+  -- with `runs`: a G over one count is kept exactly when it is true of every run within d. Not kept: it is false of one
+  pub globally-exact : (d : ℕ) (x : Threshold) → (T (rules P d (gl (leaf x)) 0) → ⊥) → (r : Run (P .carts) d) × (TrueOf P r (gl (leaf x)) → ⊥)
+  globally-exact d x other = globally-broken P proper d x other
 
 -- every standing of spread at most d is reached by a run
 pub reached : (carts d : ℕ) (K : ℕ → ℕ) → ((i j : ℕ) → i < carts → j < carts → K i ≤ K j + d) → (r : Run carts d) × (t : ℕ) × ((i : ℕ) → i < carts → r .at t i ≡ K i)
