@@ -1,4 +1,5 @@
 // The clauses of an accepted sheet in one pass: 16 wherever it stands, else the first 17.
+use drift::Ground;
 use refusal::Verdict;
 ghost use mathlib.Core.Path.{_≡_};
 ghost use mathlib.Core.Bool.{false, cond};
@@ -25,46 +26,29 @@ fn looks_on(nodes: &[u8], k: usize, d: usize) -> bool
 }
 
 // What was found before clause n, or the verdict on clause n.
-fn first_found(
-    found: Verdict,
-    nodes: &[u8],
-    table: &[u64],
-    carts: usize,
-    h: usize,
-    l: usize,
-    d: usize,
-    k: usize,
-    n: u32,
-) -> Verdict
-    requires { ⌜ (l < h) × (h ≤ 64) × (carts ≤ 32) ⌝ }
+fn first_found(found: Verdict, nodes: &[u8], table: &[u64], g: Ground, k: usize, n: u32) -> Verdict
+    requires { ⌜ (g .l < g .h) × (g .h ≤ 64) × (g .carts ≤ 32) ⌝ }
     requires { ⌜ Ordered (now nodes) (k + 1) ⌝ }
-    requires { ⌜ Tabled (now table) carts h ⌝ }
-    ensures { λ v. ⌜ ((m : ℕ) → k < m → v ≡ andThen found (clauseVerdict (rowsIn (now (table .entry)) carts h l) d n (clauseTree (now (nodes .entry)) m k))) ⌝ }
+    requires { ⌜ Tabled (now table) (g .carts) (g .h) ⌝ }
+    ensures { λ v. ⌜ ((m : ℕ) → k < m → v ≡ andThen found (clauseVerdict (rowsIn (now (table .entry)) (g .carts) (g .h) (g .l)) (g .d) n (clauseTree (now (nodes .entry)) m k))) ⌝ }
 {
     if !refusal::accepts(found) {
         return found;
     }
-    let row = drift::clause_row(nodes, table, carts, h, l, d, true, k);
+    let row = drift::clause_row(nodes, table, g, true, k);
     if row % 2 == 1 {
         return Verdict::Accepted;
     }
-    let step = drift::failing_step(nodes, table, carts, h, l, d, k);
+    let step = drift::failing_step(nodes, table, g, k);
     Verdict::Rules(refusal::refuse(17, n, step as u32))
 }
 
 // The verdict on the clauses.
-pub fn judge_lines(
-    rules: &[u8],
-    table: &[u64],
-    carts: usize,
-    h: usize,
-    l: usize,
-    d: usize,
-) -> Verdict
+pub fn judge_lines(rules: &[u8], table: &[u64], g: Ground) -> Verdict
     requires { ⌜ rulesVerdict (now rules) ≡ Accepted ⌝ }
-    requires { ⌜ (l < h) × (h ≤ 64) × (carts ≤ 32) ⌝ }
-    requires { ⌜ Tabled (now table) carts h ⌝ }
-    ensures { λ v. ⌜ v ≡ clausesVerdict (rowsIn (now (table .entry)) carts h l) d (clausesOf (readSheet (now (rules .entry)))) ⌝ }
+    requires { ⌜ (g .l < g .h) × (g .h ≤ 64) × (g .carts ≤ 32) ⌝ }
+    requires { ⌜ Tabled (now table) (g .carts) (g .h) ⌝ }
+    ensures { λ v. ⌜ v ≡ clausesVerdict (rowsIn (now (table .entry)) (g .carts) (g .h) (g .l)) (g .d) (clausesOf (readSheet (now (rules .entry)))) ⌝ }
 {
     let mut nodes = [0u8; 512];
     let mut found = Verdict::Accepted;
@@ -73,10 +57,10 @@ pub fn judge_lines(
     while at < rules.len() {
         let r = sheet::read_clause(rules, at, &mut nodes);
         let last = r.n - 1;
-        if looks_on(&nodes, last, d) {
+        if looks_on(&nodes, last, g.d) {
             return Verdict::Rules(refusal::refuse(16, n, 0));
         }
-        found = first_found(found, &nodes, table, carts, h, l, d, last, n);
+        found = first_found(found, &nodes, table, g, last, n);
         at = r.at;
         n += 1;
     }

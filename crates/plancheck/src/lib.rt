@@ -2,6 +2,7 @@
 mod clauses;
 
 use clauses::judge_lines;
+use drift::Ground;
 use floor::Floor;
 use plan::Head;
 use refusal::Verdict;
@@ -34,7 +35,13 @@ fn judge_with(
     ensures { λ v. ⌜ v ≡ clausesVerdict (planRows (now (floor .entry)) f (heldNumbers (f .carts) h (now (block .entry)))) (h .drift) (clausesOf (readSheet (now (rules .entry)))) ⌝ }
 {
     marks::fill(floor, block, f.carts, h.steps, table);
-    judge_lines(rules, table, f.carts, h.steps, h.stem, h.drift)
+    let g = Ground {
+        carts: f.carts,
+        h: h.steps,
+        l: h.stem,
+        d: h.drift,
+    };
+    judge_lines(rules, table, g)
 }
 
 // The same, with no more room than a small floor needs, since a table is cleared before it is filled.

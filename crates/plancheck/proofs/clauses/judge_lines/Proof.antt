@@ -20,16 +20,16 @@ use Rattle.plancheck.proofs.clauses.judge_lines.Statement.{statement}
 use Rattle.plancheck.proofs.clauses.judge_lines.Tie as tie
 
 abbrev Inv-loop : tie.InvT-loop
-Inv-loop rules table carts h l d nodes₀ found₀ at₀ n₀ nodes found at n = (length nodes ≡ 512) × Going (rowsIn table carts h l) d rules at n found
+Inv-loop rules table g nodes₀ found₀ at₀ n₀ nodes found at n = (length nodes ≡ 512) × Going (rowsIn table (g .carts) (g .h) (g .l)) (g .d) rules at n found
 
 abbrev μ-loop : tie.MeasureT-loop
-μ-loop rules table carts h l d nodes₀ found₀ at₀ n₀ nodes found at n = 32 - n
+μ-loop rules table g nodes₀ found₀ at₀ n₀ nodes found at n = 32 - n
 
 -- src/clauses.rt:74:5
 loop-holds : tie.Need-loop-holds Inv-loop μ-loop
 loop-holds c =
     let a = c .before .before .args in
-    (refl, going-start (rowsIn (a .table .now) (a .carts) (a .h) (a .l)) (a .d) (a .rules .now) (c .before .before .pre .0))
+    (refl, going-start (rowsIn (a .table .now) (a .g .carts) (a .g .h) (a .g .l)) (a .g .d) (a .rules .now) (c .before .before .pre .0))
 
 -- src/clauses.rt:75:47
 slice-aggregate-read-clause : tie.Need-slice-aggregate-read-clause Inv-loop μ-loop
@@ -75,8 +75,8 @@ returns c =
     let s = c .before .before .before .before .before .before .before .before .before .before .before .before .args .rules .now in
     let v = c .before .before .before .before .before .before .before .before .before .loop in
     let w = ready s (v .nodes) _ _ (v .at) (v .n) (c .before .before .before .before .before .before .before .before .loop-test .taken) (c .before .before .before .before .before .before .read-clause .ensures) (v .inv .1 .rest) (v .inv .1 .left) (v .inv .0) in
-    let e : true ≡ cond (eqb (c .before .before .before .before .before .before .before .before .before .before .before .before .args .d) 0) false (hasNext (w .line .clause)) = sym (c .before .if1 .taken) ∙ c .before .before .looks-on .ensures _ (le-refl _) ∙ ap (λ (x : Clause). cond (eqb (c .before .before .before .before .before .before .before .before .before .before .before .before .args .d) 0) false (hasNext x)) (w .judge .tree _ (le-refl _)) in
-    ap AboutRules (c .refuse .ensures) ∙ going-16 _ (c .before .before .before .before .before .before .before .before .before .before .before .before .args .d) s (v .nodes) _ _ (v .at) (v .n) (v .found) (v .inv .1) (w .line) e
+    let e : true ≡ cond (eqb (c .before .before .before .before .before .before .before .before .before .before .before .before .args .g .d) 0) false (hasNext (w .line .clause)) = sym (c .before .if1 .taken) ∙ c .before .before .looks-on .ensures _ (le-refl _) ∙ ap (λ (x : Clause). cond (eqb (c .before .before .before .before .before .before .before .before .before .before .before .before .args .g .d) 0) false (hasNext x)) (w .judge .tree _ (le-refl _)) in
+    ap AboutRules (c .refuse .ensures) ∙ going-16 _ (c .before .before .before .before .before .before .before .before .before .before .before .before .args .g .d) s (v .nodes) _ _ (v .at) (v .n) (v .found) (v .inv .1) (w .line) e
 
 -- src/clauses.rt:80:36
 slice-aggregate-first-found : tie.Need-slice-aggregate-first-found Inv-loop μ-loop
@@ -117,16 +117,16 @@ loop-again c =
     let v = c .before .before .before .before .before .before .before .before .before .before .loop in
     let w = ready s (v .nodes) _ _ (v .at) (v .n) (c .before .before .before .before .before .before .before .before .before .loop-test .taken) (c .before .before .before .before .before .before .before .read-clause .ensures) (v .inv .1 .rest) (v .inv .1 .left) (v .inv .0) in
     let a = c .before .before .before .before .before .before .before .before .before .before .before .before .before .args in
-    let P : Rows = rowsIn (a .table .now) (a .carts) (a .h) (a .l) in
+    let P : Rows = rowsIn (a .table .now) (a .g .carts) (a .g .h) (a .g .l) in
     let t = w .judge .tree _ (le-refl _) in
-    let e : false ≡ cond (eqb (a .d) 0) false (hasNext (w .line .clause)) = sym (c .before .before .if1 .left) ∙ c .before .before .before .looks-on .ensures _ (le-refl _) ∙ ap (λ (x : Clause). cond (eqb (a .d) 0) false (hasNext x)) t in
-    (w .judge .size, going-on P (a .d) s (v .nodes) _ _ (v .at) (v .n) (v .found) (v .inv .1) (w .line) e (c .first-found .result) (c .first-found .ensures _ (le-refl _) ∙ ap (λ (x : Clause). andThen (v .found) (clauseVerdict P (a .d) (v .n) x)) t))
+    let e : false ≡ cond (eqb (a .g .d) 0) false (hasNext (w .line .clause)) = sym (c .before .before .if1 .left) ∙ c .before .before .before .looks-on .ensures _ (le-refl _) ∙ ap (λ (x : Clause). cond (eqb (a .g .d) 0) false (hasNext x)) t in
+    (w .judge .size, going-on P (a .g .d) s (v .nodes) _ _ (v .at) (v .n) (v .found) (v .inv .1) (w .line) e (c .first-found .result) (c .first-found .ensures _ (le-refl _) ∙ ap (λ (x : Clause). andThen (v .found) (clauseVerdict P (a .g .d) (v .n) x)) t))
 
 -- src/clauses.rt:57:1
 returns-2 : tie.Need-returns-2 Inv-loop μ-loop
 returns-2 c =
     let a = c .before .before .before .before .args in
-    going-end (rowsIn (a .table .now) (a .carts) (a .h) (a .l)) (a .d) (a .rules .now) (c .before .loop .at) (c .before .loop .n) (c .before .loop .found) (c .before .loop .inv .1) (omega arith)
+    going-end (rowsIn (a .table .now) (a .g .carts) (a .g .h) (a .g .l)) (a .g .d) (a .rules .now) (c .before .loop .at) (c .before .loop .n) (c .before .loop .found) (c .before .loop .inv .1) (omega arith)
 
 pub judge-lines-spec : {M : Type 1} → statement M
 judge-lines-spec =
