@@ -1,5 +1,5 @@
 -- A G over one count that the rules do not keep is false of some run within the drift.
-use Prim.Native.Nat.{ℕ, _≤_}
+use Prim.Native.Nat.{ℕ}
 use native.Mathlib.Omega.{arith}
 use mathlib.Core.Bool.{true}
 use lib.Dec.{T, T-not}

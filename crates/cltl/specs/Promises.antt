@@ -1,4 +1,4 @@
--- What is claimed of cLTL+, for any rows, clauses and drifts.
+-- What is claimed of cLTL+, for any rows with a cart and a lap, any clauses and drifts.
 use Prim.Native.Nat.{ℕ, _+_, _≤_, _<_}
 use mathlib.Core.Path.{_≡_}
 use mathlib.Core.Bool.{Bool, true}
@@ -45,8 +45,8 @@ module _ (P : Rows) (proper : Proper P) where
   complete d p x s low other = count-complete P proper d p x s low other
 
   -- with `runs`: a G over one count is kept exactly when it is true of every run within d. Not kept: it is false of one
-  pub globally-exact : (d : ℕ) (x : Threshold) → (T (rules P d (gl (leaf x)) 0) → ⊥) → (r : Run (P .carts) d) × (TrueOf P r (gl (leaf x)) → ⊥)
-  globally-exact d x other = globally-broken P proper d x other
+  pub globally-complete : (d : ℕ) (x : Threshold) → (T (rules P d (gl (leaf x)) 0) → ⊥) → (r : Run (P .carts) d) × (TrueOf P r (gl (leaf x)) → ⊥)
+  globally-complete d x other = globally-broken P proper d x other
 
 -- every standing of spread at most d is reached by a run
 pub reached : (carts d : ℕ) (K : ℕ → ℕ) → ((i j : ℕ) → i < carts → j < carts → K i ≤ K j + d) → (r : Run carts d) × (t : ℕ) × ((i : ℕ) → i < carts → r .at t i ≡ K i)

@@ -5,7 +5,7 @@ use Rattle.grammar.specs.Grammar.{top, leaf, neg, and, or, next, until, release
 use Rattle.cltl.specs.Meaning.{Rows}
 use Rattle.cltl.specs.Rules.{rules}
 
--- the lowest of n steps from s on at which the test fails
+-- the lowest of n steps from s on at which the test fails, or s + n
 unfoldable pub lowest : (ℕ → Bool) → ℕ → ℕ → ℕ
 lowest f zero s = s
 lowest f (suc n) s = cond (f s) (lowest f n (suc s)) s

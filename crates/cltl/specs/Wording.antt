@@ -2,12 +2,12 @@
 use Prim.Native.Nat.{ℕ, suc, _+_, _-_, _≤_, _<_}
 use mathlib.Core.Path.{_≡_, refl}
 use mathlib.Core.Bool.{Bool, true, false, _&&_, _||_}
-use lib.Dec.{T}
+use lib.Dec.{T, leb, eqb}
 use Rattle.grammar.specs.Grammar.{top, leaf, neg, and, or, next, until, release, ev, gl, Inner, counted, Clause}
 use Rattle.row.specs.Lasso.{nextStep, stepOf}
 use Rattle.cltl.specs.Threshold.{threshold, quota}
 use Rattle.cltl.specs.Meaning.{Rows, Proper, Until}
-use Rattle.cltl.specs.Rules.{judge, inner, count, rules}
+use Rattle.cltl.specs.Rules.{tally, every, window, quorum, judge, inner, count, rules}
 use Rattle.cltl.specs.Lap.{fix-law, reach, forever}
 
 module _ (P : Rows) (d s : ℕ) where
@@ -19,7 +19,7 @@ module _ (P : Rows) (d s : ℕ) where
   unfolding rules judge
   plain a b = (refl, refl, refl, refl)
 
-  -- "X outside counts looks one step on."
+  -- "With d = 0, X outside counts looks one step on." With a drift 16 comes first.
   pub looks-on : (a : Clause) → At (next a) s ≡ At a (nextStep (P .h) (P .l) s)
   unfolding rules judge
   looks-on a = refl
@@ -32,15 +32,24 @@ module _ (P : Rows) (d s : ℕ) where
   unfolding rules judge
   inward a b = (refl, refl, refl, refl, refl, refl, refl, refl)
 
-  -- "F a is true U a; G a is !F !a"
-  pub written-out : (a : Clause) → (At (ev a) s ≡ At (until top a) s) × (At (gl a) s ≡ At (neg (ev (neg a))) s)
+  -- "F a is true U a; G a is !F !a; a R b is !(!a U !b)."
+  pub written-out : (a b : Clause) → (At (ev a) s ≡ At (until top a) s) × (At (gl a) s ≡ At (neg (ev (neg a))) s) × (At (release a b) s ≡ At (neg (until (neg a) (neg b))) s)
   unfolding rules judge
-  written-out a = (refl, refl)
+  written-out a b = (refl, refl, refl)
 
   -- "!`[a,m]` becomes `[!a,N+1−m]`"
-  pub negated : (a : Inner) (m : ℕ) → At (neg (leaf (counted a m false))) s ≡ At (leaf (counted (neg a) (suc (P .carts) - m) false)) s
+  pub negated : (a : Inner) (k : ℕ) (percent : Bool)
+      → At (neg (leaf (counted a k percent))) s ≡ At (leaf (counted (neg a) (suc (P .carts) - threshold k percent (P .carts)) false)) s
   unfolding rules judge count quota threshold inner
-  negated a m = refl
+  negated a k false = refl
+  negated a k true = refl
+
+  -- "at least m carts satisfy the inner text at all of counters s to s + d; with m = 1 also if all N carts satisfy it at s itself"
+  pub counts : (a : Inner) (k : ℕ) (percent : Bool) → let m = threshold k percent (P .carts) in
+      At (leaf (counted a k percent)) s
+      ≡ (leb m (tally (λ i. every (λ j. inner P i true a (stepOf (P .h) (P .l) (s + j))) (suc d)) (P .carts)) || (eqb m 1 && every (λ i. inner P i true a s) (P .carts)))
+  unfolding rules judge count quorum quota window
+  counts a k percent = refl
 
   module _ (proper : Proper P) (low : s < P .h) (a b : Clause) where
     -- "a U b: b here, or a here and a U b at the step after"

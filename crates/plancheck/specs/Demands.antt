@@ -2,7 +2,9 @@
 use Prim.Native.Nat.{ℕ, zero, suc, _≤_, _<_}
 use native.Mathlib.Omega.{arith}
 use mathlib.Core.Path.{_≡_}
+use mathlib.Core.Logic.{_⊎_}
 use mathlib.Core.List.{List, [], _∷_}
+use lib.Dec.{T}
 use lib.ListN.{length, getD}
 use Rattle.endian.specs.Little.{bytes}
 use Rattle.refusal.specs.declared.Verdict.{Verdict}
@@ -11,10 +13,12 @@ use Rattle.record.specs.All.{All}
 use Rattle.record.specs.Buffer.{stored}
 use Rattle.floor.specs.declared.Floor.{Floor}
 use Rattle.plan.specs.Plan.{Numbers}
+use Rattle.plan.specs.After.{ReadAs}
 use Rattle.grammar.specs.Grammar.{top, Clause}
-use Rattle.cltl.specs.Meaning.{Run, TrueOf}
+use Rattle.cltl.specs.Meaning.{Run, TrueOf, TrueInStep}
+use Rattle.cltl.specs.Rules.{rules}
 use Rattle.plancheck.specs.Check.{planRows, checked}
-use Rattle.plancheck.specs.Promises.{Plain, Readable, PlanChecked}
+use Rattle.plancheck.specs.Promises.{Plain, Readable, Ahead, PlanChecked}
 
 each : (Q : Clause → Type 0) (cs : List Clause) (k : ℕ) → All Q cs → k < length cs → Q (getD cs k top)
 each Q [] k a q = absurd (omega arith)
@@ -29,3 +33,19 @@ module _ (floor plan sheet : List ℕ) (v : Verdict) (w : PlanChecked floor plan
   -- accepted with every smaller drift: the check's own answer on the plan with other bytes for d
   pub accepted-with : (d : ℕ) → d ≤ p .head .drift → checked floor (stored plan 8 (bytes 2 d)) sheet ≡ Accepted
   accepted-with d less = w .smaller yes f p (r .files) d less
+
+module _ (floor plan sheet : List ℕ) (v : Verdict) (w : PlanChecked floor plan sheet v) where
+  -- in step: what is true of every clause is accepted, and nothing else is
+  pub accepted-in-step : (f : Floor) (p : Numbers) (cs : List Clause) → Readable floor plan sheet f p cs → p .head .drift ≡ 0 → All (TrueInStep (planRows floor f p)) cs → v ≡ Accepted
+  accepted-in-step f p cs r none all = w .in-step f p (r .files) none .1 (cs, r, all)
+
+  pub true-in-step : (f : Floor) (p : Numbers) → ReadAs floor plan f p → p .head .drift ≡ 0 → v ≡ Accepted → (cs : List Clause) × Readable floor plan sheet f p cs × All (TrueInStep (planRows floor f p)) cs
+  true-in-step f p files none yes = w .in-step f p files none .0 yes
+
+  -- with drift: what the rules keep is accepted, and nothing else is
+  pub accepted-kept : (f : Floor) (p : Numbers) (cs : List Clause) → Ahead floor plan sheet f p cs → All (λ c. T (rules (planRows floor f p) (p .head .drift) c 0)) cs → v ≡ Accepted
+  accepted-kept f p cs a all = w .kept f p cs a .1 all
+
+  -- and "next" outside a count is refused
+  pub no-next : v ≡ Accepted → (f : Floor) × (p : Numbers) × (cs : List Clause) × Readable floor plan sheet f p cs × ((p .head .drift ≡ 0) ⊎ All Plain cs)
+  no-next yes = let a = w .readable yes in (a .0, a .1, a .2, a .3 .readable, a .3 .steady)

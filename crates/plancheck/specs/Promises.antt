@@ -38,7 +38,8 @@ module _ (floor plan sheet : List ℕ) where
   pub record PlanChecked (v : Verdict) : Type 0 where
     -- the answer, for every floor, plan and sheet
     pub verdict : v ≡ checked floor plan sheet
-    -- at drift 0: accepted exactly when all can be read, the moves are open without end, and every clause is true in step
+    -- at drift 0: accepted exactly when all can be read, each cart begins at its start, its moves are open without end, and every clause is
+    -- true in step
     pub in-step : (f : Floor) (p : Numbers) → ReadAs floor plan f p → p .head .drift ≡ 0
         → (v ≡ Accepted) ↔ ((cs : List Clause) × Readable f p cs × All (TrueInStep (planRows floor f p)) cs)
     -- nothing refused ahead of the clauses: accepted exactly when the drift rules keep every clause
