@@ -40,7 +40,7 @@ module _ (floor plan sheet : List ℕ) (v : Verdict) (w : PlanChecked floor plan
   accepted-in-step f p cs r none all = w .in-step f p (r .files) none .1 (cs, r, all)
 
   pub true-in-step : (f : Floor) (p : Numbers) → ReadAs floor plan f p → p .head .drift ≡ 0 → v ≡ Accepted → (cs : List Clause) × Readable floor plan sheet f p cs × All (TrueInStep (planRows floor f p)) cs
-  true-in-step f p files none yes = w .in-step f p files none .0 yes
+  true-in-step f p files none e = w .in-step f p files none .0 e
 
   -- with drift: what the rules keep is accepted, and nothing else is
   pub accepted-kept : (f : Floor) (p : Numbers) (cs : List Clause) → Ahead floor plan sheet f p cs → All (λ c. T (rules (planRows floor f p) (p .head .drift) c 0)) cs → v ≡ Accepted
@@ -48,4 +48,4 @@ module _ (floor plan sheet : List ℕ) (v : Verdict) (w : PlanChecked floor plan
 
   -- and "next" outside a count is refused
   pub no-next : v ≡ Accepted → (f : Floor) × (p : Numbers) × (cs : List Clause) × Readable floor plan sheet f p cs × ((p .head .drift ≡ 0) ⊎ All Plain cs)
-  no-next yes = let a = w .readable yes in (a .0, a .1, a .2, a .3 .readable, a .3 .steady)
+  no-next e = let a = w .readable e in (a .0, a .1, a .2, a .3 .readable, a .3 .steady)
