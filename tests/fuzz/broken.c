@@ -1,0 +1,111 @@
+/* The C functions with a fault put in, to see that the harness finds it: FUZZ_FAULT names one. Linked with --wrap, so that
+ * each __real_ function is the library's own. */
+#include <stdio.h>
+#include <stdlib.h>
+#include <string.h>
+
+#include "cartplan.h"
+
+typedef struct cartplan_verdict verdict;
+typedef struct cartplan_span span;
+
+#define BYTES(name) const uint8_t *name, size_t name##_len
+verdict __real_cartplan_read_floor(BYTES(floor));
+verdict __real_cartplan_read_plan(BYTES(floor), BYTES(plan));
+verdict __real_cartplan_write_floor(const uint32_t *places, size_t count, BYTES(lanes), BYTES(carts), uint8_t *out, size_t out_len);
+verdict __real_cartplan_write_plan(BYTES(floor), uint16_t h, uint16_t l, uint16_t d, BYTES(rows), uint8_t *out, size_t out_len);
+verdict __real_cartplan_read_rules(BYTES(rules));
+verdict __real_cartplan_check_moves(BYTES(floor), BYTES(plan));
+verdict __real_cartplan_check(BYTES(floor), BYTES(plan), BYTES(rules));
+verdict __real_cartplan_move_on(BYTES(floor), BYTES(plan), uint16_t s, uint8_t *out, size_t out_len);
+verdict __real_cartplan_replace_row(BYTES(floor), uint8_t *plan, size_t plan_len, uint32_t cart, BYTES(row));
+span __real_cartplan_clause(BYTES(rules), BYTES(given));
+
+static volatile uint8_t sink;
+
+static int fault(const char *name)
+{
+    const char *picked = getenv("FUZZ_FAULT");
+    return picked != NULL && strcmp(picked, name) == 0;
+}
+
+verdict __wrap_cartplan_read_floor(BYTES(floor))
+{
+    if (fault("read_before_start") && floor_len > 0) sink = floor[-1];
+    if (fault("read_null") && floor == NULL) sink = *(const volatile uint8_t *)floor;
+    return __real_cartplan_read_floor(floor, floor_len);
+}
+
+verdict __wrap_cartplan_read_plan(BYTES(floor), BYTES(plan))
+{
+    verdict v = __real_cartplan_read_plan(floor, floor_len, plan, plan_len);
+    if (fault("write_lent") && v.number == 0) ((uint8_t *)(uintptr_t)floor)[0] ^= 1;
+    if (fault("unknown_number") && v.number == 4) v.number = 6;
+    if (fault("offset_past_end") && v.about == 2 && v.number == 7) v.first++;
+    return v;
+}
+
+verdict __wrap_cartplan_write_floor(const uint32_t *places, size_t count, BYTES(lanes), BYTES(carts), uint8_t *out, size_t out_len)
+{
+    verdict v = __real_cartplan_write_floor(places, count, lanes, lanes_len, carts, carts_len, out, out_len);
+    if (fault("write_on_refusal") && v.number == 18 && out_len > 0) out[0]++;
+    if (fault("read_places_past_end")) sink = (uint8_t)places[count];
+    return v;
+}
+
+verdict __wrap_cartplan_write_plan(BYTES(floor), uint16_t h, uint16_t l, uint16_t d, BYTES(rows), uint8_t *out, size_t out_len)
+{
+    verdict v = __real_cartplan_write_plan(floor, floor_len, h, l, d, rows, rows_len, out, out_len);
+    if (fault("wrong_byte") && v.number == 0) out[2] = 9;
+    if (fault("short_length") && v.number == 0) v.first--;
+    return v;
+}
+
+verdict __wrap_cartplan_read_rules(BYTES(rules))
+{
+    if (fault("read_past_end")) sink = rules[rules_len];
+    return __real_cartplan_read_rules(rules, rules_len);
+}
+
+verdict __wrap_cartplan_check_moves(BYTES(floor), BYTES(plan))
+{
+    verdict v = __real_cartplan_check_moves(floor, floor_len, plan, plan_len);
+    if (fault("accepts_moves")) return (verdict){0, 0, 0, 0};
+    return v;
+}
+
+verdict __wrap_cartplan_check(BYTES(floor), BYTES(plan), BYTES(rules))
+{
+    verdict v = __real_cartplan_check(floor, floor_len, plan, plan_len, rules, rules_len);
+    if (fault("accepts_all")) return (verdict){0, 0, 0, 0};
+    if (fault("not_monotone") && v.number == 0 && plan[8] == 0) return (verdict){3, 17, 0, 0};
+    if (fault("no_such_clause") && v.number == 0) return (verdict){3, 17, 31, 0};
+    return v;
+}
+
+verdict __wrap_cartplan_move_on(BYTES(floor), BYTES(plan), uint16_t s, uint8_t *out, size_t out_len)
+{
+    verdict v = __real_cartplan_move_on(floor, floor_len, plan, plan_len, s, out, out_len);
+    if (fault("write_past_result") && v.number == 0) out[v.first]++;
+    if (fault("write_before_start") && v.number == 0) out[-1]++;
+    if (fault("room_too_much") && v.number == 0 && v.first == out_len) return (verdict){2, 18, v.first, 0};
+    return v;
+}
+
+verdict __wrap_cartplan_replace_row(BYTES(floor), uint8_t *plan, size_t plan_len, uint32_t cart, BYTES(row))
+{
+    uint8_t last = plan_len > 0 ? plan[plan_len - 1] : 0;
+    verdict v = __real_cartplan_replace_row(floor, floor_len, plan, plan_len, cart, row, row_len);
+    if (fault("replaces_less") && v.number == 0 && cart == 1) plan[plan_len - 1] = last;
+    if (fault("replaces_more") && v.number == 0) plan[10]++;
+    if (fault("replaces_on_refusal") && v.number == 19) plan[plan_len - 1]++;
+    return v;
+}
+
+span __wrap_cartplan_clause(BYTES(rules), BYTES(given))
+{
+    span part = __real_cartplan_clause(rules, rules_len, given, given_len);
+    if (fault("part_too_long") && part.length > 0) part.length++;
+    if (fault("verdict_past_end") && given_len < 16) sink = given[15];
+    return part;
+}

@@ -1,0 +1,353 @@
+/* Fuzzing of the C functions: an input is one call. Each lent buffer ends or begins directly at a page that can't be touched; after
+ * the call every byte is compared with what it should be, and the answer is held against the header's words and the other functions.
+ *
+ * An input's bytes: the operation; low half, which buffers begin at their page (the others end there), and high half, which are
+ * given as null if empty; which buffer is repeated (low two bits) to how many times 1,040 bytes more (the other six). Then, two bytes
+ * each, lowest first, the operation's numbers and the length of each buffer but the last, which has the rest. */
+#define _DEFAULT_SOURCE
+#include <stdio.h>
+#include <stdlib.h>
+#include <string.h>
+#include <sys/mman.h>
+
+#include "cartplan.h"
+
+enum { PAGE = 4096, AREA = 33 * PAGE, SLACK = 64, BUFFERS = 4, HEADER = 3, STRETCH = 1040, MOST = 65535, LONGEST = 65536 };
+
+/* Which buffer holds what. FLOOR, PLAN and RULES are `about` less 1. */
+enum { FLOOR = 0, PLAN = 1, RULES = 2, OUT = 3, PLACES = 0, LANES = 1, CARTS = 2, ROWS = 1, ROW = 2, VERDICT = 0 };
+
+enum { NONE, READ_FLOOR, READ_PLAN, WRITE_FLOOR, WRITE_PLAN, READ_RULES, CHECK_MOVES, CHECK, MOVE_ON, REPLACE_ROW, CLAUSE, OPERATIONS };
+
+typedef struct cartplan_verdict verdict;
+
+struct operation {
+    const char *name;
+    verdict (*call)(void);
+    void (*after)(const struct operation *, verdict); /* further demands on the answer */
+    int numbers, buffers;                             /* how many numbers; bit i for buffer i */
+    int before[2];                                    /* operations whose refusals come first */
+    uint32_t refusals[4];                             /* its own, by `about`: bit n for number n */
+};
+
+static uint8_t *areas[BUFFERS], copies[BUFFERS][AREA + SLACK];
+static struct {
+    uint8_t *at, *given; /* given: null for some empty buffers */
+    size_t len;
+} lent[BUFFERS];
+static unsigned edges, numbers[4];
+static const char *running = "";
+
+static void demand(int holds, const char *what)
+{
+    if (holds) return;
+    fprintf(stderr, "fuzz: %s: not so: %s\n", running, what);
+    abort();
+}
+
+/* Lent buffers. */
+
+static void map_areas(void)
+{
+    if (areas[0] != NULL) return;
+    for (int i = 0; i < BUFFERS; i++) {
+        uint8_t *all = mmap(NULL, AREA + 2 * PAGE, PROT_NONE, MAP_PRIVATE | MAP_ANONYMOUS, -1, 0);
+        demand(all != MAP_FAILED && mprotect(all + PAGE, AREA, PROT_READ | PROT_WRITE) == 0, "memory for the buffers");
+        areas[i] = all + PAGE;
+    }
+}
+
+static int begins(int i)
+{
+    return edges >> i & 1;
+}
+
+/* The buffer with the SLACK bytes at its open end. */
+static uint8_t *whole(int i)
+{
+    return begins(i) ? lent[i].at : lent[i].at - SLACK;
+}
+
+static uint8_t *expected(int i)
+{
+    return begins(i) ? copies[i] : copies[i] + SLACK;
+}
+
+/* Places a buffer of len bytes, the n bytes over and over. */
+static void lend(int i, const uint8_t *bytes, size_t n, size_t len)
+{
+    lent[i].len = len;
+    lent[i].at = begins(i) ? areas[i] : areas[i] + AREA - len;
+    lent[i].given = len == 0 && (edges >> (4 + i) & 1) ? NULL : lent[i].at;
+    memset(whole(i), 0xa5, len + SLACK);
+    for (size_t k = 0; k < len; k += n) memcpy(lent[i].at + k, bytes, len - k < n ? len - k : n);
+    memcpy(copies[i], whole(i), len + SLACK);
+}
+
+static void lend_out(size_t room)
+{
+    static const uint8_t fill[7] = {0x11, 0xd2, 0x93, 0x54, 0xe5, 0xa6, 0x77};
+    lend(OUT, fill, sizeof fill, room);
+}
+
+static void demand_kept(int i)
+{
+    demand(memcmp(copies[i], whole(i), lent[i].len + SLACK) == 0, "a byte changed that should stay");
+}
+
+/* The calls. */
+
+#define LENT(i) lent[i].given, lent[i].len
+
+static verdict read_floor(void)
+{
+    return cartplan_read_floor(LENT(FLOOR));
+}
+
+static verdict read_plan(void)
+{
+    return cartplan_read_plan(LENT(FLOOR), LENT(PLAN));
+}
+
+static verdict write_floor(void)
+{
+    const uint32_t *places = (const uint32_t *)(const void *)lent[PLACES].given;
+    return cartplan_write_floor(places, lent[PLACES].len / 4, LENT(LANES), LENT(CARTS), LENT(OUT));
+}
+
+static verdict write_plan(void)
+{
+    return cartplan_write_plan(LENT(FLOOR), (uint16_t)numbers[0], (uint16_t)numbers[1], (uint16_t)numbers[2], LENT(ROWS), LENT(OUT));
+}
+
+static verdict read_rules(void)
+{
+    return cartplan_read_rules(LENT(RULES));
+}
+
+static verdict check_moves(void)
+{
+    return cartplan_check_moves(LENT(FLOOR), LENT(PLAN));
+}
+
+static verdict check(void)
+{
+    return cartplan_check(LENT(FLOOR), LENT(PLAN), LENT(RULES));
+}
+
+static verdict move_on(void)
+{
+    return cartplan_move_on(LENT(FLOOR), LENT(PLAN), (uint16_t)numbers[0], LENT(OUT));
+}
+
+static uint32_t cart(void)
+{
+    return (uint32_t)numbers[1] << 16 | numbers[0];
+}
+
+static verdict replace_row(void)
+{
+    return cartplan_replace_row(LENT(FLOOR), LENT(PLAN), cart(), LENT(ROW));
+}
+
+/* A part of the sheet that is one whole line, without its end. */
+static void demand_line(struct cartplan_span part)
+{
+    const uint8_t *sheet = lent[RULES].at;
+    demand(part.offset < lent[RULES].len && part.length < lent[RULES].len - part.offset, "the part lies in the sheet");
+    demand(part.offset == 0 || sheet[part.offset - 1] == '\n', "the part begins a line");
+    demand(sheet[part.offset + part.length] == '\n', "the part ends a line");
+    demand(memchr(sheet + part.offset, '\n', part.length) == NULL, "the part is one line");
+}
+
+static verdict clause(void)
+{
+    struct cartplan_span part = cartplan_clause(LENT(RULES), LENT(VERDICT));
+    verdict v = {0, 0, 0, 0};
+
+    if (lent[VERDICT].len == sizeof v) memcpy(&v, lent[VERDICT].at, sizeof v);
+    if (part.offset == 0 && part.length == 0) return (verdict){0, 0, 0, 0};
+    demand(v.about == 3 && (v.number == 16 || v.number == 17), "a clause is named");
+    demand_line(part);
+    return (verdict){0, 0, 0, 0};
+}
+
+/* What is demanded of an answer. */
+
+static int same(verdict a, verdict b)
+{
+    return a.about == b.about && a.number == b.number && a.first == b.first && a.second == b.second;
+}
+
+static void demand_done(verdict v, size_t first)
+{
+    demand(same(v, (verdict){0, 0, (uint32_t)first, 0}), "done, with that length");
+}
+
+static void demand_result(const struct operation *op, size_t n)
+{
+    demand(n > 0 && n <= lent[OUT].len, "the result has its place in out");
+    memcpy(expected(OUT), lent[OUT].at, n);
+    demand_kept(OUT);
+    verdict back = op->call == write_floor ? cartplan_read_floor(lent[OUT].at, n) : cartplan_read_plan(LENT(FLOOR), lent[OUT].at, n);
+    demand_done(back, 0);
+}
+
+/* Once more with just room enough, and with a byte less. */
+static void after_write(const struct operation *op, verdict v)
+{
+    if (v.number == 0) demand_result(op, v.first);
+    if (v.number != 0 && v.number != 18) return;
+    demand_kept(OUT);
+    demand(v.first > 0 && v.first <= LONGEST, "a result is as long as a file can be");
+    lend_out(v.first);
+    demand_done(op->call(), v.first);
+    demand_result(op, v.first);
+    lend_out(v.first - 1);
+    demand(same(op->call(), (verdict){op->call == write_floor ? 1 : 2, 18, v.first, 0}), "a byte short");
+}
+
+/* An accepted plan is accepted with each smaller drift, its head's bytes 8 and 9. */
+static void after_check(const struct operation *op, verdict v)
+{
+    uint8_t *drift = lent[PLAN].at + 8;
+    if (v.number == 16 || v.number == 17) {
+        struct cartplan_span part = cartplan_clause(LENT(RULES), (const uint8_t *)&v, sizeof v);
+        demand(part.length > 0, "a clause that isn't kept is there");
+        demand_line(part);
+    }
+    if (v.number != 0) return;
+    demand(drift[0] <= 16 && drift[1] == 0, "an accepted plan's drift");
+    while (drift[0] > 0) {
+        drift[0]--;
+        demand_done(op->call(), 0);
+    }
+    drift[0] = expected(PLAN)[8];
+}
+
+/* A replaced row's bytes alone may change: behind the head's ten bytes, a row for each cart. */
+static void after_replace(const struct operation *op, verdict v)
+{
+    (void)op;
+    if (v.number != 0) return;
+    size_t h = lent[PLAN].at[4], offset = 10 + (size_t)cart() * (4 + h) + 4;
+    demand(lent[ROW].len == h && offset + h <= lent[PLAN].len, "the row is of the plan");
+    memcpy(expected(PLAN) + offset, lent[ROW].at, h);
+    demand_done(check_moves(), 0);
+}
+
+#define N(n) (1u << (n))
+#define READING (N(1) | N(2) | N(3) | N(4) | N(5) | N(7))
+#define SHEET (N(7) | N(12) | N(13) | N(14) | N(15))
+#define B(i) (1 << (i))
+
+static const struct operation operations[OPERATIONS] = {
+    [READ_FLOOR] = {"read_floor", read_floor, NULL, 0, B(FLOOR), {0}, {0, READING | N(6)}},
+    [READ_PLAN] = {"read_plan", read_plan, NULL, 0, B(FLOOR) | B(PLAN), {READ_FLOOR}, {0, 0, READING | N(8) | N(9)}},
+    [WRITE_FLOOR] = {"write_floor", write_floor, after_write, 1, B(PLACES) | B(LANES) | B(CARTS) | B(OUT), {0},
+                     {0, N(1) | N(4) | N(5) | N(6) | N(7) | N(18)}},
+    [WRITE_PLAN] = {"write_plan", write_plan, after_write, 4, B(FLOOR) | B(ROWS) | B(OUT), {READ_FLOOR},
+                    {0, 0, N(1) | N(4) | N(5) | N(7) | N(8) | N(9) | N(18)}},
+    [READ_RULES] = {"read_rules", read_rules, NULL, 0, B(RULES), {0}, {0, 0, 0, SHEET}},
+    [CHECK_MOVES] = {"check_moves", check_moves, NULL, 0, B(FLOOR) | B(PLAN), {READ_PLAN}, {0, 0, N(10) | N(11)}},
+    [CHECK] = {"check", check, after_check, 0, B(FLOOR) | B(PLAN) | B(RULES), {CHECK_MOVES, READ_RULES}, {0, 0, 0, N(16) | N(17)}},
+    [MOVE_ON] = {"move_on", move_on, after_write, 2, B(FLOOR) | B(PLAN) | B(OUT), {READ_PLAN}, {0, 0, N(18)}},
+    [REPLACE_ROW] = {"replace_row", replace_row, after_replace, 2, B(FLOOR) | B(PLAN) | B(ROW), {CHECK_MOVES},
+                     {0, 0, N(4) | N(9) | N(10) | N(11) | N(19)}},
+    [CLAUSE] = {"clause", clause, NULL, 0, B(VERDICT) | B(RULES), {0}, {0}},
+};
+
+/* The refusal's first further number: a cart, a clause, a length or an offset in the file. */
+static int first_in_range(const struct operation *op, verdict v)
+{
+    if (v.number == 10 || v.number == 11 || v.number == 16 || v.number == 17) return v.first < 32;
+    if (v.number == 18) return v.first > lent[OUT].len && v.first <= LONGEST;
+    if (v.number == 19) return v.first == cart() && v.first > 0;
+    return v.first <= (op->buffers & B(OUT) ? LONGEST : lent[v.about - 1].len);
+}
+
+static void demand_refusal(const struct operation *op, verdict v)
+{
+    demand(v.about >= 1 && v.about <= 3 && v.number < 32 && (op->refusals[v.about] >> v.number & 1), "a known refusal");
+    demand(first_in_range(op, v), "the first number in range");
+    int two = v.number == 11 || v.number == 17 || (v.number == 9 && op->call == replace_row);
+    demand(two ? v.second < 64 : v.second == 0, "the second number in range");
+}
+
+/* A count for each operation, refusal and first number, that the fuzzer may see where an input gets to. */
+__attribute__((used, section("__libfuzzer_extra_counters"))) static uint8_t seen[OPERATIONS][4][20][64];
+
+static void note(const struct operation *op, verdict v)
+{
+    unsigned place = v.first;
+    if (place >= 48)
+        for (place = 48; place < 63 && v.first >> (place - 42); place++) continue;
+    if (v.about < 4 && v.number < 20) seen[op - operations][v.about][v.number][place] = 1;
+}
+
+/* The call's answer, held against that of the operations whose refusals come first. */
+static verdict judged(const struct operation *op)
+{
+    verdict v, earlier = {0, 0, 0, 0};
+    for (int i = 0; i < 2 && op->before[i] != NONE && earlier.number == 0; i++) earlier = judged(&operations[op->before[i]]);
+    v = op->call();
+    note(op, v);
+    if (earlier.number != 0)
+        demand(same(v, earlier), "an earlier refusal comes first");
+    else if (v.number != 0)
+        demand_refusal(op, v);
+    else
+        demand(v.about == 0 && v.second == 0 && (v.first == 0 || op->after == after_write), "done is all zeros but a length");
+    if (op->after != NULL) op->after(op, v);
+    return v;
+}
+
+/* Inputs. */
+
+static unsigned take(const uint8_t **data, size_t *size)
+{
+    unsigned n = *size < 2 ? 0 : (*data)[0] | (unsigned)(*data)[1] << 8;
+    if (*size < 2) return 0;
+    *data += 2;
+    *size -= 2;
+    return n;
+}
+
+/* The next n bytes, or what is left of them, as buffer i: a multiple of grain. */
+static void lend_next(int i, size_t n, size_t grain, unsigned repeat, const uint8_t **data, size_t *size)
+{
+    if (n > *size) n = *size;
+    n -= n % grain;
+    size_t len = n == 0 || (int)(repeat & 3) != i ? n : n + (repeat >> 2) * STRETCH;
+    lend(i, *data, n, len);
+    *data += n;
+    *size -= n;
+}
+
+static void lend_all(const struct operation *op, unsigned repeat, const uint8_t *data, size_t size)
+{
+    size_t lengths[BUFFERS] = {0};
+    int last = op->buffers & B(2) ? 2 : op->buffers & B(1) ? 1 : 0;
+
+    for (int i = 0; i < op->numbers; i++) numbers[i] = take(&data, &size);
+    for (int i = 0; i < last; i++)
+        if (op->buffers & B(i)) lengths[i] = take(&data, &size);
+    lengths[last] = MOST;
+    for (int i = 0; i <= last; i++)
+        if (op->buffers & B(i)) lend_next(i, lengths[i], op->call == write_floor && i == PLACES ? 4 : 1, repeat, &data, &size);
+    if (op->buffers & B(OUT)) lend_out(numbers[op->numbers - 1]);
+}
+
+int LLVMFuzzerTestOneInput(const uint8_t *data, size_t size)
+{
+    if (size < HEADER) return 0;
+    const struct operation *op = &operations[1 + data[0] % (OPERATIONS - 1)];
+    running = op->name;
+    edges = data[1];
+    map_areas();
+    lend_all(op, data[2], data + HEADER, size - HEADER);
+    judged(op);
+    for (int i = 0; i < BUFFERS; i++)
+        if (op->buffers & B(i)) demand_kept(i);
+    return 0;
+}

@@ -1,0 +1,129 @@
+#!/usr/bin/env python3
+"""Writes the seed inputs of the fuzzer, from the examples, a small input of the benchmarks and the plans below: one for each operation.
+Run from the repository's root: python3 tests/fuzz/seeds.py [FOLDER]. The layout of an input is in harness.c. The inputs of the corpus
+with `found` in their name are the fuzzer's, kept for a refusal or for instructions that no seed reaches."""
+import pathlib
+import sys
+
+OPERATIONS = [
+    "read_floor", "read_plan", "write_floor", "write_plan", "read_rules", "check_moves", "check", "move_on", "replace_row", "clause",
+]
+
+
+def little(*numbers):
+    return b"".join(n.to_bytes(2, "little") for n in numbers)
+
+
+def seed(name, numbers, *buffers, edges=0, repeat=0):
+    lengths = [len(buffer) for buffer in buffers[:-1]]
+    return bytes([OPERATIONS.index(name), edges, repeat]) + little(*numbers, *lengths) + b"".join(buffers)
+
+
+def record(kind, body):
+    return little(len(body), kind) + bytes(body)
+
+
+def bodies(file, kind):
+    """The bodies of a file's records of one kind."""
+    out, at = [], 0
+    while at < len(file):
+        length, found = (int.from_bytes(file[at + i : at + i + 2], "little") for i in (0, 2))
+        if found == kind:
+            out.append(file[at + 4 : at + 4 + length])
+        at += 4 + length
+    return out
+
+
+PLACE, LANE, CART = record(1, [1, 0, 0, 0]), record(2, [0, 0, 255]), record(3, [0, 0])
+
+
+def full():
+    """61 steps with a run-in of 20, an odd number of carts and lanes, and every operator inside and outside counts."""
+    lanes = [(0, 0, 255), (0, 1, 255), (1, 0, 255), (1, 1, 255), (0, 1, 1)]
+    floor = PLACE + record(1, [2, 0, 0, 0]) + b"".join(record(2, lane) for lane in lanes) + CART * 3
+    rows = [[step * cart // 7 % 2 for step in range(61)] for cart in (2, 3, 5)]
+    plan = record(4, little(61, 20, 0)) + b"".join(record(5, row) for row in rows)
+    inner = "[X m0 | !X m1 & (m0 U m1 | m0 R m1) | F m0 & G m1 & true,0]"
+    outer = ["{} U {}", "!(X {} R !{})", "G {} & F {}", "X {} | !{}", "!(!{} U !{})", "!F !{} & !G !{}", "true U {} | {}"]
+    return floor, plan, "".join(clause.format(inner, "[m0 | m1,100%]") + "\n" for clause in outer).encode()
+
+
+def wide():
+    """32 carts, the most."""
+    rows = [record(5, [0, 0]) for _ in range(32)]
+    return PLACE + LANE + CART * 32, record(4, little(2, 1, 1)) + b"".join(rows), b"G [m0,32] & F [X m0,100%]\n"
+
+
+def one():
+    """A place, a lane, a cart and a step."""
+    return PLACE + LANE + CART, record(4, little(1, 0, 16)) + record(5, [0]), b"G [m0,1] R F [m0,1%]\n"
+
+
+def folder(path):
+    return [(pathlib.Path(path) / file).read_bytes() for file in ("floor", "plan", "rules")]
+
+
+def seeds_of(floor, plan, rules):
+    places, lanes, carts = (b"".join(bodies(floor, kind)) for kind in (1, 2, 3))
+    head, rows = bodies(plan, 4)[0], bodies(plan, 5)
+    h, l, d = (int.from_bytes(head[i : i + 2], "little") for i in (0, 2, 4))
+    return {
+        "read_floor": seed("read_floor", [], floor),
+        "read_plan": seed("read_plan", [], floor, plan),
+        "write_floor": seed("write_floor", [len(floor)], places, lanes, carts),
+        "write_plan": seed("write_plan", [h, l, d, len(plan) + 9], floor, b"".join(rows)),
+        "read_rules": seed("read_rules", [], rules),
+        "check_moves": seed("check_moves", [], floor, plan),
+        "check": seed("check", [], floor, plan, rules),
+        "move_on": seed("move_on", [h + 1, len(plan)], floor, plan),
+        "replace_row": seed("replace_row", [len(rows) > 1, 0], floor, plan, rows[0]),
+        "clause": seed("clause", [], little(3, 0, 17, 0, 1, 0, 0, 0), rules),
+    }
+
+
+def special_seeds():
+    """A clause that fails at a step. Moves on by less than the run-in, by just it and by a whole lap more. No lanes. Sheets past level
+    32 and 128 nodes. Buffers past the limits by repetition: a floor of 65,550 bytes, a plan of 65,542, a sheet of 16,649, 116 clauses,
+    261 places, 521 carts, 33 rows and a half. A cart too many, a verdict of 14 bytes. Empty buffers as null pointers."""
+    line, (floor, plan, _), two_carts = b"G [m0,1]\n", full(), folder("examples/two-carts")
+    return {
+        "fails_at_2": seed("check", [], *two_carts[:2], b"true\n" + line),
+        "move_on-3": seed("move_on", [3, 0], floor, plan),
+        "move_on-20": seed("move_on", [20, 170], floor, plan),
+        "move_on-61": seed("move_on", [61, 999], floor, plan),
+        "no_lanes": seed("check_moves", [], PLACE + CART * 2, one()[1] + record(5, [0])),
+        "deep_sheet": seed("read_rules", [], b"[m0,1] & !" + b"(" * 30 + b"[X (m1),1] " + b")" * 30 + b"\n"),
+        "many_nodes": seed("read_rules", [], b"true |" * 64 + b"true\n"),
+        "long_floor": seed("read_floor", [], PLACE * 3 + CART, repeat=63 << 2),
+        "long_plan": seed("read_plan", [], PLACE + CART, record(4, little(4, 0, 0)) * 2 + b"..", repeat=1 | 63 << 2),
+        "long_sheet": seed("read_rules", [], line, repeat=2 | 16 << 2),
+        "many_clauses": seed("read_rules", [], line, repeat=2 | 1 << 2),
+        "many_places": seed("write_floor", [4000], bytes([1, 0, 0, 0]), b"", bytes([0, 0]), repeat=1 << 2),
+        "many_carts": seed("write_floor", [4000], bytes([1, 0, 0, 0]), bytes([0, 0, 255]), bytes([0, 0]), repeat=2 | 1 << 2),
+        "many_rows": seed("write_plan", [64, 0, 0, 4000], PLACE + CART, bytes(64), repeat=1 | 2 << 2),
+        "no_such_cart": seed("replace_row", [3, 0], floor, plan, bytes(61)),
+        "short_verdict": seed("clause", [], little(3, 0, 17, 0, 0, 0, 0), line),
+        "nothing": seed("check", [], b"", b"", b"", edges=0xF0),
+    }
+
+
+def main():
+    out = pathlib.Path(sys.argv[1] if len(sys.argv) > 1 else "tests/fuzz/corpus")
+    seeds = special_seeds()
+    edits = ["check", "move_on", "replace_row", "write_floor", "write_plan", "clause"]
+    for name, files, operations in [
+        ("two-carts", folder("examples/two-carts"), OPERATIONS),
+        ("workshop", folder("examples/workshop"), edits),
+        ("full", full(), edits),
+        ("wide", wide(), ["check"]),
+        ("one", one(), ["check"]),
+        ("b", folder("bench/inputs/b"), ["check"]),
+    ]:
+        made = seeds_of(*files)
+        seeds |= {f"{operation}-{name}": made[operation] for operation in operations}
+    out.mkdir(parents=True, exist_ok=True)
+    for name, data in seeds.items():
+        (out / name).write_bytes(data)
+
+
+main()
