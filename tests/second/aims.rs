@@ -36,7 +36,7 @@ pub fn accepted(random: &mut Random) -> Triple {
 }
 
 fn size(random: &mut Random) -> Size {
-    [Size::Small, Size::Middle, Size::Large, Size::Limit][random.weighted(&[420, 380, 170, 30])]
+    [Size::Small, Size::Middle, Size::Large, Size::Limit][random.weighted(&[400, 340, 200, 60])]
 }
 
 fn with_rules(world: &World, rules: Vec<u8>) -> Triple {

@@ -129,7 +129,8 @@ impl Records {
         let class = random.pick(&[8, 9, 255]);
         if let Some((_, body)) = self.of_kind(random, kind) {
             let class_field = kind == 3 && field == 0;
-            body[field] = if class_field { class } else { absent };
+            let value = if class_field { class } else { absent };
+            body.iter_mut().skip(field).take(1).for_each(|b| *b = value);
         }
     }
 
@@ -161,8 +162,7 @@ impl Records {
     fn off_the_floor(&mut self, random: &mut Random) {
         let absent = (self.places() + random.pick(&[0, 0, 1, 30])).min(255) as u8;
         if let Some((_, row)) = self.of_kind(random, 5) {
-            let step = random.below(row.len());
-            row[step] = absent;
+            set_any(random, row, absent);
         }
     }
 
@@ -193,11 +193,16 @@ impl Records {
             }
             _ => {
                 if let Some((_, row)) = self.of_kind(random, 5) {
-                    let step = random.below(row.len());
-                    row[step] = place;
+                    set_any(random, row, place);
                 }
             }
         }
+    }
+}
+
+fn set_any(random: &mut Random, body: &mut [u8], value: u8) {
+    if !body.is_empty() {
+        body[random.below(body.len())] = value;
     }
 }
 
