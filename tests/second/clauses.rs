@@ -39,10 +39,11 @@ impl Clauses<'_> {
     fn outer(&mut self, clause: &mut Clause, nodes: usize) -> usize {
         let count = match nodes {
             1 => return clause.push(Op::True, 0, 0),
-            2 => 90,
-            3..=6 => 60,
-            7..=12 => 20,
-            _ => 3,
+            2 => 95,
+            3..=5 => 50,
+            6..=8 => 25,
+            9..=12 => 10,
+            _ => 2,
         };
         if self.random.chance(count) {
             return self.count(clause, nodes - 1);

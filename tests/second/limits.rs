@@ -26,11 +26,14 @@ fn few_lines(clauses: &mut Clauses) -> Vec<u8> {
 }
 
 fn lines(clauses: &mut Clauses) -> Vec<u8> {
-    let count = clauses.random.range(31, 33);
+    let count = clauses.random.range(30, 33);
     let words: [&[u8]; 4] = [b"true\n", b" [true,0] \n", b"!!true\n", b"[m0,0]|true\n"];
     let mut sheet: Vec<u8> = (0..count)
         .flat_map(|_| clauses.random.pick(&words).to_vec())
         .collect();
+    if count < 33 {
+        sheet.extend(sheets::line(clauses, Wish::Any));
+    }
     let ends: [&[u8]; 6] = [b"", b"", b"", b" ", b"]", b"\n"];
     sheet.extend(clauses.random.pick(&ends));
     sheet
