@@ -15,7 +15,8 @@ const AIMS: [usize; 19] = [
 pub fn triple(random: &mut Random) -> Triple {
     let aim = random.weighted(&AIMS) as u32;
     let mut triple = match aim {
-        0 | 17 => judged(random, aim),
+        0 => with_clauses(random, Wish::Kept),
+        17 => with_clauses(random, Wish::Broken),
         1..=11 => with_fault(random, aim),
         12..=16 => with_sheet(random, aim),
         _ => damaged(random),
@@ -30,9 +31,15 @@ pub fn triple(random: &mut Random) -> Triple {
     triple
 }
 
-/// A triple whose clauses are judged and all true.
+/// A triple whose clauses are all true.
 pub fn accepted(random: &mut Random) -> Triple {
-    judged(random, 0)
+    with_clauses(random, Wish::Kept)
+}
+
+/// A triple whose clauses may be true or not.
+pub fn judged(random: &mut Random) -> Triple {
+    let wish = random.pick(&[Wish::Kept, Wish::Broken, Wish::Any]);
+    with_clauses(random, wish)
 }
 
 fn size(random: &mut Random) -> Size {
@@ -58,11 +65,10 @@ fn clauses<'a>(
     }
 }
 
-fn judged(random: &mut Random, aim: u32) -> Triple {
+fn with_clauses(random: &mut Random, wish: Wish) -> Triple {
     let size = size(random);
     let world = World::random(random, size);
     let collection = world.collection();
-    let wish = if aim == 0 { Wish::Kept } else { Wish::Broken };
     let mut clauses = clauses(random, &world, &collection);
     let count = sheets::count(&mut clauses);
     let rules = sheets::sheet(&mut clauses, count, wish);

@@ -96,7 +96,8 @@ impl Clauses<'_> {
         clause.push(op, left, right)
     }
 
-    fn count(&mut self, clause: &mut Clause, nodes: usize) -> usize {
+    /// A count over an inner formula of so many nodes.
+    pub fn count(&mut self, clause: &mut Clause, nodes: usize) -> usize {
         let inner = self.inner(clause, nodes);
         let threshold = self.threshold(clause, inner);
         clause.push(Op::Count(threshold), inner, 0)

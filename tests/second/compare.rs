@@ -1,10 +1,12 @@
 //! Both checkers on random triples: every answer has to be the same.
 
 use std::fs;
+use std::ops::Range;
 use std::path::PathBuf;
 use std::time::Instant;
 
 use crate::aims;
+use crate::cases;
 use crate::check;
 use crate::damage::Triple;
 use crate::library;
@@ -21,25 +23,41 @@ pub struct Tally {
     smaller: usize,
 }
 
-/// Compares so many triples; false once a difference was told.
-pub fn run(cases: u64, seed: u64) -> bool {
-    let begun = Instant::now();
+/// Document 01's cases, then so many random triples; false once a difference was told.
+pub fn gate(cases: u64, seed: u64) -> bool {
+    match cases::run() {
+        Ok(count) => println!("{count} cases of document 01"),
+        Err(text) => {
+            println!("second: {text}");
+            return false;
+        }
+    }
     let mut tally = Tally::default();
-    for case in 0..cases {
+    run(0..cases, seed, &mut tally) && tally.told(cases)
+}
+
+/// The same triples and those after them, with a line for each million.
+pub fn soak(cases: u64, seed: u64) -> bool {
+    let mut tally = Tally::default();
+    let begun = Instant::now();
+    for from in (0..cases).step_by(1_000_000) {
+        let end = cases.min(from + 1_000_000);
+        if !run(from..end, seed, &mut tally) {
+            return false;
+        }
+        println!("{end} cases, {:.0} seconds", begun.elapsed().as_secs_f64());
+    }
+    tally.told(cases)
+}
+
+fn run(cases: Range<u64>, seed: u64, tally: &mut Tally) -> bool {
+    for case in cases {
         let triple = aims::triple(&mut Random::new(seed, case));
-        if let Err(text) = compare(&triple, &mut tally) {
+        if let Err(text) = compare(&triple, tally) {
             tell(&triple, seed, case, &text);
             return false;
         }
     }
-    tally.print();
-    println!("{:.0} seconds", begun.elapsed().as_secs_f64());
-    let met = tally.numbers.iter().all(|count| *count >= LEAST);
-    if cases >= 300_000 && !met {
-        println!("second: a verdict was met less than {LEAST} times");
-        return false;
-    }
-    println!("{cases} cases, 0 differences");
     true
 }
 
@@ -83,16 +101,21 @@ pub fn smaller_drifts(triple: &Triple) -> Result<usize, String> {
 }
 
 impl Tally {
-    fn print(&self) {
+    /// Prints the counts; false if a long run met a verdict too rarely.
+    fn told(&self, cases: u64) -> bool {
         for (number, count) in self.numbers.iter().enumerate() {
-            let name = if number == 0 {
-                "accepted".into()
-            } else {
-                format!("refused {number}")
-            };
-            println!("{name:>10}: {count}");
+            match number {
+                0 => println!("  accepted: {count}"),
+                _ => println!("refused {number:2}: {count}"),
+            }
         }
         println!("smaller drifts of accepted plans: {}", self.smaller);
+        if cases >= 300_000 && self.numbers.iter().any(|count| *count < LEAST) {
+            println!("second: a verdict was met less than {LEAST} times");
+            return false;
+        }
+        println!("{cases} cases, 0 differences");
+        true
     }
 }
 
