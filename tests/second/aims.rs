@@ -1,9 +1,11 @@
 //! Random triples, each aimed at one verdict.
 
 use crate::clauses::Clauses;
-use crate::damage::{self, Records, Triple};
+use crate::damage::{self, Triple};
+use crate::faults::Records;
 use crate::limits;
 use crate::random::Random;
+use crate::sheet;
 use crate::sheets::{self, Wish};
 use crate::world::{Size, World};
 
@@ -21,13 +23,7 @@ pub fn triple(random: &mut Random) -> Triple {
         12..=16 => with_sheet(random, aim),
         _ => damaged(random),
     };
-    damage::without_later_kinds(&mut triple.floor);
-    damage::without_later_kinds(&mut triple.plan);
-    triple
-        .rules
-        .iter_mut()
-        .filter(|byte| **byte == b'@')
-        .for_each(|byte| *byte = b'#');
+    damage::without_later_forms(&mut triple);
     triple
 }
 
@@ -51,26 +47,19 @@ fn with_rules(world: &World, rules: Vec<u8>) -> Triple {
     Triple { floor, plan, rules }
 }
 
-fn clauses<'a>(
-    random: &'a mut Random,
-    world: &'a World,
-    collection: &'a crate::logic::Collection,
-) -> Clauses<'a> {
-    let next_outside = world.plan.d == 0 && random.chance(60);
-    Clauses {
-        random,
-        collection,
-        marks: &world.marks,
-        next_outside,
-    }
-}
-
 fn with_clauses(random: &mut Random, wish: Wish) -> Triple {
-    let size = size(random);
+    // Now and then everything is as large as it may be.
+    let full = random.below(4000) == 0;
+    let size = if full { Size::Limit } else { size(random) };
     let world = World::random(random, size);
     let collection = world.collection();
-    let mut clauses = clauses(random, &world, &collection);
-    let count = sheets::count(&mut clauses);
+    let mut clauses = Clauses::new(random, &world, &collection);
+    clauses.next_outside = world.plan.d == 0 && clauses.random.chance(60);
+    let mut count = sheets::count(&mut clauses);
+    if full {
+        clauses.least = 128;
+        count = sheet::MOST_CLAUSES;
+    }
     let rules = sheets::sheet(&mut clauses, count, wish);
     with_rules(&world, rules)
 }
@@ -82,7 +71,11 @@ fn with_fault(random: &mut Random, number: u32) -> Triple {
     if number > 2 {
         records.fault(random, number);
     }
-    if random.chance(10) && number > 2 && records.floor.len() > 3 && records.plan.len() > 1 {
+    // A second fault now and then, to see which one is told.
+    if number >= 10 && random.chance(40) {
+        let second = random.pick(&[10, 11, 11]);
+        records.fault(random, second);
+    } else if (3..7).contains(&number) && random.chance(15) {
         let second = random.pick(&[4, 6, 9]);
         records.fault(random, second);
     }
@@ -97,9 +90,9 @@ fn with_fault(random: &mut Random, number: u32) -> Triple {
         2 => damage::cut(random, file),
         _ => {}
     }
-    let sheets: [&[u8]; 5] = [b"true\n", b"[m0,1]|true\n", b"!true\n", b"", b"x"];
-    let rules =
-        sheets[random.weighted(&[50, 20, 15, if number == 7 { 60 } else { 5 }, 10])].to_vec();
+    let sheets: [&[u8]; 5] = [b"true\n", b"[m0,1]|true\n", b"!true\n", b"x", b""];
+    let empty = if number == 7 { 60 } else { 5 };
+    let rules = sheets[random.weighted(&[50, 20, 15, 10, empty])].to_vec();
     Triple { floor, plan, rules }
 }
 
@@ -107,32 +100,25 @@ fn with_sheet(random: &mut Random, number: u32) -> Triple {
     let size = [Size::Small, Size::Middle, Size::Large][random.weighted(&[80, 18, 2])];
     let world = World::random(random, size);
     let collection = world.collection();
-    let mut clauses = clauses(random, &world, &collection);
-    if number == 16 {
-        clauses.next_outside = true;
-    }
+    let mut clauses = Clauses::new(random, &world, &collection);
+    clauses.next_outside = number == 16 || world.plan.d == 0;
     let wish = if clauses.random.chance(80) {
         Wish::Any
     } else {
         Wish::Kept
     };
-    let rules = match number {
+    let count = clauses.random.range(1, 4);
+    let mut rules = match number {
         14 => limits::about_limits(&mut clauses),
-        _ => {
-            let count = clauses.random.range(1, 4);
-            sheets::sheet(&mut clauses, count, wish)
-        }
+        _ => sheets::sheet(&mut clauses, count, wish),
     };
-    let rules = match number {
-        12 => limits::padded(random, &rules, &[16_383, 16_384, 16_385, 16_386, 20_000]),
-        13 => {
-            let mut rules = rules;
-            damage::damage(random, &mut rules, true);
-            rules
-        }
-        15 => limits::other_number(random, &rules),
-        _ => rules,
-    };
+    match number {
+        12 => limits::pad(random, &mut rules),
+        13 => damage::damage(random, &mut rules, true),
+        14 if random.chance(15) => damage::damage(random, &mut rules, true),
+        15 => rules = limits::other_number(random, &rules),
+        _ => {}
+    }
     with_rules(&world, rules)
 }
 
@@ -140,7 +126,7 @@ fn with_sheet(random: &mut Random, number: u32) -> Triple {
 fn damaged(random: &mut Random) -> Triple {
     let world = World::random(random, Size::Small);
     let collection = world.collection();
-    let mut clauses = clauses(random, &world, &collection);
+    let mut clauses = Clauses::new(random, &world, &collection);
     let rules = sheets::sheet(&mut clauses, 2, Wish::Kept);
     let mut triple = with_rules(&world, rules);
     let which = random.range(1, 7);

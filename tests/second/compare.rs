@@ -11,17 +11,8 @@ use crate::check;
 use crate::damage::Triple;
 use crate::library;
 use crate::random::Random;
+use crate::tally::Tally;
 use crate::verdict::Verdict;
-
-/// The least number of times that every verdict has to be met in a whole run of the gate.
-const LEAST: usize = 500;
-
-/// What came out of a run, for each number 0 (accepted) to 17.
-#[derive(Default)]
-pub struct Tally {
-    numbers: [usize; 18],
-    smaller: usize,
-}
 
 /// Document 01's cases, then so many random triples; false once a difference was told.
 pub fn gate(cases: u64, seed: u64) -> bool {
@@ -52,6 +43,7 @@ pub fn soak(cases: u64, seed: u64) -> bool {
 
 fn run(cases: Range<u64>, seed: u64, tally: &mut Tally) -> bool {
     for case in cases {
+        let _within = Within { seed, case };
         let triple = aims::triple(&mut Random::new(seed, case));
         if let Err(text) = compare(&triple, tally) {
             tell(&triple, seed, case, &text);
@@ -66,6 +58,7 @@ fn compare(triple: &Triple, tally: &mut Tally) -> Result<(), String> {
     let verdict = both(triple)?;
     tally.numbers[verdict.number as usize] += 1;
     if verdict == Verdict::ACCEPTED {
+        tally.note_limits(triple);
         tally.smaller += smaller_drifts(triple)?;
     }
     Ok(())
@@ -100,27 +93,26 @@ pub fn smaller_drifts(triple: &Triple) -> Result<usize, String> {
     Ok(d as usize)
 }
 
-impl Tally {
-    /// Prints the counts; false if a long run met a verdict too rarely.
-    fn told(&self, cases: u64) -> bool {
-        for (number, count) in self.numbers.iter().enumerate() {
-            match number {
-                0 => println!("  accepted: {count}"),
-                _ => println!("refused {number:2}: {count}"),
-            }
+/// Names the case if the program breaks off within it.
+pub struct Within {
+    pub seed: u64,
+    pub case: u64,
+}
+
+impl Drop for Within {
+    fn drop(&mut self) {
+        if std::thread::panicking() {
+            println!(
+                "second: broken off at seed {}, case {}",
+                self.seed, self.case
+            );
         }
-        println!("smaller drifts of accepted plans: {}", self.smaller);
-        if cases >= 300_000 && self.numbers.iter().any(|count| *count < LEAST) {
-            println!("second: a verdict was met less than {LEAST} times");
-            return false;
-        }
-        println!("{cases} cases, 0 differences");
-        true
     }
 }
 
 /// Tells a difference and saves its three files.
 pub fn tell(triple: &Triple, seed: u64, case: u64, text: &str) {
+    let text: String = text.chars().take(2000).collect();
     println!("second: a difference at seed {seed}, case {case}: {text}");
     match save(triple, seed, case) {
         Ok(folder) => println!(

@@ -74,12 +74,11 @@ fn levels(random: &mut Random) -> Vec<u8> {
     text.into_bytes()
 }
 
-/// A sheet padded with spaces to about its greatest length.
-pub fn padded(random: &mut Random, sheet: &[u8], lengths: &[usize]) -> Vec<u8> {
-    let length = random.pick(lengths).max(sheet.len());
-    let mut padded = vec![b' '; length - sheet.len()];
-    padded.extend(sheet);
-    padded
+/// Pads a sheet with spaces to about its greatest length.
+pub fn pad(random: &mut Random, sheet: &mut Vec<u8>) {
+    let length = random.pick(&[16_383, 16_384, 16_385, 16_386, 20_000]);
+    let spaces = length - sheet.len().min(length);
+    sheet.splice(0..0, vec![b' '; spaces]);
 }
 
 /// A sheet with one of its numbers replaced by another, at times ending there.

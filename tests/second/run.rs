@@ -101,18 +101,23 @@ impl Run {
         self.moments.pop();
     }
 
+    /// The greatest distance of two counters.
+    pub fn spread(&self) -> usize {
+        self.moments.iter().map(|s| spread(s)).max().unwrap()
+    }
+
     /// Document 01's demands on a run, for the stretch.
     fn keeps(&self, d: usize) -> bool {
-        let within = |standing: &Vec<usize>| {
-            let (low, high) = (standing.iter().min(), standing.iter().max());
-            high.unwrap() - low.unwrap() <= d
-        };
         let one_move = |pair: &[Vec<usize>]| {
             let mut both = pair[0].iter().zip(&pair[1]);
             both.all(|(now, then)| *then == *now || *then == now + 1)
         };
-        self.moments.iter().all(within) && self.moments.windows(2).all(one_move)
+        self.spread() <= d && self.moments.windows(2).all(one_move)
     }
+}
+
+pub fn spread(standing: &[usize]) -> usize {
+    standing.iter().max().unwrap() - standing.iter().min().unwrap()
 }
 
 /// How readily each cart moves for a while: all alike, all, none, all but a laggard, one alone, some.

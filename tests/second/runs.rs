@@ -1,70 +1,75 @@
-//! Accepted plans on their runs: random ones of any plan, all of them for small plans.
+//! Verdicts beside runs: accepted plans on random runs, plans at drift 0 in step, small plans on all runs.
 
 use std::time::Instant;
 
 use crate::aims;
-use crate::clauses::Clauses;
-use crate::compare::{both, smaller_drifts, tell};
-use crate::damage::{Records, Triple};
+use crate::compare::{both, tell, Within};
+use crate::damage::Triple;
 use crate::floor::Floor;
 use crate::formula::{Clause, Op};
 use crate::plan::Plan;
-use crate::print::Printer;
 use crate::random::Random;
 use crate::run::Run;
-use crate::search::{some_run_breaks, temporal_nodes, Standings};
 use crate::sheet;
+use crate::small;
 use crate::truth::Meaning;
 use crate::verdict::{Refusal, Verdict, RULES};
-use crate::world::World;
 
-/// A triple whose floor, plan and sheet can be read.
-struct Read {
-    floor: Floor,
-    plan: Plan,
-    clauses: Vec<Clause>,
+/// A triple that can be read.
+pub struct Read {
+    pub floor: Floor,
+    pub plan: Plan,
+    pub clauses: Vec<Clause>,
 }
 
-fn read(triple: &Triple) -> Read {
-    let floor = Floor::read(&triple.floor).expect("a floor");
-    let plan = Plan::read(&triple.plan, &floor).expect("a plan");
-    let clauses = sheet::read(&triple.rules).expect("a sheet");
-    Read {
-        floor,
-        plan,
-        clauses,
+impl Read {
+    pub fn of(triple: &Triple) -> Read {
+        let floor = Floor::read(&triple.floor).expect("a floor");
+        Read {
+            plan: Plan::read(&triple.plan, &floor).expect("a plan"),
+            clauses: sheet::read(&triple.rules).expect("a sheet"),
+            floor,
+        }
+    }
+
+    pub fn meaning<'a>(&'a self, clause: &'a Clause) -> Meaning<'a> {
+        Meaning::new(clause, &self.plan, &self.floor)
     }
 }
 
 /// What was looked at.
 #[derive(Default)]
-struct Tally {
-    plans: usize,
-    runs: usize,
-    clauses: usize,
-    in_step: usize,
-    standings: usize,
-    searched: usize,
-    accepted: usize,
-    refused: usize,
-    refused_broken: usize,
-    globally: usize,
-    globally_refused: usize,
-    smaller: usize,
+pub struct Tally {
+    pub plans: usize,
+    pub runs: usize,
+    pub full_spread: usize,
+    pub clauses: usize,
+    pub in_step: usize,
+    pub searched: usize,
+    pub standings: usize,
+    pub accepted: usize,
+    pub refused: usize,
+    pub refused_broken: usize,
+    pub globally: usize,
+    pub globally_refused: usize,
+    pub smaller: usize,
 }
 
-type Outcome = Result<(), String>;
+pub type Outcome = Result<(), String>;
+
+type Part = fn(&mut Random, &mut Tally) -> (Triple, Outcome);
+
+const PARTS: [Part; 4] = [on_runs, in_step, small::searched, small::globally_one_count];
 
 /// All parts for so many cases; false once a difference was told.
 pub fn run(cases: u64, seed: u64) -> bool {
     let begun = Instant::now();
     let mut tally = Tally::default();
-    let parts: [fn(&mut Random, &mut Tally) -> (Triple, Outcome); 4] =
-        [accepted_runs, in_step, searched, globally_one_count];
     for case in 0..cases {
-        for (part, check) in parts.iter().enumerate() {
-            let mut random = Random::new(seed, 4 * case + part as u64);
-            let (triple, outcome) = check(&mut random, &mut tally);
+        let _within = Within { seed, case };
+        for (number, part) in PARTS.iter().enumerate() {
+            let mut random = Random::new(seed, 4 * case + number as u64);
+            let (triple, outcome) = part(&mut random, &mut tally);
             if let Err(text) = outcome {
                 tell(&triple, seed, case, &text);
                 return false;
@@ -80,24 +85,27 @@ pub fn run(cases: u64, seed: u64) -> bool {
 impl Tally {
     fn print(&self) {
         println!(
-            "{} accepted plans on {} drifting runs: {} clauses held",
-            self.plans, self.runs, self.clauses
+            "accepted plans on drifting runs: {} plans, {} runs, {} with all the spread allowed; {} times a clause held",
+            self.plans, self.runs, self.full_spread, self.clauses
         );
-        println!("{} plans at drift 0 judged as in step", self.in_step);
+        println!("plans at drift 0, judged as in step: {}", self.in_step);
         println!(
-            "{} small plans searched over {} standings: {} accepted, true of every run; {} refused, broken by a run {}",
+            "small plans on all runs: {} over {} standings; {} accepted, broken by none; {} refused, {} of them broken by one",
             self.searched, self.standings, self.accepted, self.refused, self.refused_broken
         );
         println!(
-            "{} times G over one count: {} refused, each broken by a run at the step told; no other is",
+            "G over one count on all runs: {}; {} refused, each broken at the step told; the others broken by none",
             self.globally, self.globally_refused
         );
-        println!("{} smaller drifts of accepted plans accepted", self.smaller);
+        println!(
+            "smaller drifts of small accepted plans, all accepted: {}",
+            self.smaller
+        );
     }
 }
 
 /// An accepted plan of any size on some drifting runs.
-fn accepted_runs(random: &mut Random, tally: &mut Tally) -> (Triple, Outcome) {
+fn on_runs(random: &mut Random, tally: &mut Tally) -> (Triple, Outcome) {
     let triple = aims::accepted(random);
     let outcome = hold_on_runs(random, &triple, tally);
     (triple, outcome)
@@ -106,38 +114,33 @@ fn accepted_runs(random: &mut Random, tally: &mut Tally) -> (Triple, Outcome) {
 fn hold_on_runs(random: &mut Random, triple: &Triple, tally: &mut Tally) -> Outcome {
     let verdict = both(triple)?;
     if verdict != Verdict::ACCEPTED {
-        return Ok(());
+        return Err(format!("made to be accepted, but {verdict}"));
     }
-    let Read {
-        floor,
-        plan,
-        clauses,
-    } = read(triple);
-    let stays = |clause: &&Clause| !clause.next_outside(clause.root);
-    let meanings: Vec<Meaning> = clauses
-        .iter()
-        .filter(stays)
-        .map(|clause| Meaning::new(clause, &plan, &floor))
-        .collect();
+    let read = Read::of(triple);
+    let next_inside = |clause: &&Clause| !clause.next_outside(clause.root);
+    let clauses = read.clauses.iter().filter(next_inside);
+    let meanings: Vec<Meaning> = clauses.map(|clause| read.meaning(clause)).collect();
     tally.plans += 1;
     for _ in 0..4 {
-        let run = Run::random(random, &plan);
+        let run = Run::random(random, &read.plan);
         for meaning in &meanings {
             hold_on(meaning, &run)?;
         }
         tally.runs += 1;
+        tally.full_spread += (run.spread() == read.plan.d) as usize;
         tally.clauses += meanings.len();
     }
     Ok(())
 }
 
-fn hold_on(meaning: &Meaning, run: &Run) -> Outcome {
+/// Whether a run leaves a clause true.
+pub fn hold_on(meaning: &Meaning, run: &Run) -> Outcome {
     if meaning.on_run(meaning.clause.root, run)[0] {
         return Ok(());
     }
+    let (moments, back) = (&run.moments, run.back);
     Err(format!(
-        "accepted, but broken by a run: {:?}, back to moment {}",
-        run.moments, run.back
+        "broken by the run {moments:?}, from there back to moment {back}"
     ))
 }
 
@@ -152,16 +155,11 @@ fn in_step(random: &mut Random, tally: &mut Tally) -> (Triple, Outcome) {
 
 fn as_in_step(triple: &Triple) -> Outcome {
     let verdict = both(triple)?;
-    let Read {
-        floor,
-        plan,
-        clauses,
-    } = read(triple);
-    let run = Run::in_step(&plan);
+    let read = Read::of(triple);
+    let run = Run::in_step(&read.plan);
     let mut wanted = Verdict::ACCEPTED;
-    for (i, clause) in clauses.iter().enumerate().rev() {
-        let meaning = Meaning::new(clause, &plan, &floor);
-        if let Some(step) = breaks_in_step(&meaning, &run) {
+    for (i, clause) in read.clauses.iter().enumerate().rev() {
+        if let Some(step) = breaks_in_step(&read.meaning(clause), &run) {
             wanted = Verdict::refused(RULES, Refusal(17, i, step));
         }
     }
@@ -178,136 +176,9 @@ fn breaks_in_step(meaning: &Meaning, run: &Run) -> Option<usize> {
         return None;
     }
     let root = clause.nodes[clause.root];
-    match root.op {
-        Op::Globally => meaning
-            .on_run(root.left, run)
-            .iter()
-            .position(|holds| !holds),
-        _ => Some(0),
+    if root.op != Op::Globally {
+        return Some(0);
     }
-}
-
-fn small_world(random: &mut Random) -> World {
-    let carts = random.range(2, 4);
-    let (h, d, places) = (random.range(1, 6), random.below(4), random.range(1, 4));
-    World::build(random, [carts, h, d, places])
-}
-
-fn triple_of(random: &mut Random, world: &World, clause: &Clause) -> Triple {
-    let rules = Printer::new(random).line(clause);
-    let (floor, plan) = Records::of(world).files();
-    Triple { floor, plan, rules }
-}
-
-/// A clause of a few temporal operators over counts; accepted only if no run breaks it.
-fn searched(random: &mut Random, tally: &mut Tally) -> (Triple, Outcome) {
-    let world = small_world(random);
-    let collection = world.collection();
-    let marks = &world.marks;
-    let mut clauses = Clauses {
-        random,
-        collection: &collection,
-        marks,
-        next_outside: false,
-    };
-    let nodes = clauses.random.range(3, 14);
-    let clause = clauses.clause(nodes);
-    let triple = triple_of(random, &world, &clause);
-    let outcome = search(random, &triple, tally);
-    (triple, outcome)
-}
-
-fn search(random: &mut Random, triple: &Triple, tally: &mut Tally) -> Outcome {
-    let accepted = both(triple)? == Verdict::ACCEPTED;
-    let Read {
-        floor,
-        plan,
-        clauses,
-    } = read(triple);
-    let meaning = Meaning::new(&clauses[0], &plan, &floor);
-    if temporal_nodes(&meaning).len() > 4 {
-        return Ok(());
-    }
-    let standings = Standings::of(&plan);
-    let broken = some_run_breaks(&standings, &meaning);
-    tally.searched += 1;
-    tally.standings += standings.list.len();
-    tally.accepted += accepted as usize;
-    tally.refused += !accepted as usize;
-    tally.refused_broken += (!accepted && broken) as usize;
-    if accepted && broken {
-        return Err("accepted, but the search finds a run that breaks it".into());
-    }
-    if accepted {
-        tally.smaller += smaller_drifts(triple)?;
-    }
-    for _ in 0..3 {
-        let run = Run::random(random, &plan);
-        if !broken && hold_on(&meaning, &run).is_err() {
-            return Err(format!(
-                "the search finds no run, but there is one: {:?}",
-                run.moments
-            ));
-        }
-    }
-    Ok(())
-}
-
-/// G over one count, negated or not, is refused exactly if some run breaks it, at the lowest step.
-fn globally_one_count(random: &mut Random, tally: &mut Tally) -> (Triple, Outcome) {
-    let world = small_world(random);
-    let collection = world.collection();
-    let marks = &world.marks;
-    let mut clauses = Clauses {
-        random,
-        collection: &collection,
-        marks,
-        next_outside: false,
-    };
-    let nodes = clauses.random.range(1, 6);
-    let mut clause = Clause::default();
-    let count = clauses.count(&mut clause, nodes);
-    let negated = clauses.random.chance(50);
-    let body = if negated {
-        clause.push(Op::Not, count, 0)
-    } else {
-        count
-    };
-    clause.root = clause.push(Op::Globally, body, 0);
-    let triple = triple_of(random, &world, &clause);
-    let outcome = exactly(&triple, negated, tally);
-    (triple, outcome)
-}
-
-fn exactly(triple: &Triple, negated: bool, tally: &mut Tally) -> Outcome {
-    let verdict = both(triple)?;
-    let Read {
-        floor,
-        plan,
-        clauses,
-    } = read(triple);
-    let clause = &clauses[0];
-    let meaning = Meaning::new(clause, &plan, &floor);
-    let standings = Standings::of(&plan);
-    let is_count = |node: &usize| matches!(clause.nodes[*node].op, Op::Count(_));
-    let count = (0..clause.nodes.len()).find(is_count).expect("a count");
-    let wanted = match standings.lowest_failing(&meaning, count, negated) {
-        Some(step) => Verdict::refused(RULES, Refusal(17, 0, step)),
-        None => Verdict::ACCEPTED,
-    };
-    tally.globally += 1;
-    tally.globally_refused += (wanted != Verdict::ACCEPTED) as usize;
-    if verdict != wanted {
-        return Err(format!("{verdict}, but by all standings {wanted}"));
-    }
-    let broken = some_run_breaks(&standings, &meaning);
-    if broken != (wanted != Verdict::ACCEPTED) {
-        return Err(format!(
-            "{wanted} by all standings, but a run breaks it: {broken}"
-        ));
-    }
-    if !broken {
-        tally.smaller += smaller_drifts(triple)?;
-    }
-    Ok(())
+    let body = meaning.on_run(root.left, run);
+    body.iter().position(|holds| !holds)
 }
