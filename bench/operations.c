@@ -32,6 +32,11 @@ static struct cartplan_verdict read_plan(void)
     return cartplan_read_plan(floor_file, floor_len, plan_file, plan_len);
 }
 
+static struct cartplan_verdict check(void)
+{
+    return cartplan_check(floor_file, floor_len, plan_file, plan_len, rules_file, rules_len);
+}
+
 static struct cartplan_verdict read_rules(void)
 {
     return cartplan_read_rules(rules_file, rules_len);
@@ -58,6 +63,7 @@ static const struct {
     struct cartplan_verdict (*call)(void);
 } operations[] = {
     {"read_floor", read_floor},   {"read_plan", read_plan}, {"read_rules", read_rules},
+    {"check", check},
     {"check_moves", check_moves}, {"move_on", move_on},     {"replace_row", replace_row},
 };
 

@@ -19,6 +19,10 @@ def plan(h, l, d, rows):
     return record(4, head) + b"".join(record(5, row) for row in rows)
 
 
+def rules(*clauses):
+    return "".join(clause + "\n" for clause in clauses).encode()
+
+
 EVERY = 255  # open to all eight classes
 HIDES = 1 << 0  # open to class 0, the carts that carry hides
 PANELS = 1 << 1  # open to class 1, the carts that carry cut panels
@@ -32,9 +36,10 @@ EXAMPLES = {
             carts=[(0, 0), (0, 0)],
         ),
         plan(4, 0, 0, [[0, 1, 1, 0], [0, 0, 1, 1]]),
+        rules("F [m1,2]"),  # at some step both are on place 1
     ),
     # Store (m0), two cutting tables (m1) and skiving (m2); three carts bring hides, one takes panels on to skiving.
-    # One step of run-in, then a lap of six.
+    # One step of run-in, then a lap of six; a cart may be one step ahead of another.
     "workshop": (
         floor(
             places=[{0}, {1}, {1}, {2}],
@@ -53,11 +58,18 @@ EXAMPLES = {
                 [3, 3, 1, 1, 3, 2, 2],
             ],
         ),
+        rules(
+            "G [m0,1]",  # there is always a cart at the store
+            "G ![m2,2]",  # never two at skiving
+            "[m0,2] U [m1,1]",  # two wait at the store until one is at a cutting table
+            "G F [m1,50%]",  # again and again half of the carts are at the tables together
+            "[G (!m2 | F m1),100%]",  # every cart that is at skiving comes to a table later
+        ),
     ),
 }
 
-for name, (floor_bytes, plan_bytes) in EXAMPLES.items():
+for name, files in EXAMPLES.items():
     folder = pathlib.Path("examples") / name
     folder.mkdir(exist_ok=True)
-    (folder / "floor").write_bytes(floor_bytes)
-    (folder / "plan").write_bytes(plan_bytes)
+    for file, content in zip(("floor", "plan", "rules"), files):
+        (folder / file).write_bytes(content)

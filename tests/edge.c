@@ -1,5 +1,5 @@
 /* The C interface from C: document 01's floor and plan written, compared with bytes written out by hand and read back, its
- * moves checked, the plan moved on and a row replaced; a sheet read and a clause picked; empty buffers as null pointers; room
+ * moves checked, the plan checked, moved on and a row replaced; a sheet read and a clause picked; empty buffers as null pointers; room
  * one byte short; a refusal of each function. */
 #include <stdio.h>
 #include <string.h>
@@ -202,6 +202,25 @@ static void check_sheet(void)
     check_verdict(cartplan_read_rules(NULL, 0), 3, 7, 0, "null sheet");
 }
 
+static void check_plan_checked(void)
+{
+    static const uint8_t always[] = "G [m0,1]\n", ahead[] = "[m0,3]\nX [m1,1]\n", reached[] = "F [m1,2]\n";
+    uint8_t plan[PLAN_LEN];
+    memcpy(plan, plan_bytes, PLAN_LEN);
+
+    check_verdict(cartplan_check(floor_bytes, FLOOR_LEN, plan, PLAN_LEN, reached, sizeof reached - 1), 0, 0, 0, "plan accepted");
+    check_numbers(cartplan_check(floor_bytes, FLOOR_LEN, plan, PLAN_LEN, always, sizeof always - 1), 3, 17, 0, 2, "a G that fails");
+    check_verdict(cartplan_check(floor_bytes, FLOOR_LEN, plan, PLAN_LEN, NULL, 0), 3, 7, 0, "checked with a null sheet");
+    check_verdict(cartplan_check(floor_bytes, FLOOR_LEN, NULL, 0, reached, sizeof reached - 1), 2, 7, 0, "checked with a null plan");
+    check_verdict(cartplan_check(NULL, 0, plan, PLAN_LEN, reached, sizeof reached - 1), 1, 7, 0, "checked on a null floor");
+    check_verdict(cartplan_check(floor_bytes, FLOOR_LEN, plan, PLAN_LEN, reached, sizeof reached - 2), 3, 13, 8, "a sheet cut short");
+    plan[8] = 1;
+    check_numbers(cartplan_check(floor_bytes, FLOOR_LEN, plan, PLAN_LEN, reached, sizeof reached - 1), 3, 17, 0, 0, "with drift 1");
+    check_numbers(cartplan_check(floor_bytes, FLOOR_LEN, plan, PLAN_LEN, ahead, sizeof ahead - 1), 3, 16, 1, 0, "16 before 17");
+    plan[14] = 1;
+    check_numbers(cartplan_check(floor_bytes, FLOOR_LEN, plan, PLAN_LEN, NULL, 0), 2, 10, 0, 0, "moves before the sheet");
+}
+
 static void check_span(struct cartplan_span is, size_t offset, size_t length, const char *name)
 {
     check(is.offset == offset && is.length == length, name);
@@ -280,6 +299,7 @@ int main(void)
     check_moved_on();
     check_replaced();
     check_sheet();
+    check_plan_checked();
     check_clause();
     check_null();
     check_refusals();

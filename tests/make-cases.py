@@ -1,5 +1,5 @@
 #!/usr/bin/env python3
-"""Writes the data sets and the expected output of the program crates/cases.
+"""Writes the data sets and the expected output of the programs crates/cases and crates/cartcheck.
 
 Run from the repository's root: python3 tests/make-cases.py
 It prints each case's number, name and verdict. The verdicts are written by hand from document 01; no reader is asked.
@@ -10,6 +10,7 @@ import shutil
 import sys
 
 CRATE = pathlib.Path("crates/cases")
+PROGRAM = pathlib.Path("crates/cartcheck")
 
 
 def number16(n):
@@ -352,6 +353,256 @@ EDITS = [
 ]
 
 
+# Checking a plan: its task, and sheets of a clause a line.
+CHECK = bytes([4])
+
+
+def sheet(*clauses):
+    return "".join(clause + "\n" for clause in clauses).encode()
+
+
+def drifting(d, l=0):
+    """Document 01's plan with another drift and lap. Carts on m0, step by step: 2 1 0 1; on m1: 0 1 2 1."""
+    return head(4, l, d) + ROWS
+
+
+def pair(h, l, d, *places):
+    """Two carts on the same row, for a floor with two carts."""
+    return head(h, l, d) + row(*places) * 2
+
+
+# Document 01's places and lanes with one cart, with two that start on place 1, and with one on each place.
+ONE = PLACES + LANES + cart(0, 0)
+FROM_1 = PLACES + LANES + cart(0, 1) * 2
+APART = PLACES + LANES + cart(0, 0) + cart(0, 1)
+
+# 32 carts: all on place 0 at step 0, and on place 1 at step 1 those of the given numbers.
+CROWD = PLACES + LANES + CARTS_32
+
+
+def crowd(d, *away):
+    return head(2, 0, d) + b"".join(row(0, int(n in away)) for n in range(32))
+
+
+# Marks m0 and m31 on place 0, m30 on place 1.
+ENDS = place(1 << 0 | 1 << 31) + place(1 << 30) + LANES + CARTS
+
+# 126 nodes in 252 bytes, and what follows decides.
+NODES_126 = "!true|" * 42
+
+# Name, floor, plan, sheet, verdict of the check. Two carts, unless the name says otherwise.
+CHECKS = [
+    # Document 01's table.
+    ("F [m1,2], d 0", FLOOR, PLAN, sheet("F [m1,2]"), "accepted"),
+    ("F [m1,2], d 1", FLOOR, drifting(1), sheet("F [m1,2]"), "refused rules 17 0 0"),
+    ("F [m1,1], d 1", FLOOR, drifting(1), sheet("F [m1,1]"), "accepted"),
+    ("F [m1,1], d 2: all on m1 at step 2", FLOOR, drifting(2), sheet("F [m1,1]"), "accepted"),
+    ("G ![m1,2], d 0", FLOOR, PLAN, sheet("G ![m1,2]"), "refused rules 17 0 2"),
+    ("G [m0,1], d 0", FLOOR, PLAN, sheet("G [m0,1]"), "refused rules 17 0 2"),
+    ("G [m0,1], d 1", FLOOR, drifting(1), sheet("G [m0,1]"), "refused rules 17 0 1"),
+    ("[G F m1,2], d 16", FLOOR, drifting(16), sheet("[G F m1,2]"), "accepted"),
+    ("X [m1,1], d 0", FLOOR, PLAN, sheet("X [m1,1]"), "accepted"),
+    ("X [m1,1], d 1", FLOOR, drifting(1), sheet("X [m1,1]"), "refused rules 16 0 0"),
+    ("[m0,0], d 16", FLOOR, drifting(16), sheet("[m0,0]"), "accepted"),
+    ("[m0,3], d 0", FLOOR, PLAN, sheet("[m0,3]"), "refused rules 17 0 0"),
+    # Document 01's other cases.
+    ("check: l = h", FLOOR, drifting(0, 4), sheet("true"), "refused plan 8 0 0"),
+    ("check: l = h - 1", FLOOR, drifting(0, 3), sheet("true"), "accepted"),
+    ("check: d 16", FLOOR, drifting(16), sheet("true"), "accepted"),
+    ("check: d 17", FLOOR, drifting(17), sheet("true"), "refused plan 8 0 0"),
+    ("check: 32 carts", CROWD, crowd(0), sheet("[m0,32]"), "accepted"),
+    ("check: the 33rd cart", CROWD + cart(0, 0), crowd(0) + row(0, 0), sheet("true"), "refused floor 5 236 0"),
+    ("m31", ENDS, PLAN, sheet("[m31,2]"), "accepted"),
+    ("m32 is 15", ENDS, PLAN, sheet("[m32,2]"), "refused rules 15 2 0"),
+    ("m01 is 13 at the 1", FLOOR, PLAN, sheet("[m01,2]"), "refused rules 13 3 0"),
+    # The stages in order: each pair refuses both, and the first is named.
+    ("floor before plan", FLOOR[:-1], PLAN[:-1], b"", "refused floor 2 50 0"),
+    ("floor before sheet", PLACES, PLAN, sheet("?"), "refused floor 7 16 0"),
+    ("plan before moves: too few rows, the first begins elsewhere", FLOOR, head(4) + row(1, 1, 1, 0), sheet("true"),
+     "refused plan 7 18 0"),
+    ("plan before sheet", FLOOR, PLAN[:-1], b"", "refused plan 2 18 0"),
+    ("10 before an empty sheet", FLOOR, head(1) + row(0) + row(1), b"", "refused plan 10 1 0"),
+    ("11 before a sheet's 13", PLACES + LANES[:7] + CARTS, PLAN, sheet("?"), "refused plan 11 0 1"),
+    ("11 before 16", PLACES + LANES[:14] + CARTS, drifting(1), sheet("X true"), "refused plan 11 0 1"),
+    ("closing move before 17", PLACES + lane(0, 1) + lane(1, 1) + CARTS, pair(2, 0, 0, 0, 1), sheet("!true"),
+     "refused plan 11 0 1"),
+    ("a sheet's 13 in the second line before 16 in the first", FLOOR, drifting(1), sheet("X true", "?"),
+     "refused rules 13 7 0"),
+    ("a sheet's 15 in the second line before 17 in the first", FLOOR, PLAN, sheet("!true", "[m32,1]"),
+     "refused rules 15 8 0"),
+    ("16 of the second clause before 17 of the first", FLOOR, drifting(1), sheet("!true", "X true"),
+     "refused rules 16 1 0"),
+    ("16 before 17 of one clause", FLOOR, drifting(1), sheet("X !true"), "refused rules 16 0 0"),
+    # The sheet's own limits, as the check says them.
+    ("no rules file", FLOOR, PLAN, None, "refused rules 7 0 0"),
+    ("empty rules", FLOOR, PLAN, b"", "refused rules 7 0 0"),
+    ("no byte 10 at the end of the rules", FLOOR, PLAN, b"true", "refused rules 13 4 0"),
+    ("spaces before every token", FLOOR, PLAN, sheet("  F  [  m1  ,  2  ]  "), "accepted"),
+    ("rules of 16,384 bytes", FLOOR, PLAN, b" " * 16379 + b"true\n", "accepted"),
+    ("rules of 16,385 bytes", FLOOR, PLAN, b" " * 16380 + b"true\n", "refused rules 12 0 0"),
+    ("rules of 16,386 bytes, wrong at once", FLOOR, PLAN, b"?" * 16386, "refused rules 12 0 0"),
+    ("floor of 65,538 bytes", filled(FLOOR, 65538), PLAN, sheet("true"), "refused floor 1 0 0"),
+    ("plan of 65,538 bytes", FLOOR, filled(PLAN, 65538), sheet("true"), "refused plan 1 0 0"),
+    # 16: next outside a count, with d above 0.
+    ("16: the lowest of two clauses", FLOOR, drifting(1), sheet("true", "X true", "true", "X true"),
+     "refused rules 16 1 0"),
+    ("16: the 32nd clause", FLOOR, drifting(16), sheet(*["true"] * 31, "X true"), "refused rules 16 31 0"),
+    ("16: where the rest would decide", FLOOR, drifting(1), sheet("true | X true"), "refused rules 16 0 0"),
+    ("16: deep inside, on the right of an R", FLOOR, drifting(1), sheet("[m0,1] & (true R !F G X [m0,1])"),
+     "refused rules 16 0 0"),
+    ("16: behind a next in a count", FLOOR, drifting(1), sheet("[X m1,1] | X [m1,1]"), "refused rules 16 0 0"),
+    ("next in a count is no 16", FLOOR, drifting(1), sheet("[X m1,1]"), "accepted"),
+    ("with d 0 there is no 16", FLOOR, PLAN, sheet("X true", "true U X [m1,2]"), "accepted"),
+    # 17: the lowest clause.
+    ("17: the first of three", FLOOR, PLAN, sheet("!true", "true", "!true"), "refused rules 17 0 0"),
+    ("17: the lowest of two", FLOOR, PLAN, sheet("true", "[m0,2]", "[m1,1]", "!true"), "refused rules 17 2 0"),
+    ("17: the lowest, with the step of its own G", FLOOR, PLAN, sheet("true", "G [m0,1]", "G [m0,2]"),
+     "refused rules 17 1 2"),
+    ("32 clauses", FLOOR, PLAN, sheet(*["[m0,2]"] * 32), "accepted"),
+    ("17: the 32nd clause", FLOOR, PLAN, sheet(*["[m0,2]"] * 31, "G [m0,2]"), "refused rules 17 31 1"),
+    ("33 clauses", FLOOR, PLAN, sheet(*["[m0,2]"] * 33), "refused rules 14 224 0"),
+    # 17: the step of a G.
+    ("G fails at step 0", FLOOR, PLAN, sheet("G [m1,1]"), "refused rules 17 0 0"),
+    ("G fails in the run-in only, one cart", ONE, head(6, 3) + row(0, 1, 0, 0, 0, 0), sheet("G [m0,1]"),
+     "refused rules 17 0 1"),
+    ("G fails in the run-in and in the lap, one cart", ONE, head(6, 3) + row(0, 0, 1, 0, 0, 1), sheet("G [m0,1]"),
+     "refused rules 17 0 2"),
+    ("G fails on the lap's first step only, one cart", ONE, head(6, 3) + row(0, 0, 0, 1, 0, 0), sheet("G [m0,1]"),
+     "refused rules 17 0 3"),
+    ("G fails on the last step only, one cart", ONE, head(6, 3) + row(0, 0, 0, 0, 0, 1), sheet("G [m0,1]"),
+     "refused rules 17 0 5"),
+    ("G fails on step 63 of 64", FLOOR, pair(64, 63, 0, *[0] * 63, 1), sheet("G [m0,2]"), "refused rules 17 0 63"),
+    ("G fails within the drift of step 63", FLOOR, pair(64, 63, 16, *[0] * 63, 1), sheet("G [m0,2]"),
+     "refused rules 17 0 47"),
+    ("G of what comes in the run-in only, one cart", ONE, head(4, 2) + row(0, 1, 0, 0), sheet("G F [m1,1]"),
+     "refused rules 17 0 2"),
+    ("G in parentheses", FLOOR, PLAN, sheet("((G [m0,1]))"), "refused rules 17 0 2"),
+    ("G of a G", FLOOR, PLAN, sheet("G G [m0,1]"), "refused rules 17 0 0"),
+    ("G under two negations", FLOOR, PLAN, sheet("!!G [m0,1]"), "refused rules 17 0 0"),
+    ("G written out", FLOOR, PLAN, sheet("!F ![m0,1]"), "refused rules 17 0 0"),
+    ("G on one side of an and", FLOOR, PLAN, sheet("G [m0,1] & true"), "refused rules 17 0 0"),
+    ("G on the right of a U", FLOOR, PLAN, sheet("true U G [m0,1]"), "refused rules 17 0 0"),
+    # Until and release.
+    ("U, its right side reached", FLOOR, PLAN, sheet("[m0,1] U [m1,2]"), "accepted"),
+    ("U, its left side lost", FLOOR, PLAN, sheet("[m0,2] U [m1,2]"), "refused rules 17 0 0"),
+    ("U, its right side at once", FLOOR, PLAN, sheet("!true U [m0,2]"), "accepted"),
+    ("U round a lap where its right side never comes, one cart", ONE, head(2) + row(0, 0), sheet("[m0,1] U [m1,1]"),
+     "refused rules 17 0 0"),
+    ("U inside a count round such a lap, one cart", ONE, head(2) + row(0, 0), sheet("[m0 U m1,1]"),
+     "refused rules 17 0 0"),
+    ("R with no need that its left side comes, one cart", ONE, head(2) + row(0, 0), sheet("[m1,1] R [m0,1]"), "accepted"),
+    ("R, released while both hold", FLOOR, PLAN, sheet("[m1,1] R [m0,1]"), "accepted"),
+    ("R, released too late", FLOOR, PLAN, sheet("[m1,2] R [m0,1]"), "refused rules 17 0 0"),
+    ("a negated U is an R", FLOOR, PLAN, sheet("!(![m1,1] U ![m0,1])"), "accepted"),
+    ("U groups to the right, one cart", ONE, head(2, 1) + row(0, 1), sheet("[m0,1] U !true U [m1,1]"), "accepted"),
+    ("U to the left by parentheses, one cart", ONE, head(2, 1) + row(0, 1), sheet("([m0,1] U !true) U [m1,1]"),
+     "refused rules 17 0 0"),
+    ("and binds before or", FLOOR, PLAN, sheet("true | true & !true"), "accepted"),
+    ("U binds before and", FLOOR, PLAN, sheet("!true & true U true"), "refused rules 17 0 0"),
+    # Next.
+    ("next of the last step is the lap's first, one cart", ONE, head(3, 1) + row(0, 1, 0), sheet("X X X [m1,1]"),
+     "accepted"),
+    ("next in a count goes the same way, one cart", ONE, head(3, 1) + row(0, 1, 0), sheet("[X X X X m1,1]"),
+     "refused rules 17 0 0"),
+    ("next in a count follows the cart's own row", FLOOR, PLAN, sheet("[m0 & X m1,1]"), "accepted"),
+    ("next in a count doesn't follow another cart", FLOOR, PLAN, sheet("[X m1,2]"), "refused rules 17 0 0"),
+    # Inner text on a cart's own row.
+    ("U in a count", FLOOR, drifting(16), sheet("[m0 U m1,2]"), "accepted"),
+    ("R in a count, its right side lost", FLOOR, PLAN, sheet("[m1 R m0,1]"), "refused rules 17 0 0"),
+    ("R in a count, released while both hold", FLOOR, PLAN, sheet("[true R m0,2]"), "accepted"),
+    ("G in a count, behind the run-in, one cart", ONE, head(2, 1) + row(0, 1), sheet("[X G m1,1] & ![G m1,1]"), "accepted"),
+    ("F in a count, in the run-in only, one cart", ONE, head(4, 2) + row(0, 1, 0, 0), sheet("[F m1,1]", "[G F m1,1]"),
+     "refused rules 17 1 0"),
+    # Negation driven inward.
+    ("a negated and", FLOOR, PLAN, sheet("!([m0,2] & [m1,1])"), "accepted"),
+    ("a negated or", FLOOR, PLAN, sheet("!([m0,2] | [m1,1])"), "refused rules 17 0 0"),
+    ("a negated next", FLOOR, PLAN, sheet("!X [m0,2]"), "accepted"),
+    ("a negated F", FLOOR, PLAN, sheet("!F [m1,2]"), "refused rules 17 0 0"),
+    ("a negated G, in step", FLOOR, PLAN, sheet("!G [m0,1]"), "accepted"),
+    ("a negated G, within the drift", FLOOR, drifting(1), sheet("!G [m0,1]"), "refused rules 17 0 0"),
+    ("a count or its negation, in step", FLOOR, PLAN, sheet("X ([m1,1] | ![m1,1])"), "accepted"),
+    ("neither a count nor its negation, within the drift", FLOOR, drifting(1), sheet("[m1,1] | ![m1,1]"),
+     "refused rules 17 0 0"),
+    ("negation reaches the inner text", FLOOR, pair(2, 0, 16, 0, 0), sheet("![F !m0,1]"), "accepted"),
+    # The window of the drift.
+    ("window over steps 0 and 1", FLOOR, pair(4, 0, 1, 0, 0, 1, 1), sheet("[m0,2]"), "accepted"),
+    ("window includes s + d", FLOOR, pair(4, 0, 2, 0, 0, 1, 1), sheet("[m0,2]"), "refused rules 17 0 0"),
+    ("window turns into the lap, where the mark is missing", FROM_1, pair(6, 3, 1, 1, 1, 1, 1, 1, 0), sheet("F [m0,2]"),
+     "refused rules 17 0 0"),
+    ("window turns into the lap, where the mark is", FROM_1, pair(6, 3, 1, 1, 1, 1, 0, 1, 0), sheet("F [m0,2]"),
+     "accepted"),
+    ("window round a lap of one step", FROM_1, pair(3, 2, 16, 1, 1, 0), sheet("F [m0,2]"), "accepted"),
+    ("window longer than the lap", FROM_1, pair(4, 1, 16, 1, 0, 0, 1), sheet("F [m0,2]"), "refused rules 17 0 0"),
+    ("window of 16 up to step 16", FLOOR, pair(18, 17, 16, *[0] * 17, 1), sheet("[m0,2]"), "accepted"),
+    ("window of 16 over step 16", FLOOR, pair(18, 17, 16, *[0] * 16, 1, 1), sheet("[m0,2]"), "refused rules 17 0 0"),
+    ("all carts at s count for a threshold of 1", FLOOR, pair(2, 0, 1, 0, 1), sheet("[m0,1]"), "accepted"),
+    ("all carts at s don't count for a threshold of 2", FLOOR, pair(2, 0, 1, 0, 1), sheet("[m0,2]"),
+     "refused rules 17 0 0"),
+    ("all but one of 32 carts at s don't count", CROWD, crowd(1, *range(31)), sheet("F [m1,1]"), "refused rules 17 0 0"),
+    ("all of 32 carts at s count", CROWD, crowd(1, *range(32)), sheet("F [m1,1]"), "accepted"),
+    ("a cart on m0 at every step, in step", APART, head(2) + row(0, 1) + row(1, 0), sheet("G [m0,1]"), "accepted"),
+    ("a cart on m0 at every step, but never the same", APART, head(2, 0, 1) + row(0, 1) + row(1, 0), sheet("G [m0,1]"),
+     "refused rules 17 0 0"),
+    # Thresholds 0, N and N + 1, and what negation makes of them.
+    ("threshold 0", FLOOR, drifting(16), sheet("G [!true,0]"), "accepted"),
+    ("threshold 0 negated is N + 1", FLOOR, PLAN, sheet("![!true,0]"), "refused rules 17 0 0"),
+    ("threshold N", FLOOR, PLAN, sheet("[m0,2]"), "accepted"),
+    ("threshold N, one cart short", FLOOR, PLAN, sheet("X [m0,2]"), "refused rules 17 0 0"),
+    ("threshold N negated is 1: one cart", FLOOR, PLAN, sheet("X ![m0,2]"), "accepted"),
+    ("threshold N negated is 1: all carts at s", FLOOR, drifting(16), sheet("![m1,2]"), "accepted"),
+    ("threshold N negated, no cart", FLOOR, PLAN, sheet("![m0,2]"), "refused rules 17 0 0"),
+    ("threshold 1 negated is N, in step", FLOOR, PLAN, sheet("![m1,1]"), "accepted"),
+    ("threshold 1 negated is N, within the drift", FLOOR, drifting(1), sheet("![m1,1]"), "refused rules 17 0 0"),
+    ("threshold N + 1", FLOOR, PLAN, sheet("[true,3]"), "refused rules 17 0 0"),
+    ("threshold N + 1 negated is 0", FLOOR, drifting(16), sheet("G ![true,3]"), "accepted"),
+    ("threshold N + 2 negated is 0", FLOOR, drifting(16), sheet("G ![true,4]"), "accepted"),
+    ("threshold 999", FLOOR, PLAN, sheet("[true,999]"), "refused rules 17 0 0"),
+    ("threshold 999 negated", FLOOR, drifting(16), sheet("![true,999]"), "accepted"),
+    ("threshold 1000 is 15", FLOOR, PLAN, sheet("[true,1000]"), "refused rules 15 6 0"),
+    ("threshold 32 of 32 carts", CROWD, crowd(0, *range(32)), sheet("X [m1,32]"), "accepted"),
+    ("threshold 32 of 32, the last cart missing", CROWD, crowd(0, *range(31)), sheet("X [m1,32]"), "refused rules 17 0 0"),
+    ("threshold 1 of 32, the last cart alone", CROWD, crowd(0, 31), sheet("X [m1,1]"), "accepted"),
+    ("threshold 32 of 32 negated, the last cart alone", CROWD, crowd(0, *range(31)), sheet("X ![m1,32]"), "accepted"),
+    ("threshold 33 of 32 carts", CROWD, crowd(0), sheet("[true,33]"), "refused rules 17 0 0"),
+    # Percentages.
+    ("0 percent", FLOOR, drifting(16), sheet("G [!true,0%]"), "accepted"),
+    ("0 percent negated", FLOOR, PLAN, sheet("![!true,0%]"), "refused rules 17 0 0"),
+    ("100 percent", FLOOR, PLAN, sheet("[m0,100%]"), "accepted"),
+    ("100 percent, one cart short", FLOOR, PLAN, sheet("X [m0,100%]"), "refused rules 17 0 0"),
+    ("100 percent negated", FLOOR, PLAN, sheet("X ![m0,100%]"), "accepted"),
+    ("101 percent is 15", FLOOR, PLAN, sheet("[m0,101%]"), "refused rules 15 4 0"),
+    ("50 percent of two is 1: all carts at s count", FLOOR, drifting(16), sheet("[m0,50%]"), "accepted"),
+    ("51 percent of two is 2: they don't", FLOOR, drifting(16), sheet("[m0,51%]"), "refused rules 17 0 0"),
+    ("1 percent of two is 1", FLOOR, PLAN, sheet("X [m1,1%]"), "accepted"),
+    ("96 percent of 32 is 31", CROWD, crowd(0, *range(31)), sheet("X [m1,96%]"), "accepted"),
+    ("97 percent of 32 is 32", CROWD, crowd(0, *range(31)), sheet("X [m1,97%]"), "refused rules 17 0 0"),
+    ("25 percent of 32 is 8", CROWD, crowd(0, *range(8)), sheet("X [m1,25%]"), "accepted"),
+    ("26 percent of 32 is 9", CROWD, crowd(0, *range(8)), sheet("X [m1,26%]"), "refused rules 17 0 0"),
+    # Marks.
+    ("two marks on a place", ENDS, PLAN, sheet("[m0 & m31,2] & ![m30,1]"), "accepted"),
+    ("a mark that no place bears", ENDS, PLAN, sheet("F [m1,1]"), "refused rules 17 0 0"),
+    # 128 nodes, level 32.
+    ("128 nodes, the last makes it true", FLOOR, PLAN, sheet(NODES_126 + "[m0,2]"), "accepted"),
+    ("128 nodes, the last makes it false", FLOOR, PLAN, sheet(NODES_126 + "[m0,3]"), "refused rules 17 0 0"),
+    ("the 129th node", FLOOR, PLAN, sheet(NODES_126 + "![m0,2]"), "refused rules 14 254 0"),
+    ("128 nodes in one count", FLOOR, PLAN, sheet("[" + "m1|" * 63 + "m0,2]"), "accepted"),
+    ("128 nodes in each of 32 clauses", FLOOR, PLAN, sheet(*[NODES_126 + "[m0,2]"] * 31, NODES_126 + "[m1,2]"),
+     "refused rules 17 31 0"),
+    ("level 32 by negations", FLOOR, PLAN, sheet("!" * 32 + "true"), "accepted"),
+    ("level 33 by negations", FLOOR, PLAN, sheet("!" * 33 + "true"), "refused rules 14 32 0"),
+    ("level 32 by parentheses and a count", FLOOR, PLAN, sheet("(" * 31 + "[m0,2]" + ")" * 31), "accepted"),
+    ("level 33 by parentheses and a count", FLOOR, PLAN, sheet("(" * 32 + "[m0,2]" + ")" * 32), "refused rules 14 32 0"),
+    ("level 32, a negation driven down to its count", FLOOR, PLAN, sheet("!" * 31 + "[m0,2]"), "refused rules 17 0 0"),
+    ("31 times next: step 3", FLOOR, PLAN, sheet("X" * 31 + "[m1,1]"), "accepted"),
+    ("31 times next: not both on m1", FLOOR, PLAN, sheet("X" * 31 + "[m1,2]"), "refused rules 17 0 0"),
+    ("31 times next in a count, and a G", FLOOR, drifting(16), sheet("[" + "X" * 31 + "G m1,2]"), "refused rules 14 32 0"),
+    ("30 times next in a count, and an F", FLOOR, drifting(16), sheet("[" + "X" * 30 + "F m1,2]"), "accepted"),
+    ("32 times U", FLOOR, PLAN, sheet("[m0,1]U" * 31 + "[m0,1]U true"), "accepted"),
+    ("33 times U", FLOOR, PLAN, sheet("[m0,1]U" * 32 + "true U true"), "refused rules 14 229 0"),
+    ("a count behind 32 times U", FLOOR, PLAN, sheet("[m0,1]U" * 32 + "[m0,1]"), "refused rules 14 224 0"),
+]
+
+
 def write(folder, name, content):
     if content is not None:
         folder.mkdir(parents=True, exist_ok=True)
@@ -368,6 +619,8 @@ def data_sets():
             files["out"] = rest.pop(0)
         verdict, *after = rest
         yield name, files, " ".join([verdict + ":" * len(after), *(str(b) for left in after for b in left)])
+    for name, floor, plan, rules, verdict in CHECKS:
+        yield name, {"floor": floor, "plan": plan, "rules": rules, "task": CHECK}, verdict
 
 
 def check(sets):
@@ -375,10 +628,18 @@ def check(sets):
     names = [name for name, _, _ in sets]
     assert len(set(names)) == len(names)
     for name, _, line in sets:
-        assert re.fullmatch(r"(accepted|done \d+|refused (floor|plan) \d+ \d+ \d+)(:( \d+)*)?", line), name
+        assert re.fullmatch(r"(accepted|done \d+|refused (floor|plan|rules) \d+ \d+ \d+)(:( \d+)*)?", line), name
     source = (CRATE / "src/main.rt").read_text()
     if f"const CASES: usize = {len(sets)};" not in source:
         sys.exit(f"{CRATE}/src/main.rt: CASES has to be {len(sets)}")
+
+
+def write_program():
+    """The second case of document 01's table, in the program's own folder."""
+    _, floor, plan, rules, verdict = CHECKS[1]
+    for file, content in {"floor": floor, "plan": plan, "rules": rules}.items():
+        write(PROGRAM / "data", file, content)
+    (PROGRAM / "stdout").write_text(verdict + "\n")
 
 
 def main():
@@ -393,6 +654,7 @@ def main():
         lines.append(f"{n:03} {line}\n")
         print(f"{n:03} {name}: {line}"[:120])
     (CRATE / "stdout").write_text("".join(lines))
+    write_program()
 
 
 if __name__ == "__main__":

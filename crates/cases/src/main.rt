@@ -1,25 +1,10 @@
 // Does what each data set asks for, and prints the verdicts and the buffers written to.
-mod report;
 mod tasks;
 
 use libc::STDOUT_FILENO;
-ghost use Rattle.io.specs.Counts.{Counts};
 
 // How many data sets there are: tests/make-cases.py writes them.
-const CASES: usize = 200;
-
-// Reads the file, or nothing where it can't be opened.
-fn load(path: &[u8], buf: &mut [u8]) -> usize
-    ensures { λ r. ⌜ Counts r (now (buf .exit)) ⌝ }
-{
-    let fd = os::open_read(path);
-    if fd < 0 {
-        return 0;
-    }
-    let n = io::read_full(fd, buf);
-    libc::close(fd);
-    n
-}
+const CASES: usize = 366;
 
 // A digit as a byte of text.
 fn digit(n: usize) -> u8 {
@@ -30,18 +15,26 @@ fn digit(n: usize) -> u8 {
 fn run_case(n: usize) {
     let mut floor = [0u8; 65537];
     let mut plan = [0u8; 65537];
+    let mut rules = [0u8; 16385];
     let mut task = [0u8; 128];
     let mut out = [0u8; 4096];
     let a = digit(n / 100);
     let b = digit(n / 10);
     let c = digit(n);
-    let f = load(&[a, b, c, b'/', b'f', b'l', b'o', b'o', b'r'], &mut floor);
-    let p = load(&[a, b, c, b'/', b'p', b'l', b'a', b'n'], &mut plan);
-    let t = load(&[a, b, c, b'/', b't', b'a', b's', b'k'], &mut task);
-    let o = load(&[a, b, c, b'/', b'o', b'u', b't'], &mut out);
-    io::write_all(STDOUT_FILENO, &[a, b, c]);
-    tasks::run(&floor[..f], &mut plan[..p], &task[..t], &mut out[..o]);
-    io::write_all(STDOUT_FILENO, b"\n");
+    let f = report::load(&[a, b, c, b'/', b'f', b'l', b'o', b'o', b'r'], &mut floor);
+    let p = report::load(&[a, b, c, b'/', b'p', b'l', b'a', b'n'], &mut plan);
+    let r = report::load(&[a, b, c, b'/', b'r', b'u', b'l', b'e', b's'], &mut rules);
+    let t = report::load(&[a, b, c, b'/', b't', b'a', b's', b'k'], &mut task);
+    let o = report::load(&[a, b, c, b'/', b'o', b'u', b't'], &mut out);
+    io::write_all(STDOUT_FILENO, &[a, b, c, b' ']);
+    tasks::run(
+        &floor[..f],
+        &mut plan[..p],
+        &rules[..r],
+        &task[..t],
+        &mut out[..o],
+    );
+    report::end_line();
 }
 
 fn main() {

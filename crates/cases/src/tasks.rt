@@ -1,5 +1,4 @@
 // What a data set asks for: its file `task` names an operation and holds what that takes besides the files.
-use crate::report;
 
 // Moves the plan on by the number behind the first byte.
 fn move_on(floor: &[u8], plan: &[u8], task: &[u8], out: &mut [u8]) {
@@ -24,7 +23,7 @@ fn replace_row(floor: &[u8], plan: &mut [u8], task: &[u8]) {
 }
 
 // Does what is asked for, reading the plan where nothing is, and prints what comes of it.
-pub(crate) fn run(floor: &[u8], plan: &mut [u8], task: &[u8], out: &mut [u8]) {
+pub(crate) fn run(floor: &[u8], plan: &mut [u8], rules: &[u8], task: &[u8], out: &mut [u8]) {
     if task.len() == 0 {
         let r = plan::read(floor, plan);
         let v = r.verdict;
@@ -34,6 +33,7 @@ pub(crate) fn run(floor: &[u8], plan: &mut [u8], task: &[u8], out: &mut [u8]) {
     match task[0] {
         1 => report::print_verdict(moves::check(floor, plan)),
         2 => move_on(floor, plan, task, out),
-        _ => replace_row(floor, plan, task),
+        3 => replace_row(floor, plan, task),
+        _ => report::print_verdict(plancheck::check(floor, plan, rules)),
     }
 }

@@ -14,7 +14,7 @@ use Rattle.cltl.specs.Threshold.{threshold, quota}
 use Rattle.cltl.specs.Meaning.{Rows, Proper, AtLeast, Run, Satisfies, Counts}
 use Rattle.cltl.specs.Rules.{tally, every, window, quorum, inner, count}
 use Rattle.cltl.specs.Basics.{lt-or-le, T-or-not, and-i, or-r}
-use Rattle.cltl.specs.Operators.{Val}
+use Rattle.cltl.specs.Broken.{Val, Broken}
 use Rattle.cltl.specs.Inner.{inner-sound, inner-opp}
 use Rattle.cltl.specs.Quorum.{steady, steady-quorum}
 use Rattle.cltl.specs.Tally.{every-at, every-of, tally-mono, tally-not, tally-least, tally-most, at-least-map}
@@ -169,20 +169,12 @@ module _ (P : Rows) (proper : Proper P) (d : ℕ) where
         omega arith
     few-hold false x = let c = both in tally-least (λ i. inner P i true a (stepOf (P .h) (P .l) (K i))) _ (P .carts) (λ i _ t. inner-sound P proper i true a (K i) t) m (omega arith)
 
-  -- a run and a moment at which the hindmost cart is at counter s and the count is other than p says
-  pub record Broken (p : Bool) (x : Threshold) (s : ℕ) : Type 0 where
-    pub run : Run (P .carts) d
-    pub moment : ℕ
-    pub behind : (i : ℕ) → i < P .carts → s ≤ run .at moment i
-    pub last : (i : ℕ) × (i < P .carts) × (run .at moment i ≡ s)
-    pub other : Val (not p) (Counts P (run .at) x moment)
-
   same-standing : (p : Bool) (a : Inner) (k : ℕ) (percent : Bool) (K : ℕ → ℕ) (r : Run (P .carts) d) (t : ℕ) → ((i : ℕ) → i < P .carts → r .at t i ≡ K i)
       → Val p (AtLeast (λ i. Satisfies P i a (K i)) (threshold k percent (P .carts)) (P .carts)) → Val p (Counts P (r .at) (counted a k percent) t)
   same-standing true a k percent K r t e x = at-least-map _ _ (P .carts) (λ i p. subst (λ (v : ℕ). Satisfies P i a v) (sym (e i p))) (threshold k percent (P .carts)) x
   same-standing false a k percent K r t e x = λ y. x (at-least-map _ _ (P .carts) (λ i p. subst (λ (v : ℕ). Satisfies P i a v) (e i p)) (threshold k percent (P .carts)) y)
 
-  pub count-complete : (p : Bool) (x : Threshold) (s : ℕ) → s < P .h → (T (count P d p x s) → ⊥) → Broken p x s
+  pub count-complete : (p : Bool) (x : Threshold) (s : ℕ) → s < P .h → (T (count P d p x s) → ⊥) → Broken P d p x s
   unfolding count
   count-complete p (counted a k percent) s low broken =
       let b = breaks (P .h) (P .l) (P .carts) d (quota p (threshold k percent (P .carts)) (P .carts)) (proper .some) (λ i. inner P i p a) s low broken in

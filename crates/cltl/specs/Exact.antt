@@ -11,7 +11,8 @@ use Rattle.cltl.specs.Threshold.{threshold, quota}
 use Rattle.cltl.specs.Meaning.{Rows, Proper, inStep, Counts, InStepAt}
 use Rattle.cltl.specs.Rules.{tally, inner, count, rules}
 use Rattle.cltl.specs.Basics.{lt-or-le, bool-opp}
-use Rattle.cltl.specs.Operators.{Val, exact-sound, exact-complete}
+use Rattle.cltl.specs.Broken.{Val}
+use Rattle.cltl.specs.Operators.{exact-sound, exact-complete}
 use Rattle.cltl.specs.Inner.{inner-opp}
 use Rattle.cltl.specs.Quorum.{quorum-none, none-quorum}
 use Rattle.cltl.specs.Tally.{tally-not}

@@ -7,7 +7,8 @@ use Rattle.grammar.specs.Grammar.{Inner}
 use Rattle.row.specs.Lasso.{stepOf}
 use Rattle.cltl.specs.Meaning.{Rows, Proper, Bears, Satisfies}
 use Rattle.cltl.specs.Rules.{mark, inner}
-use Rattle.cltl.specs.Operators.{Val, dual, exact-sound, exact-complete}
+use Rattle.cltl.specs.Broken.{Val}
+use Rattle.cltl.specs.Operators.{dual, exact-sound, exact-complete}
 
 module _ (P : Rows) (proper : Proper P) where
   mark-sound : (i : ℕ) (p : Bool) (k t : ℕ) → T (mark P i p k (stepOf (P .h) (P .l) t)) → Val p (Bears P i k t)

@@ -3,10 +3,11 @@ pub mod Threshold
 pub mod Meaning
 pub mod Rules
 pub mod Step
+pub mod Broken
 -- promises
 pub mod Promises
 -- worked cases
-pub mod Cases
+pub mod Examples
 -- laws
 pub mod Basics
 pub mod Pace
@@ -23,4 +24,5 @@ pub mod Exact
 pub mod Standing
 pub mod Complete
 pub mod Lowest
+pub mod Globally
 pub mod Agree

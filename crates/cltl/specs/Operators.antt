@@ -9,15 +9,11 @@ use Rattle.grammar.specs.Grammar.{Form, top, leaf, neg, and, or, next, until, r
 use Rattle.row.specs.Lasso.{nextStep, stepOf}
 use Rattle.row.specs.Round.{step-next, step-below, next-below}
 use Rattle.cltl.specs.Meaning.{Until, Holds}
+use Rattle.cltl.specs.Broken.{Val}
 use Rattle.cltl.specs.Rules.{fix, judge, hasNext}
 use Rattle.cltl.specs.Pace.{Pace, until-map, pull, push}
 use Rattle.cltl.specs.Basics.{or-cases, or-l, or-r, and-l, and-r, join-mono, join-not, T-or-not}
 use Rattle.cltl.specs.Lap.{reach, kept, fix-mono, fix-not}
-
--- what `judge p` is to show of a statement
-abbrev pub Val : Bool → Type 0 → Type 0
-Val true A = A
-Val false A = A → ⊥
 
 module _ (h l : ℕ) (ok : l < h) (lo : ℕ → ℕ) (pace : Pace lo) where
   abbrev at : ℕ → ℕ

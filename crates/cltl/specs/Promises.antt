@@ -5,7 +5,8 @@ use mathlib.Core.Bool.{Bool, true}
 use mathlib.Core.Logic.{_↔_}
 use native.Mathlib.Omega.{arith}
 use lib.Dec.{T}
-use Rattle.grammar.specs.Grammar.{Inner, Threshold, Clause}
+use Rattle.cltl.specs.Globally.{globally-broken}
+use Rattle.grammar.specs.Grammar.{leaf, gl, Inner, Threshold, Clause}
 use Rattle.row.specs.Lasso.{stepOf}
 use Rattle.row.specs.Round.{step-low}
 use Rattle.cltl.specs.Meaning.{Rows, Proper, Run, Satisfies, TrueOf, InStepAt, TrueInStep}
@@ -15,7 +16,8 @@ use Rattle.cltl.specs.Sound.{rules-sound}
 use Rattle.cltl.specs.Monotone.{rules-mono}
 use Rattle.cltl.specs.Exact.{rules-exact}
 use Rattle.cltl.specs.Standing.{gather, gathered, highest}
-use Rattle.cltl.specs.Complete.{Broken, count-complete}
+use Rattle.cltl.specs.Broken.{Broken}
+use Rattle.cltl.specs.Complete.{count-complete}
 
 module _ (P : Rows) (proper : Proper P) where
   -- inner text on a row is decided exactly, at every counter
@@ -39,8 +41,12 @@ module _ (P : Rows) (proper : Proper P) where
 
   -- a count's rule is complete: where it is false, a run within d breaks the count (or, for its negation, keeps it) at a moment when its hindmost
   -- cart is at counter s
-  pub complete : (d : ℕ) (p : Bool) (x : Threshold) (s : ℕ) → s < P .h → (T (count P d p x s) → ⊥) → Broken P proper d p x s
+  pub complete : (d : ℕ) (p : Bool) (x : Threshold) (s : ℕ) → s < P .h → (T (count P d p x s) → ⊥) → Broken P d p x s
   complete d p x s low other = count-complete P proper d p x s low other
+
+  -- with `runs`: a G over one count is kept exactly when it is true of every run within d. Not kept: it is false of one
+  pub globally-exact : (d : ℕ) (x : Threshold) → (T (rules P d (gl (leaf x)) 0) → ⊥) → (r : Run (P .carts) d) × (TrueOf P r (gl (leaf x)) → ⊥)
+  globally-exact d x other = globally-broken P proper d x other
 
 -- every standing of spread at most d is reached by a run
 pub reached : (carts d : ℕ) (K : ℕ → ℕ) → ((i j : ℕ) → i < carts → j < carts → K i ≤ K j + d) → (r : Run carts d) × (t : ℕ) × ((i : ℕ) → i < carts → r .at t i ≡ K i)

@@ -11,7 +11,8 @@ use Rattle.row.specs.Round.{step-low}
 use Rattle.cltl.specs.Threshold.{threshold, quota}
 use Rattle.cltl.specs.Meaning.{Rows, Proper, AtLeast, Run, Satisfies, Counts, TrueOf}
 use Rattle.cltl.specs.Rules.{window, inner, count, rules, hasNext}
-use Rattle.cltl.specs.Operators.{Val, sound}
+use Rattle.cltl.specs.Broken.{Val}
+use Rattle.cltl.specs.Operators.{sound}
 use Rattle.cltl.specs.Inner.{inner-sound}
 use Rattle.cltl.specs.Quorum.{window-from, quorum-cases}
 use Rattle.cltl.specs.Tally.{tally-least, tally-most, one-of, not-all}

@@ -16,7 +16,8 @@ use Rattle.marks.specs.Table.{rowsIn}
 use Rattle.drift.specs.Tree.{oneOf, twoOf, Ordered, innerTree, clauseTree}
 use Rattle.drift.specs.Operator.{under, oneRule, twoRule}
 use Rattle.drift.specs.Answer.{ClauseRow}
-use Rattle.drift.specs.NodeRows.{kindAt, firstAt, secondAt, thirdAt, at-top, at-mark, at-count, at-one, at-two}
+use Rattle.drift.specs.Tree.{kindAt, firstAt, secondAt, thirdAt}
+use Rattle.drift.specs.NodeRows.{at-top, at-mark, at-count, at-one, at-two}
 
 module _ (nodes table : List ℕ) (carts h l d : ℕ) (ok : l < h) (p : Bool) (k r kind x : ℕ) (ek : kind ≡ kindAt nodes k) (ex : x ≡ firstAt nodes k) where
   abbrev rule : Bool → Threshold → ℕ → Bool

@@ -11,7 +11,8 @@ use Rattle.drift.specs.Operator.{under, oneRule, twoRule}
 use Rattle.marks.specs.Table.{markRow, rowsIn}
 use Rattle.drift.specs.Answer.{InnerRow}
 use Rattle.drift.specs.Judged.{row-of}
-use Rattle.drift.specs.NodeRows.{kindAt, firstAt, secondAt, at-top, at-mark, at-count, at-one, at-two}
+use Rattle.drift.specs.Tree.{kindAt, firstAt, secondAt}
+use Rattle.drift.specs.NodeRows.{at-top, at-mark, at-count, at-one, at-two}
 
 module _ (nodes table : List ℕ) (h l i : ℕ) (ok : l < h) (p : Bool) (k r kind x : ℕ) (ek : kind ≡ kindAt nodes k) (ex : x ≡ firstAt nodes k) where
   abbrev rule : ℕ → Bool → ℕ → ℕ → Bool

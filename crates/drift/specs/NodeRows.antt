@@ -7,29 +7,15 @@ use mathlib.Core.Logic.{⊎-elim}
 use native.Mathlib.Omega.{arith}
 use lib.Dec.{eqb}
 use borrow.Author.Tests.{ne-eqb}
-use lib.ListN.{getD}
 use Rattle.grammar.specs.Grammar.{Form}
 use Rattle.grammar.specs.Nodes.{Node, topN, markN, countN, oneN, twoN, next₁, ev₁, gl₁}
 use Rattle.cltl.specs.Rules.{judge}
 use Rattle.cltl.specs.Basics.{lt-or-le}
 use Rattle.mask.specs.Mask.{on, Row}
-use Rattle.drift.specs.Tree.{nodeAt, oneOf, twoOf, Below, Ordered}
+use Rattle.drift.specs.Tree.{kindAt, firstAt, secondAt, thirdAt, nodeAt, oneOf, twoOf, Below, Ordered}
 use Rattle.drift.specs.Operator.{under, oneRule, twoRule}
 use Rattle.drift.specs.Judged.{Judged, node-row, one-row, two-row, top-row}
 use Rattle.drift.specs.Kinds.{kind-top, kind-mark, kind-one, kind-two, kind-count}
-
-module _ (block : List ℕ) (k : ℕ) where
-  abbrev pub kindAt : ℕ
-  kindAt = getD block (4 * k) 0
-
-  abbrev pub firstAt : ℕ
-  firstAt = getD block (4 * k + 1) 0
-
-  abbrev pub secondAt : ℕ
-  secondAt = getD block (4 * k + 2) 0
-
-  abbrev pub thirdAt : ℕ
-  thirdAt = getD block (4 * k + 3) 0
 
 module _ (block : List ℕ) (k : ℕ) (o : Ordered block (k + 1)) where
   is-below : (x : Node) → nodeAt block k ≡ x → Below k x

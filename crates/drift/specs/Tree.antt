@@ -18,8 +18,22 @@ abbrev pub nodeOf : ℕ → ℕ → ℕ → ℕ → Node
 nodeOf kind x y z =
     cond (eqb kind 0) topN (cond (eqb kind 1) (markN x) (cond (ltb kind 6) (oneN (oneOf kind) x) (cond (ltb kind 10) (twoN (twoOf kind) x y) (countN x (y + 256 * z) (eqb kind 11)))))
 
-abbrev pub nodeAt : List ℕ → ℕ → Node
-nodeAt block k = nodeOf (getD block (4 * k) 0) (getD block (4 * k + 1) 0) (getD block (4 * k + 2) 0) (getD block (4 * k + 3) 0)
+-- the four bytes of node k
+module _ (block : List ℕ) (k : ℕ) where
+  abbrev pub kindAt : ℕ
+  kindAt = getD block (4 * k) 0
+
+  abbrev pub firstAt : ℕ
+  firstAt = getD block (4 * k + 1) 0
+
+  abbrev pub secondAt : ℕ
+  secondAt = getD block (4 * k + 2) 0
+
+  abbrev pub thirdAt : ℕ
+  thirdAt = getD block (4 * k + 3) 0
+
+  abbrev pub nodeAt : Node
+  nodeAt = nodeOf kindAt firstAt secondAt thirdAt
 
 -- operands have smaller numbers than their operator, marks are below 32
 abbrev pub Below : ℕ → Node → Type 0

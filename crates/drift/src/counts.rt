@@ -1,4 +1,5 @@
 // A count over all carts, at every step at once.
+use crate::Ground;
 use crate::inner::inner_row;
 ghost use mathlib.Core.Path.{_≡_};
 ghost use Prim.Native.Nat.{_+_, _<_, _≤_, min};
@@ -40,30 +41,20 @@ fn capped(m: usize) -> usize
 }
 
 // The rule for a count of threshold m over the inner text of node x.
-pub fn count_row(
-    nodes: &[u8],
-    table: &[u64],
-    carts: usize,
-    h: usize,
-    l: usize,
-    d: usize,
-    p: bool,
-    m: usize,
-    x: usize,
-) -> u64
-    requires { ⌜ (l < h) × (h ≤ 64) × (carts ≤ 32) ⌝ }
+pub fn count_row(nodes: &[u8], table: &[u64], g: Ground, p: bool, m: usize, x: usize) -> u64
+    requires { ⌜ (g .l < g .h) × (g .h ≤ 64) × (g .carts ≤ 32) ⌝ }
     requires { ⌜ Ordered (now nodes) (x + 1) ⌝ }
-    requires { ⌜ Tabled (now table) carts h ⌝ }
-    ensures { λ r. ⌜ Row h r (quorum h l carts d m (λ i. inner (rowsIn (now (table .entry)) carts h l) i p (innerTree (now (nodes .entry)) (length (now (nodes .entry))) x))) ⌝ }
+    requires { ⌜ Tabled (now table) (g .carts) (g .h) ⌝ }
+    ensures { λ r. ⌜ Row (g .h) r (quorum (g .h) (g .l) (g .carts) (g .d) m (λ i. inner (rowsIn (now (table .entry)) (g .carts) (g .h) (g .l)) i p (innerTree (now (nodes .entry)) (length (now (nodes .entry))) x))) ⌝ }
 {
     let mut planes = [0u64; 7];
-    mask::start_planes(&mut planes, capped(m), h);
-    let mut all = mask::full(h);
+    mask::start_planes(&mut planes, capped(m), g.h);
+    let mut all = mask::full(g.h);
     let mut i = 0;
-    while i < carts {
-        let a = inner_row(nodes, table, h, l, i, p, x);
+    while i < g.carts {
+        let a = inner_row(nodes, table, g.h, g.l, i, p, x);
         all = mask::join_row(true, a, all);
-        mask::add_row(&mut planes, mask::window_row(a, h, l, d));
+        mask::add_row(&mut planes, mask::window_row(a, g.h, g.l, g.d));
         i += 1;
     }
     let many = mask::reached(&planes);

@@ -5,7 +5,7 @@ use endian::wide16;
 ghost use mathlib.Core.Path.{_≡_};
 ghost use Prim.Native.Nat.{_+_, _*_, _<_};
 ghost use Rattle.drift.specs.Tree.{Ordered};
-ghost use Rattle.drift.specs.NodeRows.{kindAt, firstAt, secondAt, thirdAt};
+ghost use Rattle.drift.specs.Tree.{kindAt, firstAt, secondAt, thirdAt};
 
 pub fn kind_at(nodes: &[u8], k: usize) -> u8
     requires { ⌜ Ordered (now nodes) (k + 1) ⌝ }

@@ -1,4 +1,5 @@
 // What the refusals of a clause name: "next" outside a count, and the step at which a G fails.
+use crate::Ground;
 use crate::clauses::clause_row;
 use crate::nodes::first_at;
 use crate::nodes::kind_at;
@@ -49,23 +50,15 @@ fn lowest_off(a: u64, h: usize) -> usize
 }
 
 // The step at which node k's clause fails, if it does.
-pub fn failing_step(
-    nodes: &[u8],
-    table: &[u64],
-    carts: usize,
-    h: usize,
-    l: usize,
-    d: usize,
-    k: usize,
-) -> usize
-    requires { ⌜ (l < h) × (h ≤ 64) × (carts ≤ 32) ⌝ }
+pub fn failing_step(nodes: &[u8], table: &[u64], g: Ground, k: usize) -> usize
+    requires { ⌜ (g .l < g .h) × (g .h ≤ 64) × (g .carts ≤ 32) ⌝ }
     requires { ⌜ Ordered (now nodes) (k + 1) ⌝ }
-    requires { ⌜ Tabled (now table) carts h ⌝ }
-    ensures { λ r. ⌜ ((n : ℕ) → k < n → r ≡ failing (rowsIn (now (table .entry)) carts h l) d (clauseTree (now (nodes .entry)) n k)) × (r ≤ 64) ⌝ }
+    requires { ⌜ Tabled (now table) (g .carts) (g .h) ⌝ }
+    ensures { λ r. ⌜ ((n : ℕ) → k < n → r ≡ failing (rowsIn (now (table .entry)) (g .carts) (g .h) (g .l)) (g .d) (clauseTree (now (nodes .entry)) n k)) × (r ≤ 64) ⌝ }
 {
     if kind_at(nodes, k) == 5 {
-        let body = clause_row(nodes, table, carts, h, l, d, true, first_at(nodes, k));
-        lowest_off(body, h)
+        let body = clause_row(nodes, table, g, true, first_at(nodes, k));
+        lowest_off(body, g.h)
     } else {
         0
     }

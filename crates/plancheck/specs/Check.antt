@@ -46,6 +46,10 @@ nextVerdict n [] = Accepted
 nextVerdict n (c ∷ cs) = cond (hasNext c) (AboutRules (refused 16 n 0)) (nextVerdict (suc n) cs)
 
 module _ (P : Rows) (d : ℕ) where
+  -- 17 for clause n alone, if it is not kept
+  abbrev pub clauseVerdict : ℕ → Clause → Verdict
+  clauseVerdict n c = cond (rules P d c 0) Accepted (AboutRules (refused 17 n (failing P d c)))
+
   -- 17, from clause n on: "A plan is kept if every clause is true at step 0."
   unfoldable pub keptVerdict : ℕ → List Clause → Verdict
   keptVerdict n [] = Accepted

@@ -4,7 +4,6 @@ use native.Mathlib.Omega.{arith}
 use mathlib.Core.Path.{_≡_, sym, subst, _∙_}
 use mathlib.Core.List.{List}
 use lib.ListN.{length, drop}
-use Rattle.refusal.specs.declared.Verdict.{Verdict}
 use Rattle.record.specs.Buffer.{stored}
 use Rattle.grammar.specs.Grammar.{Clause}
 use Rattle.grammar.specs.Limits.{countNodes}
@@ -14,7 +13,7 @@ use Rattle.token.specs.Block.{nodesBytes}
 use Rattle.token.specs.Parts.{PartIs}
 use Rattle.token.specs.declared.Part.{Part}
 use Rattle.drift.specs.Tree.{Ordered, clauseTree}
-use Rattle.plancheck.specs.Lines.{Line, Going, next-line}
+use Rattle.plancheck.specs.Lines.{Left, Line, next-line}
 use Rattle.plancheck.specs.NodesHeld.{held}
 
 pub record Judgeable (block : List ℕ) (n : ℕ) (c : Clause) : Type 0 where
@@ -45,8 +44,8 @@ pub record Ready (s before : List ℕ) (r : Part) (block : List ℕ) (n : ℕ) (
   pub line : Line s before r block n cs
   pub judge : Judgeable block (r .n) (line .clause)
 
-pub ready : (go : ℕ → List Clause → Verdict) (s before : List ℕ) (r : Part) (block : List ℕ) (at n : ℕ) → at < length s
-    → PartIs countNodes flatCount s 0 128 before r block (clauseLine 128 (drop at s)) → (g : Going go s at n) → length before ≡ 512 → Ready s before r block n (g .rest)
-ready go s before r block at n inside h g size =
-    let l = next-line s before r block at n inside h (g .rest) (g .left) in
-    record { line = l; judge = line-held s before r block n (g .rest) l size }
+pub ready : (s before : List ℕ) (r : Part) (block : List ℕ) (at n : ℕ) → at < length s
+    → PartIs countNodes flatCount s 0 128 before r block (clauseLine 128 (drop at s)) → (cs : List Clause) → Left s at n cs → length before ≡ 512 → Ready s before r block n cs
+ready s before r block at n inside h cs left size =
+    let l = next-line s before r block at n inside h cs left in
+    record { line = l; judge = line-held s before r block n cs l size }

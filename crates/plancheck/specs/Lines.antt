@@ -7,7 +7,6 @@ use mathlib.Core.List.{List, [], _∷_}
 use borrow.Author.Tests.{le-ltb}
 use lib.ListN.{length, drop, drop-of-length-le}
 use lib.Seq.{drop-cons}
-use Rattle.refusal.specs.declared.Verdict.{Verdict}
 use Rattle.refusal.specs.declared.Verdict.the-variants.{Accepted}
 use Rattle.record.specs.All.{All}
 use Rattle.grammar.specs.Grammar.{Clause, Sheet, done, line}
@@ -125,13 +124,8 @@ pub accepted-good : (s : List ℕ) → rulesVerdict s ≡ Accepted → All Good 
 unfolding rulesVerdict
 accepted-good s e = let a = promises s .sound (clausesOf (readSheet s)) (sheet-read (readSheet s) e) in fits-good (a .sheet) (a .fits)
 
----- A stage that goes through the clauses, with what it still has to say.
-module _ (go : ℕ → List Clause → Verdict) (s : List ℕ) where
-  pub record Going (at n : ℕ) : Type 0 where
-    pub rest : List Clause
-    pub left : Left s at n rest
-    pub same : go n rest ≡ go 0 (clausesOf (readSheet s))
-
+---- From the first line on.
+module _ (s : List ℕ) where
   abbrev From : List Clause → Type 0
   From cs = (m : ℕ) × (r : List ℕ) × (lines 32 s ≡ got cs m r)
 
@@ -154,17 +148,6 @@ module _ (go : ℕ → List Clause → Verdict) (s : List ℕ) where
       let x = from-start cs e (a .short) (a .some) in
       record { few = omega arith; good = fits-good (a .sheet) (a .fits); allowed = x .0; end = x .1; read = x .2 }
 
-  pub going-start : rulesVerdict s ≡ Accepted → Going 0 0
+  pub all-left : rulesVerdict s ≡ Accepted → Left s 0 0 (clausesOf (readSheet s))
   unfolding rulesVerdict
-  going-start e = record { rest = clausesOf (readSheet s); left = begun (clausesOf (readSheet s)) (sheet-read (readSheet s) e); same = refl }
-
-  pub going-end : ((n : ℕ) → go n [] ≡ Accepted) → (at n : ℕ) → Going at n → length s ≤ at → Accepted ≡ go 0 (clausesOf (readSheet s))
-  going-end f at n g q = sym (f n) ∙ ap (go n) (sym (none-left s at n (g .rest) (g .left) q)) ∙ g .same
-
-  module _ (before : List ℕ) (r : Part) (block : List ℕ) (at n : ℕ) (g : Going at n) (l : Line s before r block n (g .rest)) where
-    -- what the stage says of this clause and those after it
-    pub going-here : go n (l .clause ∷ l .rest) ≡ go 0 (clausesOf (readSheet s))
-    going-here = ap (go n) (sym (l .first)) ∙ g .same
-
-    pub going-on : go n (l .clause ∷ l .rest) ≡ go (n + 1) (l .rest) → Going (r .at) (n + 1)
-    going-on e = record { rest = l .rest; left = l .left; same = sym e ∙ going-here }
+  all-left e = begun (clausesOf (readSheet s)) (sheet-read (readSheet s) e)

@@ -1,72 +1,68 @@
-// The clauses of an accepted sheet: 16, then 17.
+// The clauses of an accepted sheet in one pass: 16 wherever it stands, else the first 17.
+use drift::Ground;
 use refusal::Verdict;
 ghost use mathlib.Core.Path.{_≡_};
-ghost use mathlib.Core.Bool.{cond};
-ghost use Prim.Native.Nat.{_≤_, _<_};
+ghost use mathlib.Core.Bool.{false, cond};
+ghost use Prim.Native.Nat.{ℕ, _+_, _≤_, _<_};
 ghost use lib.Dec.{eqb};
+ghost use Rattle.refusal.specs.Stages.{andThen};
 ghost use Rattle.refusal.specs.declared.Verdict.the-variants.{Accepted};
 ghost use Rattle.grammar.specs.Reader.{readSheet};
 ghost use Rattle.sheet.specs.Rules.{rulesVerdict};
+ghost use Rattle.cltl.specs.Rules.{hasNext};
 ghost use Rattle.marks.specs.Table.{Tabled, rowsIn};
-ghost use Rattle.plancheck.specs.Check.{clausesOf, nextVerdict, keptVerdict};
+ghost use Rattle.drift.specs.Tree.{Ordered, clauseTree};
+ghost use Rattle.plancheck.specs.Check.{clausesOf, clauseVerdict, clausesVerdict};
 
-// The lowest clause with "next" outside a count.
-fn next_verdict(rules: &[u8]) -> Verdict
-    requires { ⌜ rulesVerdict (now rules) ≡ Accepted ⌝ }
-    ensures { λ v. ⌜ v ≡ nextVerdict 0 (clausesOf (readSheet (now (rules .entry)))) ⌝ }
-{
-    let mut nodes = [0u8; 512];
-    let mut at: usize = 0;
-    let mut n: u32 = 0;
-    while at < rules.len() {
-        let r = sheet::read_clause(rules, at, &mut nodes);
-        if drift::has_next(&nodes, r.n - 1) {
-            return Verdict::Rules(refusal::refuse(16, n, 0));
-        }
-        at = r.at;
-        n += 1;
-    }
-    Verdict::Accepted
-}
-
-// With a drift no clause may look one tick on.
-pub fn steady_verdict(rules: &[u8], d: usize) -> Verdict
-    requires { ⌜ rulesVerdict (now rules) ≡ Accepted ⌝ }
-    ensures { λ v. ⌜ v ≡ cond (eqb d 0) Accepted (nextVerdict 0 (clausesOf (readSheet (now (rules .entry))))) ⌝ }
+// Whether a clause looks one tick on although there is drift.
+fn looks_on(nodes: &[u8], k: usize, d: usize) -> bool
+    requires { ⌜ Ordered (now nodes) (k + 1) ⌝ }
+    ensures { λ r. ⌜ ((m : ℕ) → k < m → r ≡ cond (eqb d 0) false (hasNext (clauseTree (now (nodes .entry)) m k))) ⌝ }
 {
     if d == 0 {
-        return Verdict::Accepted;
+        return false;
     }
-    next_verdict(rules)
+    drift::has_next(nodes, k)
 }
 
-// The lowest clause that the drift rules do not keep.
-pub fn kept_verdict(
-    rules: &[u8],
-    table: &[u64],
-    carts: usize,
-    h: usize,
-    l: usize,
-    d: usize,
-) -> Verdict
+// What was found before clause n, or the verdict on clause n.
+fn first_found(found: Verdict, nodes: &[u8], table: &[u64], g: Ground, k: usize, n: u32) -> Verdict
+    requires { ⌜ (g .l < g .h) × (g .h ≤ 64) × (g .carts ≤ 32) ⌝ }
+    requires { ⌜ Ordered (now nodes) (k + 1) ⌝ }
+    requires { ⌜ Tabled (now table) (g .carts) (g .h) ⌝ }
+    ensures { λ v. ⌜ ((m : ℕ) → k < m → v ≡ andThen found (clauseVerdict (rowsIn (now (table .entry)) (g .carts) (g .h) (g .l)) (g .d) n (clauseTree (now (nodes .entry)) m k))) ⌝ }
+{
+    if !refusal::accepts(found) {
+        return found;
+    }
+    let row = drift::clause_row(nodes, table, g, true, k);
+    if row % 2 == 1 {
+        return Verdict::Accepted;
+    }
+    let step = drift::failing_step(nodes, table, g, k);
+    Verdict::Rules(refusal::refuse(17, n, step as u32))
+}
+
+// The verdict on the clauses.
+pub fn judge_lines(rules: &[u8], table: &[u64], g: Ground) -> Verdict
     requires { ⌜ rulesVerdict (now rules) ≡ Accepted ⌝ }
-    requires { ⌜ (l < h) × (h ≤ 64) × (carts ≤ 32) ⌝ }
-    requires { ⌜ Tabled (now table) carts h ⌝ }
-    ensures { λ v. ⌜ v ≡ keptVerdict (rowsIn (now (table .entry)) carts h l) d 0 (clausesOf (readSheet (now (rules .entry)))) ⌝ }
+    requires { ⌜ (g .l < g .h) × (g .h ≤ 64) × (g .carts ≤ 32) ⌝ }
+    requires { ⌜ Tabled (now table) (g .carts) (g .h) ⌝ }
+    ensures { λ v. ⌜ v ≡ clausesVerdict (rowsIn (now (table .entry)) (g .carts) (g .h) (g .l)) (g .d) (clausesOf (readSheet (now (rules .entry)))) ⌝ }
 {
     let mut nodes = [0u8; 512];
+    let mut found = Verdict::Accepted;
     let mut at: usize = 0;
     let mut n: u32 = 0;
     while at < rules.len() {
         let r = sheet::read_clause(rules, at, &mut nodes);
         let last = r.n - 1;
-        let row = drift::clause_row(&nodes, table, carts, h, l, d, true, last);
-        if row % 2 == 0 {
-            let step = drift::failing_step(&nodes, table, carts, h, l, d, last);
-            return Verdict::Rules(refusal::refuse(17, n, step as u32));
+        if looks_on(&nodes, last, g.d) {
+            return Verdict::Rules(refusal::refuse(16, n, 0));
         }
+        found = first_found(found, &nodes, table, g, last, n);
         at = r.at;
         n += 1;
     }
-    Verdict::Accepted
+    found
 }

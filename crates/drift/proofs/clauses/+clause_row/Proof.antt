@@ -25,7 +25,7 @@ use Rattle.drift.proofs.clauses.+clause_row.{statement}
 use Rattle.drift.proofs.clauses.+clause_row.Tie.{close}
 
 abbrev μ-clause-row : Measures 2 clause-row-kinds.ps ℕ
-μ-clause-row κs a = a .1 .1 .1 .1 .1 .1 .1 .0
+μ-clause-row κs a = a .1 .1 .1 .1 .0
 
 abbrev clause-row-at : ℕ → In 2 clause-row-kinds.ps
 clause-row-at t =
@@ -56,7 +56,7 @@ clause-row-constant-requires t c κs = (omega arith, omega arith)
 clause-row-returns-2 : (t : ℕ) → clause-row-lts.Need-returns-2 (clause-row-calls t) (clause-row-at t) clause-row.Post
 clause-row-returns-2 t c =
     let s = c .before .before .before .before .before .before in
-    clause-top (s .args .nodes .now) (s .args .table .now) (s .args .carts) (s .args .h) (s .args .l) (s .args .d) (s .pre .1 .0 .0) (s .args .p) (s .args .k) _ _ _ (c .before .before .before .kind-at .ensures) refl (c .before .if2 .taken) (c .constant .ensures)
+    clause-top (s .args .nodes .now) (s .args .table .now) (s .args .g .carts) (s .args .g .h) (s .args .g .l) (s .args .g .d) (s .pre .1 .0 .0) (s .args .p) (s .args .k) _ _ _ (c .before .before .before .kind-at .ensures) refl (c .before .if2 .taken) (c .constant .ensures)
 
 clause-row-first-at-requires : (t : ℕ) → clause-row-lts.Need-first-at-requires (clause-row-calls t) (clause-row-at t) clause-row.Post
 clause-row-first-at-requires t c κs = c .before .before .before .before .before .pre .1 .1 .0
@@ -81,9 +81,9 @@ clause-row-one-row-requires t c κs =
 clause-row-returns-3 : (t : ℕ) → clause-row-lts.Need-returns-3 (clause-row-calls t) (clause-row-at t) clause-row.Post
 clause-row-returns-3 t c =
     let s = c .before .before .before .before .before .before .before .before .before .before in
-    let a : ClauseRow (s .args .nodes .now) (s .args .table .now) (s .args .carts) (s .args .h) (s .args .l) (s .args .d) (under (oneOf (c .before .before .before .before .before .before .before .kind-at .result)) (s .args .p)) (c .before .before .before .before .first-at .result) (c .before .before .clause-row .result) =
+    let a : ClauseRow (s .args .nodes .now) (s .args .table .now) (s .args .g .carts) (s .args .g .h) (s .args .g .l) (s .args .g .d) (under (oneOf (c .before .before .before .before .before .before .before .kind-at .result)) (s .args .p)) (c .before .before .before .before .first-at .result) (c .before .before .clause-row .result) =
     (rw (c .before .before .before .under .ensures) at (c .before .before .clause-row .ensures)) in
-    clause-one (s .args .nodes .now) (s .args .table .now) (s .args .carts) (s .args .h) (s .args .l) (s .args .d) (s .pre .1 .0 .0) (s .args .p) (s .args .k) _ _ _ (c .before .before .before .before .before .before .before .kind-at .ensures) (c .before .before .before .before .first-at .ensures) _ (s .pre .1 .1 .0) a (omega arith) (omega arith) (c .one-row .ensures)
+    clause-one (s .args .nodes .now) (s .args .table .now) (s .args .g .carts) (s .args .g .h) (s .args .g .l) (s .args .g .d) (s .pre .1 .0 .0) (s .args .p) (s .args .k) _ _ _ (c .before .before .before .before .before .before .before .kind-at .ensures) (c .before .before .before .before .first-at .ensures) _ (s .pre .1 .1 .0) a (omega arith) (omega arith) (c .one-row .ensures)
 
 clause-row-second-at-requires : (t : ℕ) → clause-row-lts.Need-second-at-requires (clause-row-calls t) (clause-row-at t) clause-row.Post
 clause-row-second-at-requires t c κs = c .before .before .before .before .before .before .before .before .before .pre .1 .1 .0
@@ -106,9 +106,9 @@ clause-row-two-row-requires t c κs =
 clause-row-returns-4 : (t : ℕ) → clause-row-lts.Need-returns-4 (clause-row-calls t) (clause-row-at t) clause-row.Post
 clause-row-returns-4 t c =
     let s = c .before .before .before .before .before .before .before .before .before .before .before .before in
-    let a : ClauseRow (s .args .nodes .now) (s .args .table .now) (s .args .carts) (s .args .h) (s .args .l) (s .args .d) (under (oneOf (c .before .before .before .before .before .before .before .before .before .kind-at .result)) (s .args .p)) (c .before .before .before .before .before .before .first-at .result) (c .before .before .before .before .clause-row .result) =
+    let a : ClauseRow (s .args .nodes .now) (s .args .table .now) (s .args .g .carts) (s .args .g .h) (s .args .g .l) (s .args .g .d) (under (oneOf (c .before .before .before .before .before .before .before .before .before .kind-at .result)) (s .args .p)) (c .before .before .before .before .before .before .first-at .result) (c .before .before .before .before .clause-row .result) =
     (rw (c .before .before .before .before .before .under .ensures) at (c .before .before .before .before .clause-row .ensures)) in
-    clause-two (s .args .nodes .now) (s .args .table .now) (s .args .carts) (s .args .h) (s .args .l) (s .args .d) (s .pre .1 .0 .0) (s .args .p) (s .args .k) _ _ _ (c .before .before .before .before .before .before .before .before .before .kind-at .ensures) (c .before .before .before .before .before .before .first-at .ensures) _ (s .pre .1 .1 .0) a _ _ (c .before .before .second-at .ensures) (omega arith) (omega arith) (c .before .clause-row2 .ensures) (c .two-row .ensures)
+    clause-two (s .args .nodes .now) (s .args .table .now) (s .args .g .carts) (s .args .g .h) (s .args .g .l) (s .args .g .d) (s .pre .1 .0 .0) (s .args .p) (s .args .k) _ _ _ (c .before .before .before .before .before .before .before .before .before .kind-at .ensures) (c .before .before .before .before .before .before .first-at .ensures) _ (s .pre .1 .1 .0) a _ _ (c .before .before .second-at .ensures) (omega arith) (omega arith) (c .before .clause-row2 .ensures) (c .two-row .ensures)
 
 pub +clause-row-spec : {M : Type 1} → statement M
 +clause-row-spec = close μ-clause-row λ t. clause-row-lts.spec (clause-row-calls t)
