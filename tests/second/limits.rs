@@ -100,33 +100,14 @@ pub fn other_number(random: &mut Random, sheet: &[u8]) -> Vec<u8> {
     out
 }
 
+const NUMBERS: &str = "31,32,33,99,100,101,999,1000,1001,100%,101%,102 %,999%,1000%,0,00,01,\
+    4294967296,18446744073709551617,65536,256";
+
 fn number(random: &mut Random) -> Vec<u8> {
-    let fixed = [
-        "31",
-        "32",
-        "33",
-        "99",
-        "100",
-        "101",
-        "999",
-        "1000",
-        "1001",
-        "100%",
-        "101%",
-        "102 %",
-        "999%",
-        "1000%",
-        "0",
-        "00",
-        "01",
-        "4294967296",
-        "18446744073709551617",
-        "65536",
-        "256",
-    ];
+    let numbers: Vec<&str> = NUMBERS.split(',').collect();
     match random.below(8) {
         0 => vec![random.pick(b"123456789"); random.range(1, 40)],
         1 => random.below(2000).to_string().into_bytes(),
-        _ => random.pick(&fixed).as_bytes().to_vec(),
+        _ => random.pick(&numbers).as_bytes().to_vec(),
     }
 }

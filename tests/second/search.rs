@@ -12,15 +12,17 @@ use crate::truth::Meaning;
 struct Joined<'a> {
     standings: &'a Standings,
     meaning: &'a Meaning<'a>,
-    /// The nodes with U, R, F or G, in the order of a guess's bits.
+    /// A guess has a bit for each of these nodes.
     temporal: Vec<usize>,
-    /// For each state: what each temporal node says now, whether its guess has come true, the root.
+    /// For each state, in the same bits: which of the nodes hold.
     says: Vec<usize>,
-    true_now: Vec<usize>,
+    /// For each state: which of them put nothing off.
+    settled: Vec<usize>,
+    /// For each state: whether the clause holds.
     root: Vec<bool>,
 }
 
-/// How many temporal operators outside counts a clause has.
+/// The nodes outside counts with U, R, F or G, operands first.
 pub fn temporal_nodes(meaning: &Meaning) -> Vec<usize> {
     let mut found = Vec::new();
     collect(meaning, meaning.clause.root, &mut found);
@@ -54,13 +56,13 @@ pub fn some_run_breaks(standings: &Standings, meaning: &Meaning) -> bool {
 impl<'a> Joined<'a> {
     fn new(standings: &'a Standings, meaning: &'a Meaning<'a>) -> Joined<'a> {
         let temporal = temporal_nodes(meaning);
-        let (says, true_now, root) = (Vec::new(), Vec::new(), Vec::new());
+        let (says, settled, root) = (Vec::new(), Vec::new(), Vec::new());
         let mut joined = Joined {
             standings,
             meaning,
             temporal,
             says,
-            true_now,
+            settled,
             root,
         };
         for standing in &standings.list {
@@ -76,14 +78,14 @@ impl<'a> Joined<'a> {
     }
 
     fn add(&mut self, standing: &[usize], guess: usize) {
-        let (mut says, mut true_now) = (0, 0);
+        let (mut says, mut settled) = (0, 0);
         for (bit, node) in self.temporal.iter().enumerate() {
             says |= (self.value(*node, standing, guess) as usize) << bit;
-            true_now |= (self.settled(*node, standing, guess) as usize) << bit;
+            settled |= (self.nothing_put_off(*node, standing, guess) as usize) << bit;
         }
         let root = self.value(self.meaning.clause.root, standing, guess);
         self.says.push(says);
-        self.true_now.push(true_now);
+        self.settled.push(settled);
         self.root.push(root);
     }
 
@@ -109,9 +111,8 @@ impl<'a> Joined<'a> {
         }
     }
 
-    /// Whether nothing is put off here: an until that holds has its right side, a release that fails
-    /// lacks it.
-    fn settled(&self, node: usize, standing: &[usize], guess: usize) -> bool {
+    /// An until that holds has its right side here, a release that fails lacks it here.
+    fn nothing_put_off(&self, node: usize, standing: &[usize], guess: usize) -> bool {
         let Node { op, left, right } = self.meaning.clause.nodes[node];
         let holds = self.value(node, standing, guess);
         let goal = if op.operands() == 2 { right } else { left };
@@ -230,7 +231,7 @@ impl<'a> Components<'a> {
         };
         let met = members
             .iter()
-            .fold(0, |all, member| all | self.joined.true_now[*member]);
+            .fold(0, |all, member| all | self.joined.settled[*member]);
         let lasting = met == self.joined.guesses() - 1 && members.iter().any(moving);
         members.iter().for_each(|member| self.done[*member] = true);
         lasting
