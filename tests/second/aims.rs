@@ -1,9 +1,11 @@
 //! Random triples, each aimed at one verdict.
 
 use crate::clauses::Clauses;
-use crate::damage::{self, Records, Triple};
+use crate::damage::{self, Triple};
+use crate::faults::Records;
 use crate::limits;
 use crate::random::Random;
+use crate::sheet;
 use crate::sheets::{self, Wish};
 use crate::world::{Size, World};
 
@@ -15,28 +17,29 @@ const AIMS: [usize; 19] = [
 pub fn triple(random: &mut Random) -> Triple {
     let aim = random.weighted(&AIMS) as u32;
     let mut triple = match aim {
-        0 | 17 => judged(random, aim),
+        0 => with_clauses(random, Wish::Kept),
+        17 => with_clauses(random, Wish::Broken),
         1..=11 => with_fault(random, aim),
         12..=16 => with_sheet(random, aim),
         _ => damaged(random),
     };
-    damage::without_later_kinds(&mut triple.floor);
-    damage::without_later_kinds(&mut triple.plan);
-    triple
-        .rules
-        .iter_mut()
-        .filter(|byte| **byte == b'@')
-        .for_each(|byte| *byte = b'#');
+    damage::without_later_forms(&mut triple);
     triple
 }
 
-/// A triple whose clauses are judged and all true.
+/// A triple whose clauses are all true.
 pub fn accepted(random: &mut Random) -> Triple {
-    judged(random, 0)
+    with_clauses(random, Wish::Kept)
+}
+
+/// A triple whose clauses may be true or not.
+pub fn judged(random: &mut Random) -> Triple {
+    let wish = random.pick(&[Wish::Kept, Wish::Broken, Wish::Any]);
+    with_clauses(random, wish)
 }
 
 fn size(random: &mut Random) -> Size {
-    [Size::Small, Size::Middle, Size::Large, Size::Limit][random.weighted(&[420, 380, 170, 30])]
+    [Size::Small, Size::Middle, Size::Large, Size::Limit][random.weighted(&[400, 340, 200, 60])]
 }
 
 fn with_rules(world: &World, rules: Vec<u8>) -> Triple {
@@ -44,27 +47,19 @@ fn with_rules(world: &World, rules: Vec<u8>) -> Triple {
     Triple { floor, plan, rules }
 }
 
-fn clauses<'a>(
-    random: &'a mut Random,
-    world: &'a World,
-    collection: &'a crate::logic::Collection,
-) -> Clauses<'a> {
-    let next_outside = world.plan.d == 0 && random.chance(60);
-    Clauses {
-        random,
-        collection,
-        marks: &world.marks,
-        next_outside,
-    }
-}
-
-fn judged(random: &mut Random, aim: u32) -> Triple {
-    let size = size(random);
+fn with_clauses(random: &mut Random, wish: Wish) -> Triple {
+    // Now and then everything is as large as it may be.
+    let full = random.below(4000) == 0;
+    let size = if full { Size::Limit } else { size(random) };
     let world = World::random(random, size);
     let collection = world.collection();
-    let wish = if aim == 0 { Wish::Kept } else { Wish::Broken };
-    let mut clauses = clauses(random, &world, &collection);
-    let count = sheets::count(&mut clauses);
+    let mut clauses = Clauses::new(random, &world, &collection);
+    clauses.next_outside = world.plan.d == 0 && clauses.random.chance(60);
+    let mut count = sheets::count(&mut clauses);
+    if full {
+        clauses.least = 128;
+        count = sheet::MOST_CLAUSES;
+    }
     let rules = sheets::sheet(&mut clauses, count, wish);
     with_rules(&world, rules)
 }
@@ -76,7 +71,11 @@ fn with_fault(random: &mut Random, number: u32) -> Triple {
     if number > 2 {
         records.fault(random, number);
     }
-    if random.chance(10) && number > 2 && records.floor.len() > 3 && records.plan.len() > 1 {
+    // A second fault now and then, to see which one is told.
+    if number >= 10 && random.chance(40) {
+        let second = random.pick(&[10, 11, 11]);
+        records.fault(random, second);
+    } else if (3..7).contains(&number) && random.chance(15) {
         let second = random.pick(&[4, 6, 9]);
         records.fault(random, second);
     }
@@ -91,9 +90,9 @@ fn with_fault(random: &mut Random, number: u32) -> Triple {
         2 => damage::cut(random, file),
         _ => {}
     }
-    let sheets: [&[u8]; 5] = [b"true\n", b"[m0,1]|true\n", b"!true\n", b"", b"x"];
-    let rules =
-        sheets[random.weighted(&[50, 20, 15, if number == 7 { 60 } else { 5 }, 10])].to_vec();
+    let sheets: [&[u8]; 5] = [b"true\n", b"[m0,1]|true\n", b"!true\n", b"x", b""];
+    let empty = if number == 7 { 60 } else { 5 };
+    let rules = sheets[random.weighted(&[50, 20, 15, 10, empty])].to_vec();
     Triple { floor, plan, rules }
 }
 
@@ -101,32 +100,25 @@ fn with_sheet(random: &mut Random, number: u32) -> Triple {
     let size = [Size::Small, Size::Middle, Size::Large][random.weighted(&[80, 18, 2])];
     let world = World::random(random, size);
     let collection = world.collection();
-    let mut clauses = clauses(random, &world, &collection);
-    if number == 16 {
-        clauses.next_outside = true;
-    }
+    let mut clauses = Clauses::new(random, &world, &collection);
+    clauses.next_outside = number == 16 || world.plan.d == 0;
     let wish = if clauses.random.chance(80) {
         Wish::Any
     } else {
         Wish::Kept
     };
-    let rules = match number {
+    let count = clauses.random.range(1, 4);
+    let mut rules = match number {
         14 => limits::about_limits(&mut clauses),
-        _ => {
-            let count = clauses.random.range(1, 4);
-            sheets::sheet(&mut clauses, count, wish)
-        }
+        _ => sheets::sheet(&mut clauses, count, wish),
     };
-    let rules = match number {
-        12 => limits::padded(random, &rules, &[16_383, 16_384, 16_385, 16_386, 20_000]),
-        13 => {
-            let mut rules = rules;
-            damage::damage(random, &mut rules, true);
-            rules
-        }
-        15 => limits::other_number(random, &rules),
-        _ => rules,
-    };
+    match number {
+        12 => limits::pad(random, &mut rules),
+        13 => damage::damage(random, &mut rules, true),
+        14 if random.chance(15) => damage::damage(random, &mut rules, true),
+        15 => rules = limits::other_number(random, &rules),
+        _ => {}
+    }
     with_rules(&world, rules)
 }
 
@@ -134,7 +126,7 @@ fn with_sheet(random: &mut Random, number: u32) -> Triple {
 fn damaged(random: &mut Random) -> Triple {
     let world = World::random(random, Size::Small);
     let collection = world.collection();
-    let mut clauses = clauses(random, &world, &collection);
+    let mut clauses = Clauses::new(random, &world, &collection);
     let rules = sheets::sheet(&mut clauses, 2, Wish::Kept);
     let mut triple = with_rules(&world, rules);
     let which = random.range(1, 7);

@@ -3,6 +3,7 @@
 use crate::formula::{Clause, Op, Threshold};
 use crate::logic::Collection;
 use crate::random::Random;
+use crate::world::World;
 
 pub struct Clauses<'a> {
     pub random: &'a mut Random,
@@ -10,12 +11,24 @@ pub struct Clauses<'a> {
     pub marks: &'a [u32],
     /// Whether X may stand outside a count.
     pub next_outside: bool,
+    /// The least number of nodes of a clause.
+    pub least: usize,
 }
 
 const UNARY: [Op; 4] = [Op::Not, Op::Finally, Op::Globally, Op::Next];
 const BINARY: [Op; 4] = [Op::And, Op::Or, Op::Until, Op::Release];
 
-impl Clauses<'_> {
+impl<'a> Clauses<'a> {
+    pub fn new(random: &'a mut Random, world: &'a World, collection: &'a Collection) -> Self {
+        Clauses {
+            random,
+            collection,
+            marks: &world.marks,
+            next_outside: false,
+            least: 1,
+        }
+    }
+
     /// A clause of exactly so many nodes.
     pub fn clause(&mut self, nodes: usize) -> Clause {
         let mut clause = Clause::default();
@@ -33,16 +46,17 @@ impl Clauses<'_> {
     pub fn nodes(&mut self) -> usize {
         let (low, high) =
             [(2, 8), (9, 20), (21, 60), (61, 128)][self.random.weighted(&[62, 26, 9, 3])];
-        self.random.range(low, high)
+        self.random.range(low, high).max(self.least)
     }
 
     fn outer(&mut self, clause: &mut Clause, nodes: usize) -> usize {
         let count = match nodes {
             1 => return clause.push(Op::True, 0, 0),
-            2 => 90,
-            3..=6 => 60,
-            7..=12 => 20,
-            _ => 3,
+            2 => 95,
+            3..=5 => 50,
+            6..=8 => 25,
+            9..=12 => 10,
+            _ => 2,
         };
         if self.random.chance(count) {
             return self.count(clause, nodes - 1);
@@ -95,7 +109,8 @@ impl Clauses<'_> {
         clause.push(op, left, right)
     }
 
-    fn count(&mut self, clause: &mut Clause, nodes: usize) -> usize {
+    /// A count over an inner formula of so many nodes.
+    pub fn count(&mut self, clause: &mut Clause, nodes: usize) -> usize {
         let inner = self.inner(clause, nodes);
         let threshold = self.threshold(clause, inner);
         clause.push(Op::Count(threshold), inner, 0)

@@ -1,45 +1,55 @@
 //! Both checkers on random triples: every answer has to be the same.
 
 use std::fs;
+use std::ops::Range;
 use std::path::PathBuf;
 use std::time::Instant;
 
 use crate::aims;
+use crate::cases;
 use crate::check;
 use crate::damage::Triple;
 use crate::library;
 use crate::random::Random;
+use crate::tally::Tally;
 use crate::verdict::Verdict;
 
-/// The least number of times that every verdict has to be met in a whole run of the gate.
-const LEAST: usize = 500;
-
-/// What came out of a run, for each number 0 (accepted) to 17.
-#[derive(Default)]
-pub struct Tally {
-    numbers: [usize; 18],
-    smaller: usize,
+/// Document 01's cases, then so many random triples; false once a difference was told.
+pub fn gate(cases: u64, seed: u64) -> bool {
+    match cases::run() {
+        Ok(count) => println!("{count} cases of document 01"),
+        Err(text) => {
+            println!("second: {text}");
+            return false;
+        }
+    }
+    let mut tally = Tally::default();
+    run(0..cases, seed, &mut tally) && tally.told(cases)
 }
 
-/// Compares so many triples; false once a difference was told.
-pub fn run(cases: u64, seed: u64) -> bool {
-    let begun = Instant::now();
+/// The same triples and those after them, with a line for each million.
+pub fn soak(cases: u64, seed: u64) -> bool {
     let mut tally = Tally::default();
-    for case in 0..cases {
+    let begun = Instant::now();
+    for from in (0..cases).step_by(1_000_000) {
+        let end = cases.min(from + 1_000_000);
+        if !run(from..end, seed, &mut tally) {
+            return false;
+        }
+        println!("{end} cases, {:.0} seconds", begun.elapsed().as_secs_f64());
+    }
+    tally.told(cases)
+}
+
+fn run(cases: Range<u64>, seed: u64, tally: &mut Tally) -> bool {
+    for case in cases {
+        let _within = Within { seed, case };
         let triple = aims::triple(&mut Random::new(seed, case));
-        if let Err(text) = compare(&triple, &mut tally) {
+        if let Err(text) = compare(&triple, tally) {
             tell(&triple, seed, case, &text);
             return false;
         }
     }
-    tally.print();
-    println!("{:.0} seconds", begun.elapsed().as_secs_f64());
-    let met = tally.numbers.iter().all(|count| *count >= LEAST);
-    if cases >= 300_000 && !met {
-        println!("second: a verdict was met less than {LEAST} times");
-        return false;
-    }
-    println!("{cases} cases, 0 differences");
     true
 }
 
@@ -48,6 +58,7 @@ fn compare(triple: &Triple, tally: &mut Tally) -> Result<(), String> {
     let verdict = both(triple)?;
     tally.numbers[verdict.number as usize] += 1;
     if verdict == Verdict::ACCEPTED {
+        tally.note_limits(triple);
         tally.smaller += smaller_drifts(triple)?;
     }
     Ok(())
@@ -82,22 +93,26 @@ pub fn smaller_drifts(triple: &Triple) -> Result<usize, String> {
     Ok(d as usize)
 }
 
-impl Tally {
-    fn print(&self) {
-        for (number, count) in self.numbers.iter().enumerate() {
-            let name = if number == 0 {
-                "accepted".into()
-            } else {
-                format!("refused {number}")
-            };
-            println!("{name:>10}: {count}");
+/// Names the case if the program breaks off within it.
+pub struct Within {
+    pub seed: u64,
+    pub case: u64,
+}
+
+impl Drop for Within {
+    fn drop(&mut self) {
+        if std::thread::panicking() {
+            println!(
+                "second: broken off at seed {}, case {}",
+                self.seed, self.case
+            );
         }
-        println!("smaller drifts of accepted plans: {}", self.smaller);
     }
 }
 
 /// Tells a difference and saves its three files.
 pub fn tell(triple: &Triple, seed: u64, case: u64, text: &str) {
+    let text: String = text.chars().take(2000).collect();
     println!("second: a difference at seed {seed}, case {case}: {text}");
     match save(triple, seed, case) {
         Ok(folder) => println!(

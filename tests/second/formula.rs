@@ -47,6 +47,8 @@ pub struct Node {
 pub struct Clause {
     pub nodes: Vec<Node>,
     pub root: usize,
+    /// The highest level of document 01 met while reading it.
+    pub level: usize,
 }
 
 impl Op {

@@ -26,11 +26,14 @@ fn few_lines(clauses: &mut Clauses) -> Vec<u8> {
 }
 
 fn lines(clauses: &mut Clauses) -> Vec<u8> {
-    let count = clauses.random.range(31, 33);
+    let count = clauses.random.range(30, 33);
     let words: [&[u8]; 4] = [b"true\n", b" [true,0] \n", b"!!true\n", b"[m0,0]|true\n"];
     let mut sheet: Vec<u8> = (0..count)
         .flat_map(|_| clauses.random.pick(&words).to_vec())
         .collect();
+    if count < 33 {
+        sheet.extend(sheets::line(clauses, Wish::Any));
+    }
     let ends: [&[u8]; 6] = [b"", b"", b"", b" ", b"]", b"\n"];
     sheet.extend(clauses.random.pick(&ends));
     sheet
@@ -71,12 +74,11 @@ fn levels(random: &mut Random) -> Vec<u8> {
     text.into_bytes()
 }
 
-/// A sheet padded with spaces to about its greatest length.
-pub fn padded(random: &mut Random, sheet: &[u8], lengths: &[usize]) -> Vec<u8> {
-    let length = random.pick(lengths).max(sheet.len());
-    let mut padded = vec![b' '; length - sheet.len()];
-    padded.extend(sheet);
-    padded
+/// Pads a sheet with spaces to about its greatest length.
+pub fn pad(random: &mut Random, sheet: &mut Vec<u8>) {
+    let length = random.pick(&[16_383, 16_384, 16_385, 16_386, 20_000]);
+    let spaces = length - sheet.len().min(length);
+    sheet.splice(0..0, vec![b' '; spaces]);
 }
 
 /// A sheet with one of its numbers replaced by another, at times ending there.
@@ -98,33 +100,14 @@ pub fn other_number(random: &mut Random, sheet: &[u8]) -> Vec<u8> {
     out
 }
 
+const NUMBERS: &str = "31,32,33,99,100,101,999,1000,1001,100%,101%,102 %,999%,1000%,0,00,01,\
+    4294967296,18446744073709551617,65536,256";
+
 fn number(random: &mut Random) -> Vec<u8> {
-    let fixed = [
-        "31",
-        "32",
-        "33",
-        "99",
-        "100",
-        "101",
-        "999",
-        "1000",
-        "1001",
-        "100%",
-        "101%",
-        "102 %",
-        "999%",
-        "1000%",
-        "0",
-        "00",
-        "01",
-        "4294967296",
-        "18446744073709551617",
-        "65536",
-        "256",
-    ];
+    let numbers: Vec<&str> = NUMBERS.split(',').collect();
     match random.below(8) {
         0 => vec![random.pick(b"123456789"); random.range(1, 40)],
         1 => random.below(2000).to_string().into_bytes(),
-        _ => random.pick(&fixed).as_bytes().to_vec(),
+        _ => random.pick(&numbers).as_bytes().to_vec(),
     }
 }

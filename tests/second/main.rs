@@ -1,7 +1,8 @@
 //! A second checker of plans, written from documents 01 and 002 alone, beside the verified one.
 //!
-//!     second CASES SEED         compares both on random triples
-//!     second soak CASES SEED    the same, for long runs
+//!     second CASES SEED         both checkers on random triples
+//!     second soak CASES SEED    the same for long runs, told in parts
+//!     second runs CASES SEED    verdicts beside runs: random ones, and all runs of small plans
 
 mod aims;
 mod cases;
@@ -9,6 +10,7 @@ mod check;
 mod clauses;
 mod compare;
 mod damage;
+mod faults;
 mod floor;
 mod formula;
 mod library;
@@ -18,22 +20,42 @@ mod plan;
 mod print;
 mod random;
 mod record;
+mod run;
+mod runs;
+mod search;
 mod sheet;
 mod sheets;
+mod small;
+mod standings;
+mod tally;
+mod truth;
 mod verdict;
 mod world;
 
-fn main() {
-    match cases::run() {
-        Ok(count) => println!("{count} cases of document 01"),
-        Err(text) => {
-            println!("{text}");
-            std::process::exit(1);
+use std::process::ExitCode;
+
+fn main() -> ExitCode {
+    let args: Vec<String> = std::env::args().skip(1).collect();
+    let words: Vec<&str> = args.iter().map(String::as_str).collect();
+    let number = |text: &str| text.parse::<u64>().ok();
+    let passed = match words[..] {
+        ["soak", cases, seed] => number(cases)
+            .zip(number(seed))
+            .map(|(c, s)| compare::soak(c, s)),
+        ["runs", cases, seed] => number(cases)
+            .zip(number(seed))
+            .map(|(c, s)| runs::run(c, s)),
+        [cases, seed] => number(cases)
+            .zip(number(seed))
+            .map(|(c, s)| compare::gate(c, s)),
+        _ => None,
+    };
+    match passed {
+        Some(true) => ExitCode::SUCCESS,
+        Some(false) => ExitCode::FAILURE,
+        None => {
+            eprintln!("second: CASES SEED, soak CASES SEED or runs CASES SEED");
+            ExitCode::from(2)
         }
-    }
-    let args: Vec<String> = std::env::args().collect();
-    let number = |i: usize| args[i].parse().expect("a number");
-    if !compare::run(number(1), number(2)) {
-        std::process::exit(1);
     }
 }

@@ -157,6 +157,7 @@ impl<'a> Line<'a> {
         self.open.push(open);
         let flat = |o: &Open| matches!(o, Open::Binary(Op::And | Op::Or));
         let level = self.open.iter().filter(|o| !flat(o)).count();
+        self.clause.level = self.clause.level.max(level);
         if level > HIGHEST_LEVEL {
             return Err(Refusal(14, first, 0));
         }

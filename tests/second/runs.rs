@@ -1,0 +1,184 @@
+//! Verdicts beside runs: accepted plans on random runs, plans at drift 0 in step, small plans on all runs.
+
+use std::time::Instant;
+
+use crate::aims;
+use crate::compare::{both, tell, Within};
+use crate::damage::Triple;
+use crate::floor::Floor;
+use crate::formula::{Clause, Op};
+use crate::plan::Plan;
+use crate::random::Random;
+use crate::run::Run;
+use crate::sheet;
+use crate::small;
+use crate::truth::Meaning;
+use crate::verdict::{Refusal, Verdict, RULES};
+
+/// A triple that can be read.
+pub struct Read {
+    pub floor: Floor,
+    pub plan: Plan,
+    pub clauses: Vec<Clause>,
+}
+
+impl Read {
+    pub fn of(triple: &Triple) -> Read {
+        let floor = Floor::read(&triple.floor).expect("a floor");
+        Read {
+            plan: Plan::read(&triple.plan, &floor).expect("a plan"),
+            clauses: sheet::read(&triple.rules).expect("a sheet"),
+            floor,
+        }
+    }
+
+    pub fn meaning<'a>(&'a self, clause: &'a Clause) -> Meaning<'a> {
+        Meaning::new(clause, &self.plan, &self.floor)
+    }
+}
+
+/// What was looked at.
+#[derive(Default)]
+pub struct Tally {
+    pub plans: usize,
+    pub runs: usize,
+    pub full_spread: usize,
+    pub clauses: usize,
+    pub in_step: usize,
+    pub searched: usize,
+    pub standings: usize,
+    pub accepted: usize,
+    pub refused: usize,
+    pub refused_broken: usize,
+    pub globally: usize,
+    pub globally_refused: usize,
+    pub smaller: usize,
+}
+
+pub type Outcome = Result<(), String>;
+
+type Part = fn(&mut Random, &mut Tally) -> (Triple, Outcome);
+
+const PARTS: [Part; 4] = [on_runs, in_step, small::searched, small::globally_one_count];
+
+/// All parts for so many cases; false once a difference was told.
+pub fn run(cases: u64, seed: u64) -> bool {
+    let begun = Instant::now();
+    let mut tally = Tally::default();
+    for case in 0..cases {
+        let _within = Within { seed, case };
+        for (number, part) in PARTS.iter().enumerate() {
+            let mut random = Random::new(seed, 4 * case + number as u64);
+            let (triple, outcome) = part(&mut random, &mut tally);
+            if let Err(text) = outcome {
+                tell(&triple, seed, case, &text);
+                return false;
+            }
+        }
+    }
+    tally.print();
+    println!("{:.0} seconds", begun.elapsed().as_secs_f64());
+    println!("{cases} cases of runs, 0 differences");
+    true
+}
+
+impl Tally {
+    fn print(&self) {
+        println!(
+            "accepted plans on drifting runs: {} plans, {} runs, {} with all the spread allowed; {} times a clause held",
+            self.plans, self.runs, self.full_spread, self.clauses
+        );
+        println!("plans at drift 0, judged as in step: {}", self.in_step);
+        println!(
+            "small plans on all runs: {} over {} standings; {} accepted, broken by none; {} refused, {} of them broken by one",
+            self.searched, self.standings, self.accepted, self.refused, self.refused_broken
+        );
+        println!(
+            "G over one count on all runs: {}; {} refused, each broken at the step told; the others broken by none",
+            self.globally, self.globally_refused
+        );
+        println!(
+            "smaller drifts of small accepted plans, all accepted: {}",
+            self.smaller
+        );
+    }
+}
+
+/// An accepted plan of any size on some drifting runs.
+fn on_runs(random: &mut Random, tally: &mut Tally) -> (Triple, Outcome) {
+    let triple = aims::accepted(random);
+    let outcome = hold_on_runs(random, &triple, tally);
+    (triple, outcome)
+}
+
+fn hold_on_runs(random: &mut Random, triple: &Triple, tally: &mut Tally) -> Outcome {
+    let verdict = both(triple)?;
+    if verdict != Verdict::ACCEPTED {
+        return Err(format!("made to be accepted, but {verdict}"));
+    }
+    let read = Read::of(triple);
+    let next_inside = |clause: &&Clause| !clause.next_outside(clause.root);
+    let clauses = read.clauses.iter().filter(next_inside);
+    let meanings: Vec<Meaning> = clauses.map(|clause| read.meaning(clause)).collect();
+    tally.plans += 1;
+    for _ in 0..4 {
+        let run = Run::random(random, &read.plan);
+        for meaning in &meanings {
+            hold_on(meaning, &run)?;
+        }
+        tally.runs += 1;
+        tally.full_spread += (run.spread() == read.plan.d) as usize;
+        tally.clauses += meanings.len();
+    }
+    Ok(())
+}
+
+/// Whether a run leaves a clause true.
+pub fn hold_on(meaning: &Meaning, run: &Run) -> Outcome {
+    if meaning.on_run(meaning.clause.root, run)[0] {
+        return Ok(());
+    }
+    let (moments, back) = (&run.moments, run.back);
+    Err(format!(
+        "broken by the run {moments:?}, from there back to moment {back}"
+    ))
+}
+
+/// A plan at drift 0 is judged exactly as its clauses are in step.
+fn in_step(random: &mut Random, tally: &mut Tally) -> (Triple, Outcome) {
+    let mut triple = aims::judged(random);
+    triple.plan[8] = 0;
+    let outcome = as_in_step(&triple);
+    tally.in_step += 1;
+    (triple, outcome)
+}
+
+fn as_in_step(triple: &Triple) -> Outcome {
+    let verdict = both(triple)?;
+    let read = Read::of(triple);
+    let run = Run::in_step(&read.plan);
+    let mut wanted = Verdict::ACCEPTED;
+    for (i, clause) in read.clauses.iter().enumerate().rev() {
+        if let Some(step) = breaks_in_step(&read.meaning(clause), &run) {
+            wanted = Verdict::refused(RULES, Refusal(17, i, step));
+        }
+    }
+    if verdict == wanted {
+        return Ok(());
+    }
+    Err(format!("{verdict}, but in step {wanted}"))
+}
+
+/// The step of a clause that is not true in step.
+fn breaks_in_step(meaning: &Meaning, run: &Run) -> Option<usize> {
+    let clause = meaning.clause;
+    if meaning.on_run(clause.root, run)[0] {
+        return None;
+    }
+    let root = clause.nodes[clause.root];
+    if root.op != Op::Globally {
+        return Some(0);
+    }
+    let body = meaning.on_run(root.left, run);
+    body.iter().position(|holds| !holds)
+}
