@@ -8,6 +8,12 @@ const WORKSHOP: &str =
 const SPACED: &str =
     "  ! ( true  U [ m0 R ( m9 ) , 10% ] )  & true \n F [ X m10 , 0 ] R true | true\n";
 
+/// The sheets of the examples.
+const EXAMPLES: [&[u8]; 2] = [
+    include_bytes!("../../examples/two-carts/rules"),
+    include_bytes!("../../examples/workshop/rules"),
+];
+
 /// Every limit reached and none passed: 32 clauses, one of 128 nodes, levels of 32 by each kind,
 /// and spaces where one more could stand.
 fn full() -> Vec<u8> {
@@ -25,7 +31,8 @@ fn full() -> Vec<u8> {
 pub fn sheets() -> Vec<Vec<u8>> {
     let written = [PAPER, WORKSHOP, SPACED];
     let written = written.map(|sheet| sheet.as_bytes().to_vec());
-    written.into_iter().chain([full()]).collect()
+    let examples = EXAMPLES.map(<[u8]>::to_vec);
+    written.into_iter().chain(examples).chain([full()]).collect()
 }
 
 /// `@` is reserved behind a count's number, so it is not put behind a digit or `%`.
