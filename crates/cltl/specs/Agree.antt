@@ -11,9 +11,10 @@ use Rattle.row.specs.Lasso.{nextStep}
 use Rattle.row.specs.Round.{next-below}
 use Rattle.cltl.specs.Threshold.{threshold, quota}
 use Rattle.cltl.specs.Meaning.{Rows}
-use Rattle.cltl.specs.Rules.{join, tally, every, quorum, judge, mark, inner, count, rules}
+use Rattle.cltl.specs.Rules.{join, tally, quorum, judge, mark, inner, count, rules}
 use Rattle.cltl.specs.Step.{lowest, failing}
 use Rattle.cltl.specs.Lap.{fix-cong}
+use Rattle.cltl.specs.Tally.{every-agrees}
 use Rattle.cltl.specs.Quorum.{window-cong}
 
 module _ (h l : ℕ) (ok : l < h) {L : Type 0} (Ok : L → Type 0) (rule rule′ : Bool → L → ℕ → Bool)
@@ -35,11 +36,6 @@ tally-agrees : (f g : ℕ → Bool) (n : ℕ) → ((i : ℕ) → i < n → f i �
 unfolding tally
 tally-agrees f g zero e = refl
 tally-agrees f g (suc n) e = rw (e n (le-refl (suc n)), tally-agrees f g n (λ i p. e i (omega arith)))
-
-every-agrees : (f g : ℕ → Bool) (n : ℕ) → ((i : ℕ) → i < n → f i ≡ g i) → every f n ≡ every g n
-unfolding every
-every-agrees f g zero e = refl
-every-agrees f g (suc n) e = rw (e n (le-refl (suc n)), every-agrees f g n (λ i p. e i (omega arith)))
 
 pub lowest-agrees : (f g : ℕ → Bool) (n s e : ℕ) → ((i : ℕ) → i < e → f i ≡ g i) → s + n ≤ e → lowest f n s ≡ lowest g n s
 unfolding lowest

@@ -9,7 +9,7 @@ use Rattle.row.specs.Lasso.{nextStep, stepOf}
 use Rattle.row.specs.Round.{step-low, step-below, step-next}
 use Rattle.cltl.specs.Rules.{tally, every, window, quorum}
 use Rattle.cltl.specs.Basics.{and-l, and-r, or-l, or-cases, join-mono}
-use Rattle.cltl.specs.Tally.{every-at, every-of, every-cong, tally-mono, tally-all}
+use Rattle.cltl.specs.Tally.{every-at, every-of, every-agrees, tally-mono, tally-all}
 
 module _ (h l : ℕ) where
   -- counting on from a counter's step is counting on from the counter
@@ -40,7 +40,7 @@ module _ (h l : ℕ) where
   -- only the steps below h count
   pub window-cong : l < h → (f g : ℕ → Bool) → ((s : ℕ) → s < h → f s ≡ g s) → (d s : ℕ) → window h l f d s ≡ window h l g d s
   unfolding window
-  window-cong ok f g e d s = every-cong (λ j. f (stepOf h l (s + j))) (λ j. g (stepOf h l (s + j))) (λ j. e (stepOf h l (s + j)) (step-below h l ok (s + j))) (suc d)
+  window-cong ok f g e d s = every-agrees _ _ (suc d) (λ j _. e (stepOf h l (s + j)) (step-below h l ok (s + j)))
 
   window-mono : (f : ℕ → Bool) (d d′ s : ℕ) → d′ ≤ d → T (window h l f d s) → T (window h l f d′ s)
   window-mono f d d′ s q x = window-of f d′ s (λ j r. window-at f d s j (omega arith) x)

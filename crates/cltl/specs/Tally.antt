@@ -77,10 +77,10 @@ unfolding every
 every-of f zero h = tt
 every-of f (suc n) h = and-i (f n) (every f n) (h n (le-refl (suc n))) (every-of f n (λ i p. h i (omega arith)))
 
-pub every-cong : (f g : ℕ → Bool) → ((i : ℕ) → f i ≡ g i) → (n : ℕ) → every f n ≡ every g n
+pub every-agrees : (f g : ℕ → Bool) (n : ℕ) → ((i : ℕ) → i < n → f i ≡ g i) → every f n ≡ every g n
 unfolding every
-every-cong f g e zero = refl
-every-cong f g e (suc n) = rw (e n, every-cong f g e n)
+every-agrees f g zero e = refl
+every-agrees f g (suc n) e = rw (e n (le-refl (suc n)), every-agrees f g n (λ i p. e i (omega arith)))
 
 -- the least of f 0 .. f n
 unfoldable pub low : (ℕ → ℕ) → ℕ → ℕ

@@ -1,7 +1,7 @@
 -- The rule for a count from cart to cart.
 use Prim.Native.Nat.{ℕ, suc, _+_, _-_, _≤_, _<_, min}
-use mathlib.Core.Path.{_≡_, refl, sym, ap, ap₂, subst, _∙_}
-use mathlib.Core.Bool.{Bool, true, false, cond, _&&_, _||_}
+use mathlib.Core.Path.{_≡_, refl, sym, ap, ap₂, _∙_}
+use mathlib.Core.Bool.{Bool, true, false, _&&_, _||_}
 use mathlib.Core.List.{List}
 use native.Mathlib.Omega.{arith}
 use native.Mathlib.Numerals.{add-one}
@@ -12,7 +12,8 @@ use Rattle.cltl.specs.Basics.{bool-ext}
 use Rattle.cltl.specs.Quorum.{window-cong}
 use Rattle.cltl.specs.Tally.{tally-le}
 use Rattle.mask.specs.Mask.{on, Row}
-use Rattle.mask.specs.Planes.{digit, number, Below, Each, Added}
+use Rattle.mask.specs.Planes.{number, Below, Each, Added}
+use Rattle.mask.specs.Counting.{counted}
 use Rattle.marks.specs.Table.{Tabled}
 use Rattle.drift.specs.Judged.{row-of}
 
@@ -30,14 +31,10 @@ module _ (h l d m : ℕ) (f : ℕ → ℕ → Bool) where
   unfolding tally every
   none-counted planes all e a = record { low = e .low; many = λ s q. let n = e .at s q in omega arith; each = a }
 
-  more : (b : Bool) (n k : ℕ) → n ≡ k → n + digit b ≡ cond b (suc k) k
-  more true n k e = omega arith
-  more false n k e = omega arith
-
   -- one cart more
   pub cart-counted : l < h → (i : ℕ) (planes planes′ : List ℕ) (all all′ a w : ℕ) → i < 32 → Counted i planes all → Row h a (f i) → Row h w (window h l (on a) d) → Added planes w planes′
       → Row h all′ (λ s. join true (on a s) (on all s)) → Counted (i + 1) planes′ all′
-  unfolding tally every
+  unfolding every
   cart-counted ok i planes planes′ all all′ a w q c ra rw′ ad ral = record {
     low = ad .low h (c .low) (rw′ .low);
     many = λ s z. rw add-one (count s z);
@@ -46,13 +43,7 @@ module _ (h l d m : ℕ) (f : ℕ → ℕ → Bool) where
     where
       count : (s : ℕ) → s < h → number planes′ s ≡ (64 - min m 33) + tally (λ i. window h l (f i) d s) (suc i)
       count s z =
-          let e : on w s ≡ window h l (f i) d s = rw′ .at s z ∙ window-cong h l ok (on a) (f i) (ra .at) d s in
-          let t = tally-le (λ i. window h l (f i) d s) i in
-          let n = c .many s z in
-          let x = ad .at s (omega arith) in
-          let y : tally (λ i. window h l (f i) d s) i + digit (on w s) ≡ cond (window h l (f i) d s) (suc (tally (λ i. window h l (f i) d s) i)) (tally (λ i. window h l (f i) d s) i) =
-          subst (λ (b : Bool). tally (λ i. window h l (f i) d s) i + digit (on w s) ≡ cond b (suc (tally (λ i. window h l (f i) d s) i)) (tally (λ i. window h l (f i) d s) i)) e (more (on w s) _ _ refl) in
-          omega arith
+          counted (λ i. window h l (f i) d s) (64 - min m 33) i w s planes planes′ ad (rw′ .at s z ∙ window-cong h l ok (on a) (f i) (ra .at) d s) (omega arith) (c .many s z)
 
   -- all carts counted
   module _ (carts : ℕ) (few : carts ≤ 32) (planes : List ℕ) (all many : ℕ) (c : Counted carts planes all) (r : Row h many (λ s. leb 64 (number planes s))) where

@@ -8,7 +8,7 @@ use mathlib.Core.List.{List}
 use lib.Dec.{eqb}
 use lib.ListN.{length}
 use borrow.Author.Tests.{eq-eqb, ne-eqb}
-use Rattle.grammar.specs.Grammar.{top, leaf, next, gl, counted, Clause}
+use Rattle.grammar.specs.Grammar.{top, leaf, gl, counted, Clause}
 use Rattle.grammar.specs.Nodes.{Node, topN, markN, countN, oneN, twoN, Op₁, neg₁, next₁, ev₁, gl₁, Op₂, and₂, or₂, until₂, release₂}
 use Rattle.cltl.specs.Meaning.{Rows}
 use Rattle.cltl.specs.Rules.{hasNext, rules}

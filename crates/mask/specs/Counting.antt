@@ -89,11 +89,6 @@ plane-low h (suc i) (x ∷ xs) b = plane-low h i xs (b .1)
 pub large : (h : ℕ) (xs : List ℕ) → length xs ≡ 7 → Below h xs → Row h (getD xs 6 0) (λ s. leb 64 (number xs s))
 large h xs e b = record { low = plane-low h 6 xs b; at = λ s p. top 6 s xs e }
 
--- begun at 64 − m it is large once m were added
-pub at-least : (m n : ℕ) → m ≤ 64 → leb 64 (64 - m + n) ≡ leb m n
-at-least m n p =
-    pick n m (_≡_ {A = Bool} (leb 64 (64 - m + n)) (leb m n)) (λ q. lt-leb 64 (64 - m + n) (omega arith) ∙ sym (lt-leb m n q)) (λ q. le-leb 64 (64 - m + n) (omega arith) ∙ sym (le-leb m n q))
-
 tally-more : (f : ℕ → Bool) (n : ℕ) → tally f (suc n) ≡ tally f n + digit (f n)
 unfolding tally
 tally-more f n = tells (f n)
