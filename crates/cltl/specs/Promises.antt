@@ -5,8 +5,8 @@ use mathlib.Core.Bool.{Bool, true}
 use mathlib.Core.Logic.{_↔_}
 use native.Mathlib.Omega.{arith}
 use lib.Dec.{T}
-use Rattle.cltl.specs.Globally.{globally-broken}
-use Rattle.grammar.specs.Grammar.{leaf, gl, Inner, Threshold, Clause}
+use Rattle.cltl.specs.Globally.{countOr, globally-broken}
+use Rattle.grammar.specs.Grammar.{gl, Inner, Threshold, Clause}
 use Rattle.row.specs.Lasso.{stepOf}
 use Rattle.row.specs.Round.{step-low}
 use Rattle.cltl.specs.Meaning.{Rows, Proper, Run, Satisfies, TrueOf, InStepAt, TrueInStep}
@@ -44,9 +44,9 @@ module _ (P : Rows) (proper : Proper P) where
   pub complete : (d : ℕ) (p : Bool) (x : Threshold) (s : ℕ) → s < P .h → (T (count P d p x s) → ⊥) → Broken P d p x s
   complete d p x s low other = count-complete P proper d p x s low other
 
-  -- with `runs`: a G over one count is kept exactly when it is true of every run within d. Not kept: it is false of one
-  pub globally-complete : (d : ℕ) (x : Threshold) → (T (rules P d (gl (leaf x)) 0) → ⊥) → (r : Run (P .carts) d) × (TrueOf P r (gl (leaf x)) → ⊥)
-  globally-complete d x other = globally-broken P proper d x other
+  -- with `runs`: a G over one count, or its negation, is kept exactly when it is true of every run within d. Not kept: it is false of one
+  pub globally-complete : (d : ℕ) (p : Bool) (x : Threshold) → (T (rules P d (gl (countOr p x)) 0) → ⊥) → (r : Run (P .carts) d) × (TrueOf P r (gl (countOr p x)) → ⊥)
+  globally-complete d p x other = globally-broken P proper d x p other
 
 -- every standing of spread at most d is reached by a run
 pub reached : (carts d : ℕ) (K : ℕ → ℕ) → ((i j : ℕ) → i < carts → j < carts → K i ≤ K j + d) → (r : Run carts d) × (t : ℕ) × ((i : ℕ) → i < carts → r .at t i ≡ K i)
