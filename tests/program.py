@@ -1,0 +1,54 @@
+#!/usr/bin/env python3
+"""Runs the program cartcheck on folders of files at the limits of its buffers, absent files and each file's refusal, and compares the line
+that it prints. The lines are written by hand from document 01. Run from the repository's root after `rt check cartcheck`."""
+import pathlib
+import subprocess
+import sys
+import tempfile
+
+ROOT = pathlib.Path(__file__).resolve().parent.parent
+PROGRAM = ROOT / "target" / "bin" / "cartcheck"
+
+
+def read(example, name):
+    return (ROOT / "examples" / example / name).read_bytes()
+
+
+FLOOR, PLAN, RULES = (read("two-carts", name) for name in ("floor", "plan", "rules"))
+PLACE = bytes([4, 0, 1, 0, 0, 0, 0, 0])
+ROW = bytes([4, 0, 5, 0, 0, 0, 0, 0])
+LONG_FLOOR = PLACE * (65536 // 8)
+LONG_PLAN = (PLAN[:10] + ROW * 8191)[:65536]
+
+CASES = [
+    ("workshop", [read("workshop", name) for name in ("floor", "plan", "rules")], "accepted"),
+    ("two carts", [FLOOR, PLAN, RULES], "accepted"),
+    ("a clause that fails at step 2", [FLOOR, PLAN, b"G [m0,1]\n"], "refused rules 17 0 2"),
+    ("no floor", [None, PLAN, RULES], "refused floor 7 0 0"),
+    ("no plan", [FLOOR, None, RULES], "refused plan 7 0 0"),
+    ("no rules", [FLOOR, PLAN, None], "refused rules 7 0 0"),
+    ("65,536 bytes of floor, the 257th place", [LONG_FLOOR, PLAN, RULES], "refused floor 5 2048 0"),
+    ("65,537 bytes of floor", [LONG_FLOOR + b"\0", PLAN, RULES], "refused floor 1 0 0"),
+    ("65,536 bytes of plan, the third row", [FLOOR, LONG_PLAN, RULES], "refused plan 5 26 0"),
+    ("65,537 bytes of plan", [FLOOR, LONG_PLAN + b"\0", RULES], "refused plan 1 0 0"),
+    ("16,384 bytes of rules", [FLOOR, PLAN, RULES.rjust(16384)], "accepted"),
+    ("16,385 bytes of rules", [FLOOR, PLAN, RULES.rjust(16385)], "refused rules 12 0 0"),
+]
+
+
+def printed(files):
+    with tempfile.TemporaryDirectory() as folder:
+        for name, content in zip(("floor", "plan", "rules"), files):
+            if content is not None:
+                (pathlib.Path(folder) / name).write_bytes(content)
+        return subprocess.run([PROGRAM], cwd=folder, capture_output=True, check=True).stdout
+
+
+failed = 0
+for title, files, line in CASES:
+    got = printed(files)
+    if got != (line + "\n").encode():
+        failed += 1
+        print(f"program: {title}: printed {got!r}, not {line!r}")
+print(f"program: {len(CASES)} folders, {failed} differences")
+sys.exit(failed > 0)
