@@ -167,12 +167,16 @@ module _ (P : Rows) (proper : Proper P) (d : ℕ) where
         let b = tally-most (λ i. inner P i false a (stepOf (P .h) (P .l) (K i))) _ (P .carts) (λ i _ t. inner-sound P proper i false a (K i) t) m many in
         let c = both in
         omega arith
-    few-hold false x = let c = both in tally-least (λ i. inner P i true a (stepOf (P .h) (P .l) (K i))) _ (P .carts) (λ i _ t. inner-sound P proper i true a (K i) t) m (omega arith)
+    few-hold false x =
+        let c = both in
+        tally-least (λ i. inner P i true a (stepOf (P .h) (P .l) (K i))) _ (P .carts) (λ i _ t. inner-sound P proper i true a (K i) t) m (omega arith)
 
   same-standing : (p : Bool) (a : Inner) (k : ℕ) (percent : Bool) (K : ℕ → ℕ) (r : Run (P .carts) d) (t : ℕ) → ((i : ℕ) → i < P .carts → r .at t i ≡ K i)
       → Val p (AtLeast (λ i. Satisfies P i a (K i)) (threshold k percent (P .carts)) (P .carts)) → Val p (Counts P (r .at) (counted a k percent) t)
-  same-standing true a k percent K r t e x = at-least-map _ _ (P .carts) (λ i p. subst (λ (v : ℕ). Satisfies P i a v) (sym (e i p))) (threshold k percent (P .carts)) x
-  same-standing false a k percent K r t e x = λ y. x (at-least-map _ _ (P .carts) (λ i p. subst (λ (v : ℕ). Satisfies P i a v) (e i p)) (threshold k percent (P .carts)) y)
+  same-standing true a k percent K r t e x =
+      at-least-map _ _ (P .carts) (λ i p. subst (λ (v : ℕ). Satisfies P i a v) (sym (e i p))) (threshold k percent (P .carts)) x
+  same-standing false a k percent K r t e x =
+      λ y. x (at-least-map _ _ (P .carts) (λ i p. subst (λ (v : ℕ). Satisfies P i a v) (e i p)) (threshold k percent (P .carts)) y)
 
   pub count-complete : (p : Bool) (x : Threshold) (s : ℕ) → s < P .h → (T (count P d p x s) → ⊥) → Broken P d p x s
   unfolding count
@@ -187,5 +191,7 @@ module _ (P : Rows) (proper : Proper P) (d : ℕ) where
         moment = highest K (P .carts);
         behind = λ i q. subst (λ (v : ℕ). s ≤ v) (sym (e i q)) (b .0 .behind i q);
         last = (z .0, z .1, e (z .0) (z .1) ∙ z .2);
-        other = same-standing (not p) a k percent K (gather (P .carts) d K spread) (highest K (P .carts)) e (few-hold a (threshold k percent (P .carts)) K p (b .1));
+        other =
+            same-standing (not p) a k percent K (gather (P .carts) d K spread) (highest K (P .carts)) e
+            (few-hold a (threshold k percent (P .carts)) K p (b .1));
       }

@@ -40,8 +40,13 @@ module _ (N d : ℕ) (some : 0 < N) (r : Run N d) where
       (let a = least-le t n h in
       let b = later n h t (g .0) (omega arith) in
       let c = later n h (suc (g .0)) u (omega arith) in
-      omega arith) in
-      (u, omega arith, λ i p. ⊎-elim (λ e. subst (λ (j : ℕ). least t < r .at u j) (sym e) m) (λ q. let a = x .2 i q in let b = later i (omega arith) (x .0) u (omega arith) in omega arith) (eq-or-lt-of-le {n = i} {m = n} (omega arith)))
+      omega arith) in (
+        u,
+        omega arith,
+        λ i p. ⊎-elim (λ e. subst (λ (j : ℕ). least t < r .at u j) (sym e) m)
+            (λ q. let a = x .2 i q in let b = later i (omega arith) (x .0) u (omega arith) in omega arith)
+            (eq-or-lt-of-le {n = i} {m = n} (omega arith)),
+      )
 
   pub least-pace : Pace least
   least-pace = record {

@@ -37,7 +37,8 @@ module _ (h l : ℕ) where
     abbrev Near : (ℕ → Type 0) → ℕ → ℕ → ℕ → Type 0
     Near B v e u = (x : ℕ) × (v ≤ x) × (x ≤ u) × (x < e) × B x
 
-    near : (B : ℕ → Type 0) → ((v : ℕ) → l ≤ v → B (v + (h - l)) → B v) → (v e : ℕ) → v + (h - l) ≤ e → h ≤ e → (n u : ℕ) → v ≤ u → u ≤ v + n → B u → Near B v e u
+    near : (B : ℕ → Type 0) → ((v : ℕ) → l ≤ v → B (v + (h - l)) → B v) → (v e : ℕ) → v + (h - l) ≤ e → h ≤ e → (n u : ℕ) → v ≤ u → u ≤ v + n → B u
+        → Near B v e u
     near B back v e r₁ r₂ zero u p q y = (u, p, le-refl u, omega arith, y)
     near B back v e r₁ r₂ (suc n) u p q y =
         ⊎-elim (λ r. (u, p, le-refl u, r, y))
@@ -77,7 +78,9 @@ module _ (h l : ℕ) where
       -- b is kept, over unending time, up to where a comes
       pub kept : (v : ℕ) → T (fix h l false a b h (stepOf h l v)) → Until (λ w. At a w → ⊥) (λ w. At b w → ⊥) v → ⊥
       kept v t u =
-          let r = near (λ w. At b w → ⊥) (λ w p x. subst (λ (s : ℕ). T (b s) → ⊥) (step-lap h l ok w p) x) v (v + h) (omega arith) (omega arith) (u .0 - v) (u .0) (u .1) (omega arith) (u .2) in
+          let r =
+          near (λ w. At b w → ⊥) (λ w p x. subst (λ (s : ℕ). T (b s) → ⊥) (step-lap h l ok w p) x) v (v + h) (omega arith) (omega arith)
+          (u .0 - v) (u .0) (u .1) (omega arith) (u .2) in
           stays-not h v (r .0) t (r .1) (r .3) (r .4) (λ w p q. u .3 w p (omega arith))
 
       -- b for ever is enough, with no need of a
@@ -92,7 +95,8 @@ module _ (h l : ℕ) where
       found zero v u p q y z = absurd (omega arith)
       found (suc n) v u p q y z =
           ⊎-elim (λ e. or-l (b (stepOf h l v)) _ (subst (At b) (sym e) y))
-          (λ e. or-r (b (stepOf h l v)) _ (and-i (a (stepOf h l v)) _ (z v (le-refl v) e) (rw (step-next h l ok) at (found n (suc v) u e (omega arith) y (λ w p′ q′. z w (omega arith) q′)))))
+          (λ e. or-r (b (stepOf h l v)) _ (and-i (a (stepOf h l v)) _ (z v (le-refl v) e)
+          (rw (step-next h l ok) at (found n (suc v) u e (omega arith) y (λ w p′ q′. z w (omega arith) q′)))))
           (eq-or-lt-of-le p)
 
       -- more moves than to the end and once round the lap make no difference
@@ -107,7 +111,8 @@ module _ (h l : ℕ) where
           (λ x. rw (step-low h l) at (found-near s m m₁ m₂ (within n s (rw (step-low h l) x))))
           (λ x. rw (step-low h l) at (found-near s n n₁ n₂ (within m s (rw (step-low h l) x))))
 
-    same : (p : Bool) (a b : ℕ → Bool) (s n m : ℕ) → s < h → s + (h - l) ≤ s + n → h ≤ s + n → s + (h - l) ≤ s + m → h ≤ s + m → fix h l p a b n s ≡ fix h l p a b m s
+    same : (p : Bool) (a b : ℕ → Bool) (s n m : ℕ) → s < h → s + (h - l) ≤ s + n → h ≤ s + n → s + (h - l) ≤ s + m → h ≤ s + m
+        → fix h l p a b n s ≡ fix h l p a b m s
     same true a b s n m q n₁ n₂ m₁ m₂ = same-true a b s n m q n₁ n₂ m₁ m₂
     same false a b s n m q n₁ n₂ m₁ m₂ =
         let f : (n : ℕ) → fix h l false a b n s ≡ not (fix h l true (λ s. not (a s)) (λ s. not (b s)) n s) =
@@ -124,7 +129,8 @@ module _ (h l : ℕ) where
     fix-law p a b s q = same p a b s h (suc h) q (omega arith) (omega arith) (omega arith) (omega arith)
 
     -- only the steps below h count
-    pub fix-cong : (p : Bool) (a b a′ b′ : ℕ → Bool) → ((s : ℕ) → s < h → a s ≡ a′ s) → ((s : ℕ) → s < h → b s ≡ b′ s) → (n s : ℕ) → s < h → fix h l p a b n s ≡ fix h l p a′ b′ n s
+    pub fix-cong : (p : Bool) (a b a′ b′ : ℕ → Bool) → ((s : ℕ) → s < h → a s ≡ a′ s) → ((s : ℕ) → s < h → b s ≡ b′ s) → (n s : ℕ) → s < h
+        → fix h l p a b n s ≡ fix h l p a′ b′ n s
     unfolding fix
     fix-cong p a b a′ b′ f g zero s q = refl
     fix-cong p a b a′ b′ f g (suc n) s q = rw (f s q, g s q, fix-cong p a b a′ b′ f g n (nextStep h l s) (next-below h l ok s))

@@ -49,4 +49,5 @@ globally-fails P d a proper missing =
     (λ all.
     missing
     (subst (λ (s : ℕ). T (fix (P .h) (P .l) false (λ s. false) (λ s. rules P d a s) (P .h) s)) (step-low (P .h) (P .l) 0 (omega (arith, proper .lap)))
-    (forever (P .h) (P .l) (proper .lap) (λ s. false) (λ s. rules P d a s) (P .h) 0 (λ u q. all (stepOf (P .h) (P .l) u) (omega arith) (let x = step-below (P .h) (P .l) (proper .lap) u in omega arith))))))
+    (forever (P .h) (P .l) (proper .lap) (λ s. false) (λ s. rules P d a s) (P .h) 0
+    (λ u q. all (stepOf (P .h) (P .l) u) (omega arith) (let x = step-below (P .h) (P .l) (proper .lap) u in omega arith))))))

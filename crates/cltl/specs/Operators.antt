@@ -19,10 +19,12 @@ module _ (h l : ℕ) (ok : l < h) (lo : ℕ → ℕ) (pace : Pace lo) where
   abbrev at : ℕ → ℕ
   at t = stepOf h l (lo t)
 
-  run-until : (a b : ℕ → Bool) {A B : ℕ → Type 0} (t : ℕ) → T (fix h l true a b h (at t)) → ((w : ℕ) → T (a (at w)) → A w) → ((w : ℕ) → T (b (at w)) → B w) → Until A B t
+  run-until : (a b : ℕ → Bool) {A B : ℕ → Type 0} (t : ℕ) → T (fix h l true a b h (at t)) → ((w : ℕ) → T (a (at w)) → A w)
+      → ((w : ℕ) → T (b (at w)) → B w) → Until A B t
   run-until a b t x f g = until-map t f g (pull lo pace t (reach h l ok a b (lo t) x))
 
-  run-release : (a b : ℕ → Bool) {A B : ℕ → Type 0} (t : ℕ) → T (fix h l false a b h (at t)) → ((w : ℕ) → T (a (at w)) → A w → ⊥) → ((w : ℕ) → T (b (at w)) → B w → ⊥) → Until A B t → ⊥
+  run-release : (a b : ℕ → Bool) {A B : ℕ → Type 0} (t : ℕ) → T (fix h l false a b h (at t)) → ((w : ℕ) → T (a (at w)) → A w → ⊥)
+      → ((w : ℕ) → T (b (at w)) → B w → ⊥) → Until A B t → ⊥
   run-release a b t x f g u = kept h l ok a b (lo t) x (push lo pace t (until-map t (λ w p q. f w q p) (λ w p q. g w q p) u))
 
   -- "next" in a part is "next" in the whole
@@ -45,9 +47,11 @@ module _ (h l : ℕ) (ok : l < h) (lo : ℕ → ℕ) (pace : Pace lo) where
     sound true (neg a) e t x = sound false a e t x
     sound false (neg a) e t x = λ n. n (sound true a e t x)
     sound true (and a b) e t x = (sound true a (nl a b e) t (and-l (J true a t) (J true b t) x), sound true b (nr a b e) t (and-r (J true a t) (J true b t) x))
-    sound false (and a b) e t x = λ y. ⊎-elim (λ z. sound false a (nl a b e) t z (y .0)) (λ z. sound false b (nr a b e) t z (y .1)) (or-cases (J false a t) (J false b t) x)
+    sound false (and a b) e t x =
+        λ y. ⊎-elim (λ z. sound false a (nl a b e) t z (y .0)) (λ z. sound false b (nr a b e) t z (y .1)) (or-cases (J false a t) (J false b t) x)
     sound true (or a b) e t x = ⊎-elim (λ z. inl (sound true a (nl a b e) t z)) (λ z. inr (sound true b (nr a b e) t z)) (or-cases (J true a t) (J true b t) x)
-    sound false (or a b) e t x = ⊎-elim (sound false a (nl a b e) t (and-l (J false a t) (J false b t) x)) (sound false b (nr a b e) t (and-r (J false a t) (J false b t) x))
+    sound false (or a b) e t x =
+        ⊎-elim (sound false a (nl a b e) t (and-l (J false a t) (J false b t) x)) (sound false b (nr a b e) t (and-r (J false a t) (J false b t) x))
     sound p (next a) e t x = sound p a (λ _. e tt) (suc t) (rw (e tt t, step-next h l ok) x)
     sound true (until a b) e t x = run-until _ _ t x (λ w. sound true a (nl a b e) w) (λ w. sound true b (nr a b e) w)
     sound false (until a b) e t x = run-release _ _ t x (λ w. sound false a (nl a b e) w) (λ w. sound false b (nr a b e) w)
@@ -83,8 +87,10 @@ module _ (h l : ℕ) {L : Type 0} (rule rule′ : Bool → L → ℕ → Bool) (
   judge-mono p top s x = x
   judge-mono p (leaf y) s x = imp p y s x
   judge-mono p (neg a) s x = judge-mono (not p) a s x
-  judge-mono p (and a b) s x = join-mono p (judge h l rule p a s) (judge h l rule′ p a s) (judge h l rule p b s) (judge h l rule′ p b s) (judge-mono p a s) (judge-mono p b s) x
-  judge-mono p (or a b) s x = join-mono (not p) (judge h l rule p a s) (judge h l rule′ p a s) (judge h l rule p b s) (judge h l rule′ p b s) (judge-mono p a s) (judge-mono p b s) x
+  judge-mono p (and a b) s x =
+      join-mono p (judge h l rule p a s) (judge h l rule′ p a s) (judge h l rule p b s) (judge h l rule′ p b s) (judge-mono p a s) (judge-mono p b s) x
+  judge-mono p (or a b) s x =
+      join-mono (not p) (judge h l rule p a s) (judge h l rule′ p a s) (judge h l rule p b s) (judge h l rule′ p b s) (judge-mono p a s) (judge-mono p b s) x
   judge-mono p (next a) s x = judge-mono p a (nextStep h l s) x
   judge-mono p (until a b) s x = fix-mono h l p _ _ _ _ (λ s. judge-mono p a s) (λ s. judge-mono p b s) h s x
   judge-mono p (release a b) s x = fix-mono h l (not p) _ _ _ _ (λ s. judge-mono p a s) (λ s. judge-mono p b s) h s x

@@ -45,9 +45,11 @@ module _ (P : Rows) (proper : Proper P) where
   complete d p x s low other = count-complete P proper d p x s low other
 
   -- with `runs`: a G over one count, or its negation, is kept exactly when it is true of every run within d. Not kept: it is false of one
-  pub globally-complete : (d : ℕ) (p : Bool) (x : Threshold) → (T (rules P d (gl (countOr p x)) 0) → ⊥) → (r : Run (P .carts) d) × (TrueOf P r (gl (countOr p x)) → ⊥)
+  pub globally-complete : (d : ℕ) (p : Bool) (x : Threshold) → (T (rules P d (gl (countOr p x)) 0) → ⊥)
+      → (r : Run (P .carts) d) × (TrueOf P r (gl (countOr p x)) → ⊥)
   globally-complete d p x other = globally-broken P proper d x p other
 
 -- every standing of spread at most d is reached by a run
-pub reached : (carts d : ℕ) (K : ℕ → ℕ) → ((i j : ℕ) → i < carts → j < carts → K i ≤ K j + d) → (r : Run carts d) × (t : ℕ) × ((i : ℕ) → i < carts → r .at t i ≡ K i)
+pub reached : (carts d : ℕ) (K : ℕ → ℕ) → ((i j : ℕ) → i < carts → j < carts → K i ≤ K j + d)
+    → (r : Run carts d) × (t : ℕ) × ((i : ℕ) → i < carts → r .at t i ≡ K i)
 reached carts d K spread = (gather carts d K spread, highest K carts, gathered carts d K spread)

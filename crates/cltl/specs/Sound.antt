@@ -29,10 +29,12 @@ module _ (P : Rows) (proper : Proper P) (d : ℕ) (r : Run (P .carts) d) where
   cart-sound : (p : Bool) (a : Inner) (t i : ℕ) → i < P .carts → T (window (P .h) (P .l) (inner P i p a) d (S t)) → Val p (Satisfies P i a (r .at t i))
   cart-sound p a t i h x =
       inner-sound P proper i p a (r .at t i)
-      (window-from (P .h) (P .l) (inner P i p a) d (lo t) (r .at t i) (proper .lap) (least-le (P .carts) d (proper .some) r t i h) (least-near (P .carts) d (proper .some) r t i h) x)
+      (window-from (P .h) (P .l) (inner P i p a) d (lo t) (r .at t i) (proper .lap) (least-le (P .carts) d (proper .some) r t i h)
+      (least-near (P .carts) d (proper .some) r t i h) x)
 
   -- the hindmost cart stands on that step itself
-  last-sound : (p : Bool) (a : Inner) (t : ℕ) → ((i : ℕ) → i < P .carts → T (inner P i p a (S t))) → (i : ℕ) × (i < P .carts) × Val p (Satisfies P i a (r .at t i))
+  last-sound : (p : Bool) (a : Inner) (t : ℕ) → ((i : ℕ) → i < P .carts → T (inner P i p a (S t)))
+      → (i : ℕ) × (i < P .carts) × Val p (Satisfies P i a (r .at t i))
   last-sound p a t f =
       let x = least-at (P .carts) d (proper .some) r t in
       (x .0, x .1, subst (λ (v : ℕ). Val p (Satisfies P (x .0) a v)) (sym (x .2)) (inner-sound P proper (x .0) p a (lo t) (f (x .0) (x .1))))
@@ -49,7 +51,8 @@ module _ (P : Rows) (proper : Proper P) (d : ℕ) (r : Run (P .carts) d) where
       let m : ℕ = threshold k percent (P .carts) in
       let Sat : ℕ → Type 0 = λ i. Satisfies P i a (r .at t i) in
       λ many.
-      ⊎-elim (λ z. let b = tally-most (λ i. window (P .h) (P .l) (inner P i false a) d (S t)) Sat (P .carts) (λ i h. cart-sound false a t i h) m many in omega arith)
+      ⊎-elim
+      (λ z. let b = tally-most (λ i. window (P .h) (P .l) (inner P i false a) d (S t)) Sat (P .carts) (λ i h. cart-sound false a t i h) m many in omega arith)
       (λ z. let b = last-sound false a t (z .1) in let c = not-all Sat (P .carts) (b .0) (b .1) (b .2) m many in omega arith)
       (quorum-cases (P .h) (P .l) (P .carts) (suc (P .carts) - m) (λ i. inner P i false a) d (S t) y)
 

@@ -20,7 +20,8 @@ tally-least f P zero g zero q = tt
 tally-least f P (suc n) g zero q = tt
 tally-least f P zero g (suc m) q = omega arith
 tally-least f P (suc n) g (suc m) q =
-    least-step (f n) (tally f n) m (g n (le-refl (suc n))) (tally-least f P n (λ i p. g i (omega arith)) m) (tally-least f P n (λ i p. g i (omega arith)) (suc m)) q
+    least-step (f n) (tally f n) m (g n (le-refl (suc n))) (tally-least f P n (λ i p. g i (omega arith)) m)
+    (tally-least f P n (λ i p. g i (omega arith)) (suc m)) q
 
 pub cond-le : (b : Bool) (k : ℕ) → cond b (suc k) k ≤ suc k
 cond-le true k = le-refl (suc k)
@@ -42,7 +43,8 @@ tally-most f P (suc n) g zero a = let h = tally-le f n in let c = cond-le (f n) 
 tally-most f P zero g (suc m) a = absurd a
 tally-most f P (suc n) g (suc m) a =
     ⊎-elim
-    (λ y. let h = tally-most f P n (λ i p. g i (omega arith)) m (y .1) in let c = cond-not (f n) (tally f n) (λ t. g n (le-refl (suc n)) t (y .0)) in omega arith)
+    (λ y. let h = tally-most f P n (λ i p. g i (omega arith)) m (y .1) in let c = cond-not (f n) (tally f n)
+    (λ t. g n (le-refl (suc n)) t (y .0)) in omega arith)
     (λ y. let h = tally-most f P n (λ i p. g i (omega arith)) (suc m) y in let c = cond-le (f n) (tally f n) in omega arith)
     a
 
@@ -55,7 +57,8 @@ not-all P zero i h p m a = omega arith
 not-all P (suc n) i h p zero a = omega arith
 not-all P (suc n) i h p (suc m) a =
     ⊎-elim
-    (λ y. ⊎-elim (λ e. absurd (p (subst P (sym e) (y .0)))) (λ q. let r = not-all P n i q p m (y .1) in omega arith) (eq-or-lt-of-le {n = i} {m = n} (omega arith)))
+    (λ y. ⊎-elim (λ e. absurd (p (subst P (sym e) (y .0)))) (λ q. let r = not-all P n i q p m (y .1) in omega arith)
+    (eq-or-lt-of-le {n = i} {m = n} (omega arith)))
     (λ y. let r = tally-most (λ j. false) P n (λ j q t _. t) (suc m) y in omega arith)
     a
 
@@ -70,7 +73,8 @@ pub every-at : (f : ℕ → Bool) (n i : ℕ) → i < n → T (every f n) → T 
 unfolding every
 every-at f zero i h t = absurd (omega arith)
 every-at f (suc n) i h t =
-    ⊎-elim (λ e. subst (λ (j : ℕ). T (f j)) (sym e) (and-l (f n) (every f n) t)) (λ q. every-at f n i q (and-r (f n) (every f n) t)) (eq-or-lt-of-le {n = i} {m = n} (omega arith))
+    ⊎-elim (λ e. subst (λ (j : ℕ). T (f j)) (sym e) (and-l (f n) (every f n) t)) (λ q. every-at f n i q (and-r (f n) (every f n) t))
+    (eq-or-lt-of-le {n = i} {m = n} (omega arith))
 
 pub every-of : (f : ℕ → Bool) (n : ℕ) → ((i : ℕ) → i < n → T (f i)) → T (every f n)
 unfolding every

@@ -27,13 +27,15 @@ module _ (P : Rows) (d s : ℕ) where
   -- "Negations outside counts are first driven inward."
   pub inward : (a b : Clause)
       → (At (neg (neg a)) s ≡ At a s) × (At (neg (and a b)) s ≡ At (or (neg a) (neg b)) s) × (At (neg (or a b)) s ≡ At (and (neg a) (neg b)) s)
-      × (At (neg (next a)) s ≡ At (next (neg a)) s) × (At (neg (until a b)) s ≡ At (release (neg a) (neg b)) s) × (At (neg (release a b)) s ≡ At (until (neg a) (neg b)) s)
+      × (At (neg (next a)) s ≡ At (next (neg a)) s) × (At (neg (until a b)) s ≡ At (release (neg a) (neg b)) s)
+      × (At (neg (release a b)) s ≡ At (until (neg a) (neg b)) s)
       × (At (neg (ev a)) s ≡ At (gl (neg a)) s) × (At (neg (gl a)) s ≡ At (ev (neg a)) s)
   unfolding rules judge
   inward a b = (refl, refl, refl, refl, refl, refl, refl, refl)
 
   -- "F a is true U a; G a is !F !a; a R b is !(!a U !b)."
-  pub written-out : (a b : Clause) → (At (ev a) s ≡ At (until top a) s) × (At (gl a) s ≡ At (neg (ev (neg a))) s) × (At (release a b) s ≡ At (neg (until (neg a) (neg b))) s)
+  pub written-out : (a b : Clause)
+      → (At (ev a) s ≡ At (until top a) s) × (At (gl a) s ≡ At (neg (ev (neg a))) s) × (At (release a b) s ≡ At (neg (until (neg a) (neg b))) s)
   unfolding rules judge
   written-out a b = (refl, refl, refl)
 
@@ -47,7 +49,9 @@ module _ (P : Rows) (d s : ℕ) where
   -- "at least m carts satisfy the inner text at all of counters s to s + d; with m = 1 also if all N carts satisfy it at s itself"
   pub counts : (a : Inner) (k : ℕ) (percent : Bool) → let m = threshold k percent (P .carts) in
       At (leaf (counted a k percent)) s
-      ≡ (leb m (tally (λ i. every (λ j. inner P i true a (stepOf (P .h) (P .l) (s + j))) (suc d)) (P .carts)) || (eqb m 1 && every (λ i. inner P i true a s) (P .carts)))
+      ≡
+      (leb m (tally (λ i. every (λ j. inner P i true a (stepOf (P .h) (P .l) (s + j))) (suc d)) (P .carts)) ||
+      (eqb m 1 && every (λ i. inner P i true a s) (P .carts)))
   unfolding rules judge count quorum quota window
   counts a k percent = refl
 

@@ -36,7 +36,9 @@ module _ (nodes table : List ℕ) (carts h l d : ℕ) (ok : l < h) (p : Bool) (k
       (λ z. at-mark h l ok nodes rule none counts p k r kind x ek ex (omega arith) g) (lt-or-le kind 1)
 
   pub clause-count : (m : ℕ) → m ≡ secondAt nodes k + 256 * thirdAt nodes k → 10 ≤ kind
-      → Row h r (quorum h l carts d (quota p (threshold m (eqb kind 11) carts) carts) (λ i. inner (rowsIn table carts h l) i p (innerTree nodes (length nodes) x))) → ClauseRow nodes table carts h l d p k r
+      → Row h r
+      (quorum h l carts d (quota p (threshold m (eqb kind 11) carts) carts) (λ i. inner (rowsIn table carts h l) i p (innerTree nodes (length nodes) x)))
+      → ClauseRow nodes table carts h l d p k r
   unfolding clauseTree judge count
   clause-count m em q g = at-count h l ok nodes rule none counts p k r kind x ek ex m em q g
 
@@ -45,6 +47,7 @@ module _ (nodes table : List ℕ) (carts h l d : ℕ) (ok : l < h) (p : Bool) (k
     unfolding clauseTree
     clause-one q q′ g = at-one h l ok nodes rule none counts p k r kind x ek ex a o f q q′ g
 
-    pub clause-two : (b y : ℕ) → y ≡ secondAt nodes k → 6 ≤ kind → kind < 10 → ClauseRow nodes table carts h l d p y b → Row h r (twoRule h l p (twoOf kind) (on a) (on b)) → ClauseRow nodes table carts h l d p k r
+    pub clause-two : (b y : ℕ) → y ≡ secondAt nodes k → 6 ≤ kind → kind < 10 → ClauseRow nodes table carts h l d p y b
+        → Row h r (twoRule h l p (twoOf kind) (on a) (on b)) → ClauseRow nodes table carts h l d p k r
     unfolding clauseTree
     clause-two b y ey q q′ f′ g = at-two h l ok nodes rule none counts p k r kind x ek ex a o f b y ey q q′ f′ g

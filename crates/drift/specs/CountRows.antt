@@ -32,7 +32,8 @@ module _ (h l d m : ℕ) (f : ℕ → ℕ → Bool) where
   none-counted planes all e a = record { low = e .low; many = λ s q. let n = e .at s q in omega arith; each = a }
 
   -- one cart more
-  pub cart-counted : l < h → (i : ℕ) (planes planes′ : List ℕ) (all all′ a w : ℕ) → i < 32 → Counted i planes all → Row h a (f i) → Row h w (window h l (on a) d) → Added planes w planes′
+  pub cart-counted : l < h → (i : ℕ) (planes planes′ : List ℕ) (all all′ a w : ℕ) → i < 32 → Counted i planes all → Row h a (f i)
+      → Row h w (window h l (on a) d) → Added planes w planes′
       → Row h all′ (λ s. join true (on a s) (on all s)) → Counted (i + 1) planes′ all′
   unfolding every
   cart-counted ok i planes planes′ all all′ a w q c ra rw′ ad ral = record {
@@ -43,7 +44,8 @@ module _ (h l d m : ℕ) (f : ℕ → ℕ → Bool) where
     where
       count : (s : ℕ) → s < h → number planes′ s ≡ (64 - min m 33) + tally (λ i. window h l (f i) d s) (suc i)
       count s z =
-          counted (λ i. window h l (f i) d s) (64 - min m 33) i w s planes planes′ ad (rw′ .at s z ∙ window-cong h l ok (on a) (f i) (ra .at) d s) (omega arith) (c .many s z)
+          counted (λ i. window h l (f i) d s) (64 - min m 33) i w s planes planes′ ad (rw′ .at s z ∙ window-cong h l ok (on a) (f i) (ra .at) d s)
+          (omega arith) (c .many s z)
 
   -- all carts counted
   module _ (carts : ℕ) (few : carts ≤ 32) (planes : List ℕ) (all many : ℕ) (c : Counted carts planes all) (r : Row h many (λ s. leb 64 (number planes s))) where
@@ -51,18 +53,23 @@ module _ (h l d m : ℕ) (f : ℕ → ℕ → Bool) where
     enough s z =
         let t = tally-le (λ i. window h l (f i) d s) carts in
         let n = c .many s z in
-        bool-ext _ _ (λ x. let y = leb→le 64 (number planes s) x in le→leb m _ (omega arith)) (λ x. let y = leb→le m _ x in le→leb 64 (number planes s) (omega arith))
+        bool-ext _ _ (λ x. let y = leb→le 64 (number planes s) x in le→leb m _ (omega arith))
+        (λ x. let y = leb→le m _ x in le→leb 64 (number planes s) (omega arith))
 
     -- with a threshold of 1 also where all have it
     pub one-quorum : (x : ℕ) → m ≡ 1 → Row h x (λ s. join false (on many s) (on all s)) → Row h x (quorum h l carts d m f)
     unfolding quorum
     one-quorum x e g =
-        row-of h x _ _ (λ s z. ap₂ (λ (x y : Bool). x || y) (r .at s z ∙ enough s z) (c .each .at s z) ∙ ap (λ (b : Bool). leb m (tally (λ i. window h l (f i) d s) carts) || (b && every (λ i. f i s) carts)) (sym (eq-eqb m 1 e))) g
+        row-of h x _ _
+        (λ s z. ap₂ (λ (x y : Bool). x || y) (r .at s z ∙ enough s z) (c .each .at s z) ∙ ap
+        (λ (b : Bool). leb m (tally (λ i. window h l (f i) d s) carts) || (b && every (λ i. f i s) carts)) (sym (eq-eqb m 1 e))) g
 
     pub more-quorum : (m ≡ 1 → ⊥) → Row h many (quorum h l carts d m f)
     unfolding quorum
     more-quorum e =
-        row-of h many _ _ (λ s z. enough s z ∙ or-false (leb m (tally (λ i. window h l (f i) d s) carts)) ∙ ap (λ (b : Bool). leb m (tally (λ i. window h l (f i) d s) carts) || (b && every (λ i. f i s) carts)) (sym (ne-eqb m 1 e))) r
+        row-of h many _ _
+        (λ s z. enough s z ∙ or-false (leb m (tally (λ i. window h l (f i) d s) carts)) ∙ ap
+        (λ (b : Bool). leb m (tally (λ i. window h l (f i) d s) carts) || (b && every (λ i. f i s) carts)) (sym (ne-eqb m 1 e))) r
       where
         or-false : (b : Bool) → b ≡ (b || false)
         or-false true = refl

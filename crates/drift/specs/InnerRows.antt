@@ -45,6 +45,7 @@ module _ (nodes table : List ℕ) (h l i : ℕ) (ok : l < h) (p : Bool) (k r kin
     unfolding inner innerTree
     inner-one q q′ g = λ carts. at-one h l ok nodes (rule carts) marks none p k r kind x ek ex a o (f carts) q q′ g
 
-    pub inner-two : (b y : ℕ) → y ≡ secondAt nodes k → 6 ≤ kind → kind < 10 → InnerRow nodes table h l i p y b → Row h r (twoRule h l p (twoOf kind) (on a) (on b)) → InnerRow nodes table h l i p k r
+    pub inner-two : (b y : ℕ) → y ≡ secondAt nodes k → 6 ≤ kind → kind < 10 → InnerRow nodes table h l i p y b
+        → Row h r (twoRule h l p (twoOf kind) (on a) (on b)) → InnerRow nodes table h l i p k r
     unfolding inner innerTree
     inner-two b y ey q q′ f′ g = λ carts. at-two h l ok nodes (rule carts) marks none p k r kind x ek ex a o (f carts) b y ey q q′ (f′ carts) g

@@ -28,7 +28,8 @@ module _ (h l : ℕ) (ok : l < h) (p : Bool) where
   one-cong ev₁ f g e s q = fix-cong h l ok p (λ s. p) f (λ s. p) g (λ s q. refl) e h s q
   one-cong gl₁ f g e s q = fix-cong h l ok (not p) (λ s. not p) f (λ s. not p) g (λ s q. refl) e h s q
 
-  pub two-cong : (o : Op₂) (f g f′ g′ : ℕ → Bool) → ((s : ℕ) → s < h → f s ≡ f′ s) → ((s : ℕ) → s < h → g s ≡ g′ s) → (s : ℕ) → s < h → twoRule h l p o f g s ≡ twoRule h l p o f′ g′ s
+  pub two-cong : (o : Op₂) (f g f′ g′ : ℕ → Bool) → ((s : ℕ) → s < h → f s ≡ f′ s) → ((s : ℕ) → s < h → g s ≡ g′ s) → (s : ℕ) → s < h
+      → twoRule h l p o f g s ≡ twoRule h l p o f′ g′ s
   two-cong and₂ f g f′ g′ d e s q = rw (d s q, e s q)
   two-cong or₂ f g f′ g′ d e s q = rw (d s q, e s q)
   two-cong until₂ f g f′ g′ d e s q = fix-cong h l ok p f g f′ g′ d e h s q
@@ -54,21 +55,26 @@ module _ (h l : ℕ) (ok : l < h) (block : List ℕ) {L : Type 0} (rule : Bool �
   abbrev pub Judged : Bool → ℕ → ℕ → Type 0
   Judged p k r = (n : ℕ) → k < n → Row h r (judge h l rule p (tree mark count block n k))
 
-  pub node-row : (p : Bool) (k r : ℕ) (x : Node) → nodeAt block k ≡ x → ((n : ℕ) → k ≤ n → Row h r (judge h l rule p (formOf mark count (λ i. tree mark count block n i) x))) → Judged p k r
+  pub node-row : (p : Bool) (k r : ℕ) (x : Node) → nodeAt block k ≡ x
+      → ((n : ℕ) → k ≤ n → Row h r (judge h l rule p (formOf mark count (λ i. tree mark count block n i) x))) → Judged p k r
   unfolding tree
   node-row p k r x e f zero q = absurd (omega arith)
   node-row p k r x e f (suc n) q = rw e (f n (omega arith))
 
-  pub one-row : (p : Bool) (k r a : ℕ) (o : Op₁) (i : ℕ) → nodeAt block k ≡ oneN o i → i < k → Judged (under o p) i a → Row h r (oneRule h l p o (on a)) → Judged p k r
+  pub one-row : (p : Bool) (k r a : ℕ) (o : Op₁) (i : ℕ) → nodeAt block k ≡ oneN o i → i < k → Judged (under o p) i a
+      → Row h r (oneRule h l p o (on a)) → Judged p k r
   one-row p k r a o i e q f g =
       node-row p k r (oneN o i) e
       (λ n m. row-of h r _ _ (λ s z. one-cong h l ok p o _ _ (f n (omega arith) .at) s z ∙ sym (one-judge h l ok p rule o (tree mark count block n i) s)) g)
 
-  pub two-row : (p : Bool) (k r a b : ℕ) (o : Op₂) (i j : ℕ) → nodeAt block k ≡ twoN o i j → i < k → j < k → Judged p i a → Judged p j b → Row h r (twoRule h l p o (on a) (on b)) → Judged p k r
+  pub two-row : (p : Bool) (k r a b : ℕ) (o : Op₂) (i j : ℕ) → nodeAt block k ≡ twoN o i j → i < k → j < k → Judged p i a → Judged p j b
+      → Row h r (twoRule h l p o (on a) (on b)) → Judged p k r
   two-row p k r a b o i j e q q′ f f′ g =
       node-row p k r (twoN o i j) e
-      (λ n m. row-of h r _ _ (λ s z. two-cong h l ok p o _ _ _ _ (f n (omega arith) .at) (f′ n (omega arith) .at) s z ∙ sym (two-judge h l ok p rule o (tree mark count block n i) (tree mark count block n j) s)) g)
+      (λ n m. row-of h r _ _ (λ s z. two-cong h l ok p o _ _ _ _ (f n (omega arith) .at) (f′ n (omega arith) .at) s z ∙ sym
+      (two-judge h l ok p rule o (tree mark count block n i) (tree mark count block n j) s)) g)
 
-  pub top-row : (p : Bool) (k r : ℕ) (x : Node) → nodeAt block k ≡ x → ((n : ℕ) → formOf mark count (λ i. tree mark count block n i) x ≡ top) → Row h r (λ s. p) → Judged p k r
+  pub top-row : (p : Bool) (k r : ℕ) (x : Node) → nodeAt block k ≡ x → ((n : ℕ) → formOf mark count (λ i. tree mark count block n i) x ≡ top)
+      → Row h r (λ s. p) → Judged p k r
   unfolding judge
   top-row p k r x e t g = node-row p k r x e (λ n m. rw (t n) g)

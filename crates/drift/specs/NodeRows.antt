@@ -63,7 +63,8 @@ module _ (h l : ℕ) (ok : l < h) (block : List ℕ) {L : Type 0} (rule : Bool �
     pub at-count : (m : ℕ) → m ≡ secondAt block k + 256 * thirdAt block k → 10 ≤ kind → Row h r (judge h l rule p (count x m (eqb kind 11))) → J p k r
     at-count m em q g =
         node-row h l ok block rule mark count p k r (countN x m (eqb kind 11))
-        (kind-count (kindAt block k) _ _ _ (omega arith) ∙ ap₂ (λ (i n : ℕ). countN i n (eqb (kindAt block k) 11)) (sym ex) (sym em) ∙ ap (λ (o : ℕ). countN x m (eqb o 11)) (sym ek))
+        (kind-count (kindAt block k) _ _ _ (omega arith) ∙ ap₂ (λ (i n : ℕ). countN i n (eqb (kindAt block k) 11)) (sym ex) (sym em) ∙ ap
+        (λ (o : ℕ). countN x m (eqb o 11)) (sym ek))
         (λ n m. g)
 
     module _ (a : ℕ) (o : Ordered block (k + 1)) (f : J (under (oneOf kind) p) x a) where
@@ -78,5 +79,6 @@ module _ (h l : ℕ) (ok : l < h) (block : List ℕ) {L : Type 0} (rule : Bool �
           let low = two-low block k o (omega arith) (omega arith) in
           let f″ : J p x a = subst (λ (q : Bool). J q x a) (under-other kind p (λ e. omega arith)) f in
           two-row h l ok block rule mark count p k r a b (twoOf kind) x y
-          (kind-two (kindAt block k) _ _ _ (omega arith) (omega arith) ∙ ap₂ (λ (o i : ℕ). twoN (twoOf o) i (secondAt block k)) (sym ek) (sym ex) ∙ ap (twoN (twoOf kind) x) (sym ey))
+          (kind-two (kindAt block k) _ _ _ (omega arith) (omega arith) ∙ ap₂ (λ (o i : ℕ). twoN (twoOf o) i (secondAt block k)) (sym ek) (sym ex) ∙ ap
+          (twoN (twoOf kind) x) (sym ey))
           (omega arith) (omega arith) f″ f′ g

@@ -20,7 +20,8 @@ module _ (a h s : ℕ) (left : lowest (on a) (h - s) s ≡ lowest (on a) h 0) wh
   off-later p f =
       let e : a / 2 ^ s % 2 ≡ 1 = odd (a / 2 ^ s % 2) f (omega arith) in
       let j : suc s ≡ s + 1 = omega arith in
-      ap (λ (t : ℕ). lowest (on a) (h - t) t) (sym j) ∙ sym (ap (λ (n : ℕ). lowest (on a) n s) (ahead p) ∙ ap (λ (x : ℕ). cond (eqb x 1) (lowest (on a) (h - suc s) (suc s)) s) e) ∙ left
+      ap (λ (t : ℕ). lowest (on a) (h - t) t) (sym j)
+      ∙ sym (ap (λ (n : ℕ). lowest (on a) n s) (ahead p) ∙ ap (λ (x : ℕ). cond (eqb x 1) (lowest (on a) (h - suc s) (suc s)) s) e) ∙ left
     where
       odd : (x : ℕ) → (x ≡ 0 → ⊥) → x < 2 → x ≡ 1
       odd x f q = omega arith

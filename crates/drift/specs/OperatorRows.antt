@@ -21,7 +21,8 @@ module _ (h l : ℕ) (ok : l < h) (kind : ℕ) (p : Bool) (a r : ℕ) where
   later-row n e g = rw (ne-eqb kind 2 n, eq-eqb kind 3 e) g
 
   -- F (4) or G
-  pub ever-row : (kind ≡ 2 → ⊥) → (kind ≡ 3 → ⊥) → (c : ℕ) → Row h c (λ s. Bool·beq (eqb kind 4) p) → Row h r (fix h l (Bool·beq (eqb kind 4) p) (on c) (on a) h) → Row h r (oneRule h l p (oneOf kind) (on a))
+  pub ever-row : (kind ≡ 2 → ⊥) → (kind ≡ 3 → ⊥) → (c : ℕ) → Row h c (λ s. Bool·beq (eqb kind 4) p)
+      → Row h r (fix h l (Bool·beq (eqb kind 4) p) (on c) (on a) h) → Row h r (oneRule h l p (oneOf kind) (on a))
   ever-row n n′ c k g = rw (ne-eqb kind 2 n, ne-eqb kind 3 n′) (go (eqb kind 4) p k g)
     where
       go : (f p : Bool) → Row h c (λ s. Bool·beq f p) → Row h r (fix h l (Bool·beq f p) (on c) (on a) h) → Row h r (oneRule h l p (cond f ev₁ gl₁) (on a))
@@ -38,7 +39,8 @@ module _ (h l : ℕ) (ok : l < h) (kind : ℕ) (p : Bool) (a r : ℕ) where
     either-row n e g = rw (ne-eqb kind 6 n, eq-eqb kind 7 e) g
 
     -- U (8) or R
-    pub reach-row : (kind ≡ 6 → ⊥) → (kind ≡ 7 → ⊥) → Row h r (fix h l (Bool·beq (eqb kind 8) p) (on a) (on b) h) → Row h r (twoRule h l p (twoOf kind) (on a) (on b))
+    pub reach-row : (kind ≡ 6 → ⊥) → (kind ≡ 7 → ⊥) → Row h r (fix h l (Bool·beq (eqb kind 8) p) (on a) (on b) h)
+        → Row h r (twoRule h l p (twoOf kind) (on a) (on b))
     reach-row n n′ g = rw (ne-eqb kind 6 n, ne-eqb kind 7 n′) (go (eqb kind 8) p g)
       where
         go : (u p : Bool) → Row h r (fix h l (Bool·beq u p) (on a) (on b) h) → Row h r (twoRule h l p (cond u until₂ release₂) (on a) (on b))

@@ -16,7 +16,8 @@ twoOf kind = cond (eqb kind 6) and₂ (cond (eqb kind 7) or₂ (cond (eqb kind 8
 -- by its kind and the three bytes behind it
 abbrev pub nodeOf : ℕ → ℕ → ℕ → ℕ → Node
 nodeOf kind x y z =
-    cond (eqb kind 0) topN (cond (eqb kind 1) (markN x) (cond (ltb kind 6) (oneN (oneOf kind) x) (cond (ltb kind 10) (twoN (twoOf kind) x y) (countN x (y + 256 * z) (eqb kind 11)))))
+    cond (eqb kind 0) topN
+    (cond (eqb kind 1) (markN x) (cond (ltb kind 6) (oneN (oneOf kind) x) (cond (ltb kind 10) (twoN (twoOf kind) x y) (countN x (y + 256 * z) (eqb kind 11)))))
 
 -- the four bytes of node k
 module _ (block : List ℕ) (k : ℕ) where

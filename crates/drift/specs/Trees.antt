@@ -36,7 +36,8 @@ module _ (block : List ℕ) (n k : ℕ) where
   pub one-tree : 2 ≤ kindAt block k → kindAt block k < 6 → clauseTree block (suc n) k ≡ one (oneOf (kindAt block k)) (clauseTree block n (firstAt block k))
   one-tree q q′ = looked-up (oneN (oneOf (kindAt block k)) (firstAt block k)) (kind-one _ _ _ _ q q′)
 
-  pub two-tree : 6 ≤ kindAt block k → kindAt block k < 10 → clauseTree block (suc n) k ≡ two (twoOf (kindAt block k)) (clauseTree block n (firstAt block k)) (clauseTree block n (secondAt block k))
+  pub two-tree : 6 ≤ kindAt block k → kindAt block k < 10
+      → clauseTree block (suc n) k ≡ two (twoOf (kindAt block k)) (clauseTree block n (firstAt block k)) (clauseTree block n (secondAt block k))
   two-tree q q′ = looked-up (twoN (twoOf (kindAt block k)) (firstAt block k) (secondAt block k)) (kind-two _ _ _ _ q q′)
 
 ---- "next" outside counts.
@@ -50,7 +51,9 @@ module _ (block : List ℕ) (k : ℕ) where
   tells b f (suc n) q = f n (omega arith)
 
   pub next-tells : kindAt block k ≡ 3 → Tells true
-  next-tells e = tells true (λ n q. sym (ap hasNext (one-tree block n k (omega arith) (omega arith) ∙ ap (λ (o : Op₁). one o (clauseTree block n (firstAt block k))) next-is)))
+  next-tells e =
+      tells true
+      (λ n q. sym (ap hasNext (one-tree block n k (omega arith) (omega arith) ∙ ap (λ (o : Op₁). one o (clauseTree block n (firstAt block k))) next-is)))
     where
       next-is : oneOf (kindAt block k) ≡ next₁
       next-is = let a : (kindAt block k ≡ 2) → ⊥ = (λ d. omega arith) in rw (ne-eqb (kindAt block k) 2 a, eq-eqb (kindAt block k) 3 e)
@@ -61,7 +64,8 @@ module _ (block : List ℕ) (k : ℕ) where
   pub count-tells : 10 ≤ kindAt block k → Tells false
   count-tells q =
       tells false
-      (λ n z. sym (ap hasNext (looked-up block n k (countN (firstAt block k) (secondAt block k + 256 * thirdAt block k) (eqb (kindAt block k) 11)) (kind-count _ _ _ _ q))))
+      (λ n z. sym (ap hasNext
+      (looked-up block n k (countN (firstAt block k) (secondAt block k + 256 * thirdAt block k) (eqb (kindAt block k) 11)) (kind-count _ _ _ _ q))))
 
   has-one : (kind : ℕ) (a : Clause) → (kind ≡ 3 → ⊥) → hasNext a ≡ hasNext (one (oneOf kind) a)
   has-one kind a f = rw (ne-eqb kind 3 f) (go (eqb kind 2) (eqb kind 4))
@@ -80,20 +84,26 @@ module _ (block : List ℕ) (k : ℕ) where
   module _ (o : Ordered block (k + 1)) (a : Bool) (f : (n : ℕ) → firstAt block k < n → a ≡ hasNext (clauseTree block n (firstAt block k))) where
     pub one-tells : 2 ≤ kindAt block k → kindAt block k < 6 → (kindAt block k ≡ 3 → ⊥) → Tells a
     one-tells q q′ z =
-        tells a (λ n r. let low = one-low block k o q q′ in f n (omega arith) ∙ has-one (kindAt block k) (clauseTree block n (firstAt block k)) z ∙ sym (ap hasNext (one-tree block n k q q′)))
+        tells a
+        (λ n r. let low = one-low block k o q q′ in f n (omega arith) ∙ has-one (kindAt block k) (clauseTree block n (firstAt block k)) z ∙ sym
+        (ap hasNext (one-tree block n k q q′)))
 
-    pub two-tells : (b : Bool) → ((n : ℕ) → secondAt block k < n → b ≡ hasNext (clauseTree block n (secondAt block k))) → 6 ≤ kindAt block k → kindAt block k < 10 → Tells (a || b)
+    pub two-tells : (b : Bool) → ((n : ℕ) → secondAt block k < n → b ≡ hasNext (clauseTree block n (secondAt block k))) → 6 ≤ kindAt block k
+        → kindAt block k < 10 → Tells (a || b)
     two-tells b g q q′ =
         tells (a || b)
         (λ n r.
         let low = two-low block k o q q′ in
         let x : a ≡ hasNext (clauseTree block n (firstAt block k)) = f n (let y = low .0 in omega arith) in
         let y : b ≡ hasNext (clauseTree block n (secondAt block k)) = g n (let y = low .1 in omega arith) in
-        ap₂ (λ (u v : Bool). u || v) x y ∙ has-two (twoOf (kindAt block k)) (clauseTree block n (firstAt block k)) (clauseTree block n (secondAt block k)) ∙ sym (ap hasNext (two-tree block n k q q′)))
+        ap₂ (λ (u v : Bool). u || v) x y
+        ∙ has-two (twoOf (kindAt block k)) (clauseTree block n (firstAt block k)) (clauseTree block n (secondAt block k))
+        ∙ sym (ap hasNext (two-tree block n k q q′)))
 
 ---- The step of a G that fails.
 module _ (P : Rows) (d : ℕ) (block : List ℕ) (k : ℕ) where
-  pub globally-step : Ordered block (k + 1) → kindAt block k ≡ 5 → (v x : ℕ) → x ≡ firstAt block k → ((n : ℕ) → x < n → v ≡ lowest (λ s. rules P d (clauseTree block n x) s) (P .h) 0)
+  pub globally-step : Ordered block (k + 1) → kindAt block k ≡ 5 → (v x : ℕ) → x ≡ firstAt block k
+      → ((n : ℕ) → x < n → v ≡ lowest (λ s. rules P d (clauseTree block n x) s) (P .h) 0)
       → (n : ℕ) → k < n → v ≡ failing P d (clauseTree block n k)
   unfolding failing
   globally-step o e v x ex f zero q = absurd (omega arith)
@@ -123,7 +133,9 @@ module _ (P : Rows) (d : ℕ) (block : List ℕ) (k : ℕ) where
   pub other-step : (kindAt block k ≡ 5 → ⊥) → (n : ℕ) → k < n → 0 ≡ failing P d (clauseTree block n k)
   unfolding failing
   other-step f zero q = absurd (omega arith)
-  other-step f (suc n) q = ⊎-elim low (λ z. ⊎-elim (one-at z) (λ y. ⊎-elim (two-at y) count-at (lt-or-le (kindAt block k) 10)) (lt-or-le (kindAt block k) 6)) (lt-or-le (kindAt block k) 2)
+  other-step f (suc n) q =
+      ⊎-elim low (λ z. ⊎-elim (one-at z) (λ y. ⊎-elim (two-at y) count-at (lt-or-le (kindAt block k) 10)) (lt-or-le (kindAt block k) 6))
+      (lt-or-le (kindAt block k) 2)
     where
       low : kindAt block k < 2 → 0 ≡ failing P d (clauseTree block (suc n) k)
       low z = sym (ap (failing P d) (top-tree block n k z))
@@ -136,4 +148,6 @@ module _ (P : Rows) (d : ℕ) (block : List ℕ) (k : ℕ) where
 
       count-at : 10 ≤ kindAt block k → 0 ≡ failing P d (clauseTree block (suc n) k)
       count-at z =
-          sym (ap (failing P d) (looked-up block n k (countN (firstAt block k) (secondAt block k + 256 * thirdAt block k) (eqb (kindAt block k) 11)) (kind-count _ _ _ _ z)))
+          sym
+          (ap (failing P d)
+          (looked-up block n k (countN (firstAt block k) (secondAt block k + 256 * thirdAt block k) (eqb (kindAt block k) 11)) (kind-count _ _ _ _ z)))

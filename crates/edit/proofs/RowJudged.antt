@@ -39,7 +39,8 @@ module _ (floor plan : List ℕ) (c : ℕ) (row : List ℕ) (r : PlanRead) where
         inside = λ z. never _ q z;
       }
 
-  module _ (w : Accepts floor plan r) (v : Verdict) (e : v ≡ replaceVerdict floor (r .floor) (heldNumbers (r .floor .carts) (r .plan .head) (r .plan .block)) c row) where
+  module _ (w : Accepts floor plan r) (v : Verdict)
+      (e : v ≡ replaceVerdict floor (r .floor) (heldNumbers (r .floor .carts) (r .plan .head) (r .plan .block)) c row) where
     abbrev n : Numbers
     n = w .numbers
 

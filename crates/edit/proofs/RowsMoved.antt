@@ -113,7 +113,8 @@ module _ (h : Head) (s : ℕ) (block : List ℕ) where
 
   pub front : (carts size : ℕ) (rows : List ℕ) (c : ℕ) → Moving carts size rows c → take (c * size) rows ≡ movedIn c
   front carts size rows c w =
-      ap (take (c * size)) (w .is ∙ stored-front (replicate 2048 0) (movedIn c)) ∙ take-at (movedIn c) (drop (length (movedIn c)) (replicate 2048 0)) (c * size) (w .filled)
+      ap (take (c * size)) (w .is ∙ stored-front (replicate 2048 0) (movedIn c))
+      ∙ take-at (movedIn c) (drop (length (movedIn c)) (replicate 2048 0)) (c * size) (w .filled)
 
   -- the file of the moved plan, from the rows' front and the head
   module _ (r : InRange h) (long : length block ≡ 2048) (carts : ℕ) (few : carts ≤ 32) where

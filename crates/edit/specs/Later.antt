@@ -36,7 +36,8 @@ turned-at lap k j a b = pick j (length lap - k) (getD (turned k lap) j 0 ≡ get
         let i : ℕ = k + j - length lap in
         let e : j ≡ length (drop k lap) + i = omega (arith, length-drop k lap) in
         let m : (k + j) % length lap ≡ i = mod-eq-sub-mod {n = k + j} {m = length lap} (omega arith) ∙ mod-eq-of-lt {n = i} {m = length lap} (omega arith) in
-        ap (λ (n : ℕ). getD (turned k lap) n 0) e ∙ getD-append-add (drop k lap) (take k lap) i 0 ∙ getD-take k lap i 0 (omega arith) ∙ ap (λ (n : ℕ). getD lap n 0) (sym m)
+        ap (λ (n : ℕ). getD (turned k lap) n 0) e ∙ getD-append-add (drop k lap) (take k lap) i 0 ∙ getD-take k lap i 0 (omega arith)
+        ∙ ap (λ (n : ℕ). getD lap n 0) (sym m)
 
 module _ (h l s : ℕ) (row : List ℕ) where
   pub row-early : s ≤ l → movedRow h l s row ≡ drop s row
@@ -80,7 +81,8 @@ module _ (s : ℕ) (h : Head) where
         (λ p.
         ap length (row-late (h .steps) (h .stem) s row p) ∙ length-turned (drop (h .stem) row) turn (omega (arith, turn-low, lap-length)) ∙ lap-length
         ∙ ap (λ (x : Head). x .steps) (sym (head-late p)))
-        (λ p. ap length (row-early (h .steps) (h .stem) s row p) ∙ length-drop s row ∙ ap (λ (n : ℕ). n - s) size ∙ ap (λ (x : Head). x .steps) (sym (head-early p)))
+        (λ p. ap length (row-early (h .steps) (h .stem) s row p) ∙ length-drop s row ∙ ap (λ (n : ℕ). n - s) size ∙ ap (λ (x : Head). x .steps)
+        (sym (head-early p)))
 
     -- the place at counter v is that at counter s + v
     abbrev pub SameAt : ℕ → Type 0

@@ -67,8 +67,10 @@ module _ (f : Floor) (p : Numbers) (v : Valid p f) (s : ℕ) where
     steps = λ c l. ap length (row-is c l) ∙ row-length s h (v .head .stem) (row c) (v .steps c l);
     places = λ c j l m.
         let e : stepOf (movedHead s h .steps) (movedHead s h .stem) j ≡ j = step-low (movedHead s h .steps) (movedHead s h .stem) j m in
-        let q : getD (getD (moved s p .rows) c []) j 0 ≡ placeAtCounter p c (s + j) = ap (λ (i : ℕ). getD (getD (moved s p .rows) c []) i 0) (sym e) ∙ place-moved c j l in
-        subst (λ (x : ℕ). x < f .places) (sym q) (v .places c (stepOf (h .steps) (h .stem) (s + j)) l (step-below (h .steps) (h .stem) (v .head .stem) (s + j)));
+        let q : getD (getD (moved s p .rows) c []) j 0 ≡ placeAtCounter p c (s + j) =
+        ap (λ (i : ℕ). getD (getD (moved s p .rows) c []) i 0) (sym e) ∙ place-moved c j l in
+        subst (λ (x : ℕ). x < f .places) (sym q)
+        (v .places c (stepOf (h .steps) (h .stem) (s + j)) l (step-below (h .steps) (h .stem) (v .head .stem) (s + j)));
   }
 
   pub reads-moved : f .carts ≤ 32 → readPlan f (planFile (moved s p)) ≡ accepted (moved s p)

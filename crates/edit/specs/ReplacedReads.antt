@@ -101,8 +101,10 @@ module _ (floor : List ℕ) (f : Floor) (p : Numbers) (c : ℕ) (row : List ℕ)
             go : (b : Bool) → eqb k c ≡ b → Passes floor (replaced c row p) k
             go true q =
                 subst (Passes floor (replaced c row p)) (sym (eqb-true k c q))
-                (ap (λ (x : List ℕ). cartVerdict floor c x (p .head .steps) (p .head .stem)) (getD-set-same (p .rows) c row [] (omega (arith, w .cart, v .carts))) ∙ w .opened)
-            go false q = ap (λ (x : List ℕ). cartVerdict floor k x (p .head .steps) (p .head .stem)) (getD-set-other (p .rows) c k row [] (eqb-false k c q)) ∙ old
+                (ap (λ (x : List ℕ). cartVerdict floor c x (p .head .steps) (p .head .stem))
+                (getD-set-same (p .rows) c row [] (omega (arith, w .cart, v .carts))) ∙ w .opened)
+            go false q =
+                ap (λ (x : List ℕ). cartVerdict floor k x (p .head .steps) (p .head .stem)) (getD-set-other (p .rows) c k row [] (eqb-false k c q)) ∙ old
 
     -- its file
     sizes : AllOf (p .head .steps) (p .rows)
@@ -138,7 +140,8 @@ module _ (floor before : List ℕ) (c : ℕ) (row : List ℕ) (v : Verdict) (aft
   unfolding replaceRow refuse step
   verdict f p w = g .answer ∙ ap (λ (o : Outcome). o .answer) (read-on refuse step floor before f p w)
 
-  left : (f : Floor) (p : Numbers) → ReadAs floor before f p → (b : Bool) → isAccepted v ≡ b → after ≡ cond b (stored before (rowAt (p .head .steps) c) row) before
+  left : (f : Floor) (p : Numbers) → ReadAs floor before f p → (b : Bool) → isAccepted v ≡ b
+      → after ≡ cond b (stored before (rowAt (p .head .steps) c) row) before
   unfolding replaceRow refuse step
   left f p w b e =
       g .out ∙ ap (λ (o : Outcome). o .out) (read-on refuse step floor before f p w)
@@ -175,7 +178,8 @@ module _ (floor before : List ℕ) (c : ℕ) (row : List ℕ) (v : Verdict) (aft
             let few : f .carts ≤ 32 = accepts floor f b (u .floor-read) .valid .few-carts in
             let w = replaces floor f n c row (sym (verdict f n u) ∙ e) in
             let back : stored before (rowAt (n .head .steps) c) row ≡ planFile (replaced c row n) =
-            ap (λ (x : List ℕ). stored x (rowAt (n .head .steps) c) row) (sym (bytes-back f before n b′ (u .plan-read))) ∙ stored-replaced floor f n c row d w in
+            ap (λ (x : List ℕ). stored x (rowAt (n .head .steps) c) row) (sym (bytes-back f before n b′ (u .plan-read)))
+            ∙ stored-replaced floor f n c row d w in
             let reads : readPlan f after ≡ accepted (replaced c row n) =
             ap (readPlan f) (left f n u true (ap isAccepted e) ∙ back) ∙ reads-replaced floor f n c row d w few in
             record {

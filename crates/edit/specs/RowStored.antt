@@ -59,11 +59,13 @@ sizes-set k [] c row a e = tt
 sizes-set k (x ∷ rows) zero row a e = (e, a .1)
 sizes-set k (x ∷ rows) (suc c) row a e = (a .0, sizes-set k rows c row (a .1) e)
 
-module _ (n : Numbers) (some : 0 < n .head .steps) (sizes : AllOf (n .head .steps) (n .rows)) (c : ℕ) (row : List ℕ) (l : c < length (n .rows)) (e : length row ≡ n .head .steps) where
+module _ (n : Numbers) (some : 0 < n .head .steps) (sizes : AllOf (n .head .steps) (n .rows)) (c : ℕ) (row : List ℕ) (l : c < length (n .rows))
+    (e : length row ≡ n .head .steps) where
   file-is : (rows : List (List ℕ)) → AllOf (n .head .steps) rows
       → planFile (record { head = n .head; rows = rows }) ≡ encoded (ofKind 4 (headBytes (n .head))) ++ layout (map (ofKind 5) rows)
   unfolding layout
-  file-is rows a = ap (λ (x : List (List ℕ)). encoded (ofKind 4 (headBytes (n .head))) ++ layout (map (ofKind 5) x)) (parts-flatten (n .head .steps) rows some a)
+  file-is rows a =
+      ap (λ (x : List (List ℕ)). encoded (ofKind 4 (headBytes (n .head))) ++ layout (map (ofKind 5) x)) (parts-flatten (n .head .steps) rows some a)
 
   pub row-stored : stored (planFile n) (rowAt (n .head .steps) c) row ≡ planFile (replaced c row n)
   row-stored =

@@ -42,7 +42,8 @@ module _ (s : List ℕ) (f : Floor) (at : ℕ) where
 
     -- by how the record is judged
     by : (j : Judged) → judged f (kindOf k) body ≡ j
-        → readOn f at (recordsIn (drop at s)) ≡ atEnd (onward j at (λ g. walk g (at + 4 + length body) (recordsIn (drop e s) .records))) (recordsIn (drop e s) .cut)
+        → readOn f at (recordsIn (drop at s)) ≡ atEnd (onward j at (λ g. walk g (at + 4 + length body) (recordsIn (drop e s) .records)))
+        (recordsIn (drop e s) .cut)
     unfolding walk
     by j q =
         ap (readOn f at) (opened s at k a e found .rest)

@@ -45,7 +45,8 @@ module _ (k size : ℕ) where
       ∙ ap (take size) (append-assoc x rest t) ∙ take-at x (rest ++ t) size (h .0)
   row-at (x ∷ xs) t (suc i) h l =
       let rest : List ℕ = layout (map (ofKind k) xs) in
-      let n : (4 + size) * suc i + 4 ≡ length (encoded (ofKind k x)) + ((4 + size) * i + 4) = omega (arith, mul-suc (4 + size) i, length-encoded (ofKind k x), h .0) in
+      let n : (4 + size) * suc i + 4 ≡ length (encoded (ofKind k x)) + ((4 + size) * i + 4) =
+      omega (arith, mul-suc (4 + size) i, length-encoded (ofKind k x), h .0) in
       ap (take size) (ap₂ drop n (append-assoc (encoded (ofKind k x)) rest t) ∙ drop-append-add (encoded (ofKind k x)) (rest ++ t) ((4 + size) * i + 4))
       ∙ row-at xs t i (h .1) (omega arith)
 
@@ -107,7 +108,8 @@ module _ (s : List ℕ) (f : Floor) (b : Bytes s) (e : readFloor s ≡ Read f) w
   cart-located n l =
       let k : cartAt f n + 4 ≡ 8 * f .places + (7 * f .lanes + (6 * n + 4)) = omega arith in
       let m : n < length carts = omega (arith, ordered .carts) in
-      let far : 7 * f .lanes + (6 * n + 4) ≡ length (layout (map (ofKind 2) lanes)) + (6 * n + 4) = omega (arith, row-length 2 3 lanes (ordered .lane-sizes), ordered .lanes) in
+      let far : 7 * f .lanes + (6 * n + 4) ≡ length (layout (map (ofKind 2) lanes)) + (6 * n + 4) =
+      omega (arith, row-length 2 3 lanes (ordered .lane-sizes), ordered .lanes) in
       ap (λ (x : ℕ). take 2 (drop x s)) k ∙ ap (take 2) (past-places (7 * f .lanes + (6 * n + 4))
       ∙ ap (λ (x : ℕ). drop x behind) far ∙ drop-append-add (layout (map (ofKind 2) lanes)) (layout (map (ofKind 3) carts)) (6 * n + 4)
       ∙ ap (drop (6 * n + 4)) (sym (append-nil (layout (map (ofKind 3) carts)))))

@@ -162,7 +162,8 @@ bytes-left (r ∷ rs) ts h = (h .0, bytes-left rs ts (h .1))
 places-again : (a : List (List ℕ)) → AllOf 4 a → AllBytes (map (ofKind 1) a) → map placeRecord (map value a) ≡ map (ofKind 1) a
 places-again [] h b = refl
 places-again (x ∷ a) h b =
-    ap₂ (λ (y : List ℕ) (t : List Record). ofKind 1 y ∷ t) (ap (λ (n : ℕ). bytes n (value x)) (sym (h .0)) ∙ bytes-value x (b .0)) (places-again a (h .1) (b .1))
+    ap₂ (λ (y : List ℕ) (t : List Record). ofKind 1 y ∷ t) (ap (λ (n : ℕ). bytes n (value x)) (sym (h .0)) ∙ bytes-value x (b .0))
+    (places-again a (h .1) (b .1))
 
 -- what was read writes back as the same bytes
 pub bytes-back : (s : List ℕ) (f : Floor) → Bytes s → readFloor s ≡ Read f → floorBytes (numbersOf s) ≡ s
@@ -172,9 +173,11 @@ bytes-back s f b e =
     let p = bodiesOf 1 rs in
     let l = bodiesOf 2 rs in
     let c = bodiesOf 3 rs in
-    let places : AllBytes (map (ofKind 1) p) = bytes-left (map (ofKind 1) p) (map (ofKind 2) l ++ map (ofKind 3) c) (subst AllBytes (o .in-order) (records-bytes s b)) in
+    let places : AllBytes (map (ofKind 1) p) =
+    bytes-left (map (ofKind 1) p) (map (ofKind 2) l ++ map (ofKind 3) c) (subst AllBytes (o .in-order) (records-bytes s b)) in
     ap layout (ap₂ _++_ (places-again p (o .place-sizes) places)
-    (ap₂ (λ (x y : List (List ℕ)). map (ofKind 2) x ++ map (ofKind 3) y) (parts-flatten 3 l (omega arith) (o .lane-sizes)) (parts-flatten 2 c (omega arith) (o .cart-sizes)))
+    (ap₂ (λ (x y : List (List ℕ)). map (ofKind 2) x ++ map (ofKind 3) y) (parts-flatten 3 l (omega arith) (o .lane-sizes))
+    (parts-flatten 2 c (omega arith) (o .cart-sizes)))
     ∙ sym (o .in-order))
     ∙ layout-records s b (whole s f e .uncut)
 

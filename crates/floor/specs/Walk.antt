@@ -79,7 +79,8 @@ places-over [] n at h k = absurd (omega arith)
 places-over (m ∷ ms) n at h k = go (leb 256 n) refl (places-over ms (n + 1) (at + 8))
   where
     go : (b : Bool) → leb 256 n ≡ b
-        → (n + 1 ≤ 256 → 256 < n + 1 + length ms → walk (onlyPlaces (n + 1)) (at + 8) (map placeRecord ms) ≡ Stopped (atOffset 5 (at + 8 + 8 * (256 - (n + 1)))))
+        →
+        (n + 1 ≤ 256 → 256 < n + 1 + length ms → walk (onlyPlaces (n + 1)) (at + 8) (map placeRecord ms) ≡ Stopped (atOffset 5 (at + 8 + 8 * (256 - (n + 1)))))
         → walk (onlyPlaces n) at (map placeRecord (m ∷ ms)) ≡ Stopped (atOffset 5 (at + 8 * (256 - n)))
     go true e f =
         let l = leb-true 256 n e in
@@ -132,7 +133,9 @@ length-places (m ∷ ms) =
 module _ (n : Numbers) where
   pub length-three : length (floorBytes n) ≡ length (layout (placeRecords n)) + (length (layout (laneRecords n)) + length (layout (cartRecords n)))
   length-three =
-      ap length (layout-append (placeRecords n) ((laneRecords n) ++ (cartRecords n)) ∙ ap (λ (x : List ℕ). layout (placeRecords n) ++ x) (layout-append (laneRecords n) (cartRecords n)))
+      ap length
+      (layout-append (placeRecords n) ((laneRecords n) ++ (cartRecords n)) ∙ ap (λ (x : List ℕ). layout (placeRecords n) ++ x)
+      (layout-append (laneRecords n) (cartRecords n)))
       ∙ length-append (layout (placeRecords n)) (layout (laneRecords n) ++ layout (cartRecords n))
       ∙ ap (λ (k : ℕ). length (layout (placeRecords n)) + k) (length-append (layout (laneRecords n)) (layout (cartRecords n)))
 
@@ -152,7 +155,9 @@ module _ (n : Numbers) where
   read-numbers h =
       ap (λ (b : Bool). cond b (Refused (atOffset 1 0)) (readOn emptyFloor 0 (recordsIn (floorBytes n)))) (le-ltb 65536 (length (floorBytes n)) h)
       ∙ ap (readOn emptyFloor 0) (records-layout (floorRecords n) (floor-encodable n))
-      ∙ ap (λ (w : Walked). atEnd w false) (walk-append emptyFloor 0 (placeRecords n) ((laneRecords n) ++ (cartRecords n)) ∙ on-append (walk emptyFloor 0 (placeRecords n)) (laneRecords n) (cartRecords n))
+      ∙ ap (λ (w : Walked). atEnd w false)
+      (walk-append emptyFloor 0 (placeRecords n) ((laneRecords n) ++ (cartRecords n)) ∙ on-append (walk emptyFloor 0 (placeRecords n)) (laneRecords n)
+      (cartRecords n))
 
   -- within a file's length throughout
   module _ (h : length (floorBytes n) ≤ 65536) where

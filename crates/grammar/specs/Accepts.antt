@@ -32,7 +32,8 @@ module _ {s r : List ℕ} (x : Spaces s (109 ∷ r)) where
   nought-there : {w : ℕ} {m : Mode} → ((v : List ℕ) → Keeps m w r r v) → (t : List ℕ) → Completed Mark markLevel markNodes MarkOk small s w r t m
   nought-there k t = let y = frame-token x (48 ∷ t) in (r, 48 ∷ t, y .0, Form.leaf 0, y .1, Part.leaf (mark (y .2) nought), k (48 ∷ t), λ e. omega arith)
 
-  number-there : {k : ℕ} {r₁ : List ℕ} → Number r r₁ k → (t : List ℕ) → (v s' : List ℕ) × Swap (109 ∷ r) v s s' × Swap r₁ t (109 ∷ r) v × Part Mark small s' t (Form.leaf k)
+  number-there : {k : ℕ} {r₁ : List ℕ} → Number r r₁ k → (t : List ℕ)
+      → (v s' : List ℕ) × Swap (109 ∷ r) v s s' × Swap r₁ t (109 ∷ r) v × Part Mark small s' t (Form.leaf k)
   number-there n t = let w = frame-number n t in let o = frame-spaces x (109 ∷ w .0) in (109 ∷ w .0, o .0, o .1, there (w .1), Part.leaf (mark (o .2) (w .2)))
 
 mark-by : (l : ℕ) (q : Bool) (n b : ℕ) (s r : List ℕ) → (q ≡ true → b ≡ 109) → Spaces s (b ∷ r)
@@ -52,7 +53,8 @@ mark-by l true n b s r e x =
     (λ i. denies (record {
       short = omega arith;
       goes = modes Mark markLevel markNodes MarkOk small s 15 r (nought-there x₁ (λ v. keeps-near refl))
-          (λ t. let z = number-there x₁ (y .number) t in (109 ∷ r, z .0, z .1, Form.leaf k, z .2, z .4, keeps-15 refl refl (Large.mark y (leb-false k 31 i)) (z .3), not-near));
+          (λ t. let z = number-there x₁ (y .number) t in
+          (109 ∷ r, z .0, z .1, Form.leaf k, z .2, z .4, keeps-15 refl refl (Large.mark y (leb-false k 31 i)) (z .3), not-near));
     })))
     (λ j.
     subst (λ (c : ℕ). LateMark s 14 (c ∷ r)) (sym (e refl)) (record {
@@ -83,8 +85,10 @@ LateCount = Refuses Count countLevel countNodes CountOk small
 
 bracket-refuses : (b : ℕ) {s r : List ℕ} → Spaces s (b ∷ r) → b ≡ 91 → LateCount s 14 (b ∷ r)
 bracket-refuses b {r = r} x e =
-    byte-refuses Count countLevel countNodes CountOk small b x (subst (λ (c : ℕ). Token (c ∷ r) r) (sym e) Token.bracket) (λ t. 116 ∷ 114 ∷ 117 ∷ 101 ∷ 44 ∷ 48 ∷ 93 ∷ t) (Form.leaf (counted top 0 false)) (tt, omega arith)
-    (λ s' t z. Part.leaf (count (subst (λ (c : ℕ). Spaces s' (c ∷ 116 ∷ 114 ∷ 117 ∷ 101 ∷ 44 ∷ 48 ∷ 93 ∷ t)) e z) (one-and (one-until (one-small (word none)))) none none nought without none))
+    byte-refuses Count countLevel countNodes CountOk small b x (subst (λ (c : ℕ). Token (c ∷ r) r) (sym e) Token.bracket)
+    (λ t. 116 ∷ 114 ∷ 117 ∷ 101 ∷ 44 ∷ 48 ∷ 93 ∷ t) (Form.leaf (counted top 0 false)) (tt, omega arith)
+    (λ s' t z. Part.leaf (count (subst (λ (c : ℕ). Spaces s' (c ∷ 116 ∷ 114 ∷ 117 ∷ 101 ∷ 44 ∷ 48 ∷ 93 ∷ t)) e z)
+    (one-and (one-until (one-small (word none)))) none none nought without none))
 
 -- a count up to its number
 module _ (a : Inner) (s s₁ s₂ s₃ s₄ : List ℕ) (o : Spaces s (91 ∷ s₁)) (p : Part Mark Rank.ors s₁ s₂ a) (c : Spaces s₂ (44 ∷ s₃)) (d : Spaces s₃ s₄) where
@@ -97,12 +101,23 @@ module _ (a : Inner) (s s₁ s₂ s₃ s₄ : List ℕ) (o : Spaces s (91 ∷ s�
       (o' .0, swap-trans (o' .1) (swap-trans (p' .1) (swap-trans (c' .1) (d' .1))), λ s₅ s₆ r n q e f g. count (o' .2) (p' .2) (c' .2) (d' .2) e f g)
 
   -- the number 0 may follow
-  nought-next : {w : ℕ} {m : Mode} → InRange MarkOk a → ((v : List ℕ) → Keeps m w s₄ s₄ v) → (t : List ℕ) → Completed Count countLevel countNodes CountOk small s w s₄ t m
+  nought-next : {w : ℕ} {m : Mode} → InRange MarkOk a → ((v : List ℕ) → Keeps m w s₄ s₄ v) → (t : List ℕ)
+      → Completed Count countLevel countNodes CountOk small s w s₄ t m
   nought-next ok k t =
-      let b = ahead (48 ∷ 93 ∷ t) in
-      (s₄, 48 ∷ 93 ∷ t, b .0, Form.leaf (counted a 0 false), b .1, Part.leaf (b .2 (93 ∷ t) (93 ∷ t) t 0 false nought without none), k (48 ∷ 93 ∷ t), λ e. (ok, omega arith))
+      let b = ahead (48 ∷ 93 ∷ t) in (
+        s₄,
+        48 ∷ 93 ∷ t,
+        b .0,
+        Form.leaf (counted a 0 false),
+        b .1,
+        Part.leaf (b .2 (93 ∷ t) (93 ∷ t) t 0 false nought without none),
+        k
+            (48 ∷ 93 ∷ t),
+        λ e. (ok, omega arith),
+      )
 
-  count-rest : (l n m : ℕ) → level Mark markLevel p ≤ l → n ≡ suc (m + nodes markNodes a) → InRange MarkOk a → Each (GivesCount (suc l) n s) (LateCount s) (threshold a m s₄)
+  count-rest : (l n m : ℕ) → level Mark markLevel p ≤ l → n ≡ suc (m + nodes markNodes a) → InRange MarkOk a
+      → Each (GivesCount (suc l) n s) (LateCount s) (threshold a m s₄)
   unfolding threshold
   count-rest l n m h e ok =
       let h₄ = swap-short (ahead [] .1) in
@@ -115,15 +130,25 @@ module _ (a : Inner) (s s₁ s₂ s₃ s₄ : List ℕ) (o : Spaces s (91 ∷ s�
       (λ q s₆ z.
       let h₆ = percent-short (z .percent) in
       either (Each (GivesCount (suc l) n s) (LateCount s)) (leb k (most q)) (expect 93 (counted a k q) m s₆) _
-      (λ i. each-expect 93 (counted a k q) m s₆ (λ r g. record { leaf = count o p c d (y .number) (z .percent) g; low = omega arith; used = omega arith; ok = (ok, leb-true k (most q) i) })
+      (λ i. each-expect 93 (counted a k q) m s₆
+      (λ r g. record { leaf = count o p c d (y .number) (z .percent) g; low = omega arith; used = omega arith; ok = (ok, leb-true k (most q) i) })
       (λ r g. record {
         short = let h₇ = spaces-short g in omega arith;
         goes = λ t m.
             let g' = frame-spaces g (93 ∷ t) in
             let z' = frame-percent (z .percent) (g' .0) in
             let y' = frame-number (y .number) (z' .0) in
-            let b = ahead (y' .0) in
-            (r, 93 ∷ t, b .0, Form.leaf (counted a k q), swap-trans (b .1) (swap-trans (y' .1) (swap-trans (z' .1) (g' .1))), Part.leaf (b .2 (z' .0) (g' .0) t k q (y' .2) (z' .2) (g' .2)), keeps-13 refl, λ e. (ok, leb-true k (most q) i));
+            let b = ahead (y' .0) in (
+              r,
+              93 ∷ t,
+              b .0,
+              Form.leaf (counted a k q),
+              swap-trans (b .1) (swap-trans (y' .1) (swap-trans (z' .1) (g' .1))),
+              Part.leaf
+                  (b .2 (z' .0) (g' .0) t k q (y' .2) (z' .2) (g' .2)),
+              keeps-13 refl,
+              λ e. (ok, leb-true k (most q) i),
+            );
       }))
       (λ i. denies (record {
         short = omega arith;
@@ -170,15 +195,33 @@ count-by (suc l) true n b s r e x =
       goes = λ t m.
           let c' = frame-spaces c (44 ∷ 48 ∷ 93 ∷ t) in
           let p' = frame Mark frame-mark (p .part) (c' .0) in
-          let o' = frame-token o (p' .0) in
-          (r₂, 44 ∷ 48 ∷ 93 ∷ t, o' .0, Form.leaf (counted a 0 false), swap-trans (o' .1) (swap-trans (p' .1) (c' .1)), Part.leaf (count (o' .2) (p' .2) (c' .2) none nought without none), keeps-13 refl, λ e. (p .ok, omega arith));
+          let o' = frame-token o (p' .0) in (
+            r₂,
+            44 ∷ 48 ∷ 93 ∷ t,
+            o' .0,
+            Form.leaf (counted a 0 false),
+            swap-trans (o' .1) (swap-trans (p' .1) (c' .1)),
+            Part.leaf
+                (count (o' .2) (p' .2) (c' .2) none nought without none),
+            keeps-13 refl,
+            λ e. (p .ok, omega arith),
+          );
     }))
     (λ w r₁ q. record {
       short = let h₁ = q .short in omega arith;
       goes = λ t m.
           let p' = q .goes (44 ∷ 48 ∷ 93 ∷ t) m in
-          let o' = frame-token o (p' .2) in
-          (p' .0, p' .1, o' .0, Form.leaf (counted (p' .3) 0 false), swap-trans (o' .1) (p' .4), Part.leaf (count (o' .2) (p' .5) none none nought without none), p' .6, λ e. (p' .7 e, omega arith));
+          let o' = frame-token o (p' .2) in (
+            p' .0,
+            p' .1,
+            o' .0,
+            Form.leaf (counted (p' .3) 0 false),
+            swap-trans (o' .1) (p' .4),
+            Part.leaf
+                (count (o' .2) (p' .5) none none nought without none),
+            p' .6,
+            λ e. (p' .7 e, omega arith),
+          );
     }))))
     (λ j. bracket-refuses b x (e refl))
 
@@ -207,11 +250,14 @@ pub record SheetRefuses (k : ℕ) (s : List ℕ) (w : ℕ) (r : List ℕ) : Type
   pub goes : (m : Mode) → GoesOn m k s w r
 
 -- one line before
-before : {m : Mode} {k : ℕ} {s s₁ r q : List ℕ} {c : Clause} {w : ℕ} → Part Count Rank.ors s s₁ c → InRange CountOk c → Spaces s₁ (10 ∷ r) → GoesOn m k r w q → GoesOn m (suc k) s w q
+before : {m : Mode} {k : ℕ} {s s₁ r q : List ℕ} {c : Clause} {w : ℕ} → Part Count Rank.ors s s₁ c → InRange CountOk c → Spaces s₁ (10 ∷ r)
+    → GoesOn m k r w q → GoesOn m (suc k) s w q
 before {c = c} p ok x (on {s' = s'} y d z i) =
-    let x' = frame-token x s' in let p' = frame Count frame-count p (x' .0) in on (swap-trans (p' .1) (swap-trans (x' .1) y)) (line (p' .2) (x' .2) d) z (λ e. (ok, i e))
+    let x' = frame-token x s' in
+    let p' = frame Count frame-count p (x' .0) in on (swap-trans (p' .1) (swap-trans (x' .1) y)) (line (p' .2) (x' .2) d) z (λ e. (ok, i e))
 before {c = c} p ok x (full {s' = s'} y d e f h i) =
-    let x' = frame-token x s' in let p' = frame Count frame-count p (x' .0) in full (swap-trans (p' .1) (swap-trans (x' .1) y)) (line (p' .2) (x' .2) d) (ap suc e) f h (ok, i)
+    let x' = frame-token x s' in
+    let p' = frame Count frame-count p (x' .0) in full (swap-trans (p' .1) (swap-trans (x' .1) y)) (line (p' .2) (x' .2) d) (ap suc e) f h (ok, i)
 
 clause-short : {k : Rank} {s r : List ℕ} {a : Clause} → Part Count k s r a → length r ≤ length s
 clause-short p = part-short Count countLevel countNodes CountOk frame-count p
@@ -261,7 +307,8 @@ swap-take {u} {v} (there {c = c} {s = s} x) =
     rw e (ap (λ (l : List ℕ). c ∷ l) (swap-take x))
 
 ---- (a) What is accepted is a sheet of the grammar, within the limits.
-outcome-sound : (s : List ℕ) (cs : List Clause) (len : ℕ) (g : Got (List Clause)) → Each (λ cs m r. SheetReads 32 s cs) (SheetRefuses 32 s) g → outcome len g ≡ accepted cs → SheetReads 32 s cs
+outcome-sound : (s : List ℕ) (cs : List Clause) (len : ℕ) (g : Got (List Clause)) → Each (λ cs m r. SheetReads 32 s cs) (SheetRefuses 32 s) g
+    → outcome len g ≡ accepted cs → SheetReads 32 s cs
 unfolding outcome
 outcome-sound s cs len g (gives {a = x} p) e = let h : x ≡ cs = cc in subst (λ (y : List Clause). SheetReads 32 s y) h p
 outcome-sound s cs len g (denies q) e = let z : _≡_ {A = ℕ} 0 1 = cc in absurd (omega arith)
@@ -285,7 +332,8 @@ pub record Refusal (s : List ℕ) (w k : ℕ) : Type 0 where
   pub read : lines 32 s ≡ no w rest
   pub refuses : SheetRefuses 32 s w rest
 
-outcome-at : (s : List ℕ) (w k : ℕ) (g : Got (List Clause)) → lines 32 s ≡ g → Each (λ cs m r. SheetReads 32 s cs) (SheetRefuses 32 s) g → outcome (length s) g ≡ refused w k → Refusal s w k
+outcome-at : (s : List ℕ) (w k : ℕ) (g : Got (List Clause)) → lines 32 s ≡ g → Each (λ cs m r. SheetReads 32 s cs) (SheetRefuses 32 s) g
+    → outcome (length s) g ≡ refused w k → Refusal s w k
 unfolding outcome
 outcome-at s w k g h (gives p) e = let z : _≡_ {A = ℕ} 0 1 = cc in absurd (omega arith)
 outcome-at s w k g h (denies {w = v} {r = r} q) e =
@@ -300,7 +348,8 @@ start-at (b ∷ s) w k h e = outcome-at (b ∷ s) w k (lines 32 (b ∷ s)) refl 
 
 pub refusal : (s : List ℕ) (w k : ℕ) → (w ≡ 7 → ⊥) → (w ≡ 12 → ⊥) → readSheet s ≡ refused w k → Refusal s w k
 unfolding readSheet
-refusal s w k h i = either (λ x. x ≡ refused w k → Refusal s w k) (ltb 16384 (length s)) (refused 12 0) (start s) (λ q e. absurd (i (cc))) (λ q e. start-at s w k h e)
+refusal s w k h i =
+    either (λ x. x ≡ refused w k → Refusal s w k) (ltb 16384 (length s)) (refused 12 0) (start s) (λ q e. absurd (i (cc))) (λ q e. start-at s w k h e)
 
 pub swap-drop : {u v s t : List ℕ} → Swap u v s t → drop (length s - length u) s ≡ u
 swap-drop {u} here = let e : length u - length u ≡ 0 = omega arith in rw e
@@ -362,12 +411,14 @@ record Never (q r₁ t : List ℕ) : Type 0 where
   never : Fine (byte ∷ text) → ⊥
 
 large-never : {q r r₁ : List ℕ} → Large q r r₁ → (t : List ℕ) → Never q r₁ t
-large-never (Large.mark y h) t = let w = frame-number (y .number) t in record { byte = 109; text = w .0; key = inl refl; swap = there (w .1); never = mark-never (w .2) h }
+large-never (Large.mark y h) t =
+    let w = frame-number (y .number) t in record { byte = 109; text = w .0; key = inl refl; swap = there (w .1); never = mark-never (w .2) h }
 large-never (Large.count c y z h) t =
     let z' = frame-percent (z .percent) t in
     let y' = frame-number (y .number) (z' .0) in
     let c' = frame-spaces c (y' .0) in
-    record { byte = 44; text = c' .0; key = inr refl; swap = there (swap-trans (c' .1) (swap-trans (y' .1) (z' .1))); never = count-never (c' .2) (y' .2) (z' .2) h }
+    record
+    { byte = 44; text = c' .0; key = inr refl; swap = there (swap-trans (c' .1) (swap-trans (y' .1) (z' .1))); never = count-never (c' .2) (y' .2) (z' .2) h }
 
 large-first : {q r r₁ : List ℕ} → Large q r r₁ → (v : List ℕ) × Swap r r q v
 large-first (Large.mark {r = r} y h) = (109 ∷ r, there here)

@@ -26,10 +26,12 @@ pub clash : {A : Type 0} → _≡_ {A = ℕ} 0 1 → A
 clash e = absurd (omega arith)
 
 -- the next byte is the same, and may be the end's
-pub near-step : {u u' s t : List ℕ} → SameHead u u' → Swap u u' s t → (c : ℕ) (t₁ : List ℕ) → t ≡ c ∷ t₁ → (s₁ : List ℕ) × (s ≡ c ∷ s₁) × (Swap u u' s₁ t₁ ⊎ (length s₁ < length u))
+pub near-step : {u u' s t : List ℕ} → SameHead u u' → Swap u u' s t → (c : ℕ) (t₁ : List ℕ) → t ≡ c ∷ t₁
+    → (s₁ : List ℕ) × (s ≡ c ∷ s₁) × (Swap u u' s₁ t₁ ⊎ (length s₁ < length u))
 near-step neither here c t₁ e = clash (cc)
 near-step (both {b = b} {w = w} {w' = w'}) here c t₁ e = let h : b ≡ c = cc in (w, ap (λ (x : ℕ). x ∷ w) h, inr (omega arith))
-near-step {u} {u'} same (there {c = d} {s = s} {t = t} x) c t₁ e = let h : d ≡ c = cc in let i : t ≡ t₁ = cc in (s, ap (λ (y : ℕ). y ∷ s) h, inl (subst (λ (y : List ℕ). Swap u u' s y) i x))
+near-step {u} {u'} same (there {c = d} {s = s} {t = t} x) c t₁ e =
+    let h : d ≡ c = cc in let i : t ≡ t₁ = cc in (s, ap (λ (y : ℕ). y ∷ s) h, inl (subst (λ (y : List ℕ). Swap u u' s y) i x))
 
 pub near-nil : {u u' s t : List ℕ} → SameHead u u' → Swap u u' s t → t ≡ [] → s ≡ []
 near-nil neither here e = refl
@@ -163,12 +165,15 @@ onward-stop c h =
     ∙ ap (λ (x : Bool). pick x (Onward.reach R) stop) (or-false-r (eqb c 85) (eqb c 82) i)
 
 ---- A chain from its first part on, grouped to the left; lim is a bound on its parts' levels.
-module _ {L : Type 0} (Leaf : List ℕ → List ℕ → L → Type 0) (leafLevel : (s r : List ℕ) (x : L) → Leaf s r x → ℕ) (k : Rank) (c : ℕ) (join : Form L → Form L → Form L) where
+module _ {L : Type 0} (Leaf : List ℕ → List ℕ → L → Type 0) (leafLevel : (s r : List ℕ) (x : L) → Leaf s r x → ℕ) (k : Rank) (c : ℕ)
+    (join : Form L → Form L → Form L) where
   data More (lim : ℕ) : Form L → List ℕ → List ℕ → Form L → Type 0 where
     enough : {a : Form L} {s : List ℕ} → More lim a s s a
-    on : {a b x : Form L} {s s₁ s₂ r : List ℕ} → Spaces s (c ∷ s₁) → (q : Part Leaf k s₁ s₂ b) → level Leaf leafLevel q ≤ lim → More lim (join a b) s₂ r x → More lim a s r x
+    on : {a b x : Form L} {s s₁ s₂ r : List ℕ} → Spaces s (c ∷ s₁) → (q : Part Leaf k s₁ s₂ b) → level Leaf leafLevel q ≤ lim
+        → More lim (join a b) s₂ r x → More lim a s r x
 
-  more-snoc : {lim : ℕ} {a x b : Form L} {s s₁ s₂ r : List ℕ} → More lim a s s₁ x → Spaces s₁ (c ∷ s₂) → (q : Part Leaf k s₂ r b) → level Leaf leafLevel q ≤ lim → More lim a s r (join x b)
+  more-snoc : {lim : ℕ} {a x b : Form L} {s s₁ s₂ r : List ℕ} → More lim a s s₁ x → Spaces s₁ (c ∷ s₂) → (q : Part Leaf k s₂ r b)
+      → level Leaf leafLevel q ≤ lim → More lim a s r (join x b)
   more-snoc enough y q h = on y q h enough
   more-snoc (on x p i m) y q h = on x p i (more-snoc m y q h)
 
@@ -176,13 +181,17 @@ module _ {L : Type 0} (Leaf : List ℕ → List ℕ → L → Type 0) (leafLevel
   Chained lim s r x = (s₁ : List ℕ) × (a : Form L) × (q : Part Leaf k s s₁ a) × (level Leaf leafLevel q ≤ lim) × More lim a s₁ r x
 
 module _ {L : Type 0} (Leaf : List ℕ → List ℕ → L → Type 0) (leafLevel : (s r : List ℕ) (x : L) → Leaf s r x → ℕ) where
-  and-chained : {s r : List ℕ} {x : Form L} (lim : ℕ) (p : Part Leaf Rank.ands s r x) → level Leaf leafLevel p ≤ lim → Chained Leaf leafLevel Rank.untils 38 Form.and lim s r x
+  and-chained : {s r : List ℕ} {x : Form L} (lim : ℕ) (p : Part Leaf Rank.ands s r x) → level Leaf leafLevel p ≤ lim
+      → Chained Leaf leafLevel Rank.untils 38 Form.and lim s r x
   and-chained {r = r} {x = x} lim (one-until p) h = (r, x, p, h, enough)
-  and-chained lim (Part.and p y q) h = let z = and-chained lim p (omega arith) in (z .0, z .1, z .2, z .3, more-snoc Leaf leafLevel Rank.untils 38 Form.and (z .4) y q (omega arith))
+  and-chained lim (Part.and p y q) h =
+      let z = and-chained lim p (omega arith) in (z .0, z .1, z .2, z .3, more-snoc Leaf leafLevel Rank.untils 38 Form.and (z .4) y q (omega arith))
 
-  or-chained : {s r : List ℕ} {x : Form L} (lim : ℕ) (p : Part Leaf Rank.ors s r x) → level Leaf leafLevel p ≤ lim → Chained Leaf leafLevel Rank.ands 124 Form.or lim s r x
+  or-chained : {s r : List ℕ} {x : Form L} (lim : ℕ) (p : Part Leaf Rank.ors s r x) → level Leaf leafLevel p ≤ lim
+      → Chained Leaf leafLevel Rank.ands 124 Form.or lim s r x
   or-chained {r = r} {x = x} lim (one-and p) h = (r, x, p, h, enough)
-  or-chained lim (Part.or p y q) h = let z = or-chained lim p (omega arith) in (z .0, z .1, z .2, z .3, more-snoc Leaf leafLevel Rank.ands 124 Form.or (z .4) y q (omega arith))
+  or-chained lim (Part.or p y q) h =
+      let z = or-chained lim p (omega arith) in (z .0, z .1, z .2, z .3, more-snoc Leaf leafLevel Rank.ands 124 Form.or (z .4) y q (omega arith))
 
 module _ {A : Type 0} (c : ℕ) (join : A → A → A) (sub : Reader A) (a : A) (s : List ℕ) where
   chain-stop : (e n : ℕ) (r₁ : List ℕ) (go : Reader A) → eqb e c ≡ false → chainAt c join a n s go (e ∷ r₁) ≡ got a n s
@@ -203,7 +212,8 @@ module _ {A : Type 0} (c : ℕ) (join : A → A → A) (sub : Reader A) (a : A) 
   more-out zero r₁ i = ap (chainAt c join a zero s _) i ∙ chain-go zero r₁ _
   more-out (suc f) r₁ i = ap (chainAt c join a zero s _) i ∙ chain-go zero r₁ _
 
-  pub more-go : (f n : ℕ) (r₁ : List ℕ) → skip s ≡ c ∷ r₁ → chainMore c join sub (suc f) a (suc n) s ≡ bind (sub n r₁) (λ b m₂ r₂. chainMore c join sub f (join a b) m₂ r₂)
+  pub more-go : (f n : ℕ) (r₁ : List ℕ) → skip s ≡ c ∷ r₁
+      → chainMore c join sub (suc f) a (suc n) s ≡ bind (sub n r₁) (λ b m₂ r₂. chainMore c join sub f (join a b) m₂ r₂)
   unfolding chainMore node
   more-go f n r₁ i = ap (chainAt c join a (suc n) s _) i ∙ chain-go (suc n) r₁ _
 
@@ -249,7 +259,8 @@ module _ (u u' : List ℕ) (same : SameHead u u') where
   arrive {t' = t'} h n (space x) =
       let y = step n in
       let e = ap skip (y .1) ∙ skip-space (y .0) in
-      ⊎-elim (λ m. subst (λ (r : List ℕ). Close r t') (sym e) (arrive h m x)) (λ p. inr (subst (λ (r : List ℕ). Past r) (sym e) (let z = skip-short (y .0) in omega arith))) (y .2)
+      ⊎-elim (λ m. subst (λ (r : List ℕ). Close r t') (sym e) (arrive h m x))
+      (λ p. inr (subst (λ (r : List ℕ). Past r) (sym e) (let z = skip-short (y .0) in omega arith))) (y .2)
 
   -- what is given is a, for c nodes, or the end's first byte is behind
   abbrev pub Match : {A : Type 0} → ℕ → A → ℕ → List ℕ → A → ℕ → List ℕ → Type 0
@@ -286,7 +297,8 @@ module _ (u u' : List ℕ) (same : SameHead u u') where
   pub skipped : (r : List ℕ) → Past r → Past (skip r)
   skipped r h = let i = skip-short r in omega arith
 
-  pub expect-agrees : {A : Type 0} {F G : Type 0} (c : ℕ) → (c ≡ 32 → ⊥) → (a : A) (n : ℕ) (s s' t' : List ℕ) → Near s s' → Spaces s' (c ∷ t') → Each (Match₁ n a t') (Fault F G) (expect c a n s)
+  pub expect-agrees : {A : Type 0} {F G : Type 0} (c : ℕ) → (c ≡ 32 → ⊥) → (a : A) (n : ℕ) (s s' t' : List ℕ) → Near s s' → Spaces s' (c ∷ t')
+      → Each (Match₁ n a t') (Fault F G) (expect c a n s)
   unfolding expect
   expect-agrees {A} {F} {G} c h a n s s' t' x y =
       ⊎-elim
@@ -295,7 +307,8 @@ module _ (u u' : List ℕ) (same : SameHead u u') where
       (λ z. beyond₁ (length (skip s)) z (expect-inside c a (length (skip s)) n s (omega arith)))
       (token h x y)
 
-  literal-agrees : {A : Type 0} {F G : Type 0} (w : List ℕ) (a : A) (n : ℕ) (s t' : List ℕ) → Close s (w ++ t') → Each (Match₁ n a t') (Fault F G) (literal w a n s)
+  literal-agrees : {A : Type 0} {F G : Type 0} (w : List ℕ) (a : A) (n : ℕ) (s t' : List ℕ) → Close s (w ++ t')
+      → Each (Match₁ n a t') (Fault F G) (literal w a n s)
   unfolding literal
   literal-agrees [] a n s t' (inl x) = gives (inl (refl, refl, x))
   literal-agrees [] a n s t' (inr h) = gives (inr h)
@@ -305,36 +318,44 @@ module _ (u u' : List ℕ) (same : SameHead u u') where
       (subst (Each (Match₁ n a t') (Fault F G)) (sym (literal-on c w a n (y .0))) (literal-agrees w a n (y .0) t' (y .2)))
   literal-agrees (c ∷ w) a n s t' (inr h) = beyond₁ (length s) h (literal-short (c ∷ w) a (length s) n s (omega arith))
 
-  pub digits-agrees : {F G : Type 0} (v n : ℕ) (s s' t' : List ℕ) (k : ℕ) → Digits v s' t' k → Close s s' → HeadNot isDigit t' → Each (Match₁ n k t') (Fault F G) (digits v n s)
+  pub digits-agrees : {F G : Type 0} (v n : ℕ) (s s' t' : List ℕ) (k : ℕ) → Digits v s' t' k → Close s s' → HeadNot isDigit t'
+      → Each (Match₁ n k t') (Fault F G) (digits v n s)
   digits-agrees {F} {G} v n s s' t' k end (inr h) f = beyond₁ (length s) h (digits-short v (length s) n s (omega arith))
   digits-agrees {F} {G} v n s s' t' k end (inl x) f =
       let y = near-step same x (f .0) (f .1) (f .2) in
       subst (λ (r : List ℕ). Each (Match₁ n v s') (Fault F G) (digits v n r)) (sym (y .1))
-      (subst (Each (Match₁ n v s') (Fault F G)) (sym (digits-stop v n (f .0) (y .0) (f .3))) (gives (inl (refl, refl, subst (λ (r : List ℕ). Near r s') (y .1) x))))
+      (subst (Each (Match₁ n v s') (Fault F G)) (sym (digits-stop v n (f .0) (y .0) (f .3)))
+      (gives (inl (refl, refl, subst (λ (r : List ℕ). Near r s') (y .1) x))))
   digits-agrees {F} {G} v n s s' t' k (digit h i z) (inr p) f = beyond₁ (length s) p (digits-short v (length s) n s (omega arith))
   digits-agrees {F} {G} v n s s' t' k (digit {b = b} {s = s₁'} h i z) (inl x) f =
       let y = step x in
       subst (λ (r : List ℕ). Each (Match₁ n k t') (Fault F G) (digits v n r)) (sym (y .1))
-      (subst (Each (Match₁ n k t') (Fault F G)) (sym (digits-on v n b (y .0) (is-digit b h i))) (digits-agrees (v * 10 + (b - 48)) n (y .0) s₁' t' k z (y .2) f))
+      (subst (Each (Match₁ n k t') (Fault F G)) (sym (digits-on v n b (y .0) (is-digit b h i)))
+      (digits-agrees (v * 10 + (b - 48)) n (y .0) s₁' t' k z (y .2) f))
 
-  pub number-agrees : {F G : Type 0} (n : ℕ) (s s' t' : List ℕ) (k : ℕ) → Number s' t' k → Close s s' → HeadNot isDigit t' → Each (Match₁ n k t') (Fault F G) (number n s)
+  pub number-agrees : {F G : Type 0} (n : ℕ) (s s' t' : List ℕ) (k : ℕ) → Number s' t' k → Close s s' → HeadNot isDigit t'
+      → Each (Match₁ n k t') (Fault F G) (number n s)
   number-agrees {F} {G} n s s' t' k z (inr h) f = beyond₁ (length s) h (number-short (length s) n s (omega arith))
   number-agrees {F} {G} n s s' t' k nought (inl x) f =
       let y = step x in
-      subst (λ (r : List ℕ). Each (Match₁ n 0 t') (Fault F G) (number n r)) (sym (y .1)) (unfold number in gives (⊎-elim (λ i. inl (refl, refl, i)) (λ i. inr i) (y .2)))
+      subst (λ (r : List ℕ). Each (Match₁ n 0 t') (Fault F G) (number n r)) (sym (y .1))
+      (unfold number in gives (⊎-elim (λ i. inl (refl, refl, i)) (λ i. inr i) (y .2)))
   number-agrees {F} {G} n s s' t' k (other {b = b} {s = s₁'} h i z) (inl x) f =
       let y = step x in
       subst (λ (r : List ℕ). Each (Match₁ n k t') (Fault F G) (number n r)) (sym (y .1))
       (subst (Each (Match₁ n k t') (Fault F G)) (sym (number-on n b (y .0) h i)) (digits-agrees (b - 48) n (y .0) s₁' t' k z (y .2) f))
 
-  pub percent-agrees : {F G : Type 0} (n : ℕ) (s s' t' : List ℕ) (p : Bool) → Percent s' t' p → Near s s' → HeadNot (λ b. eqb b 37) t' → Each (Match₁ n p t') (Fault F G) (percent n s)
+  pub percent-agrees : {F G : Type 0} (n : ℕ) (s s' t' : List ℕ) (p : Bool) → Percent s' t' p → Near s s' → HeadNot (λ b. eqb b 37) t'
+      → Each (Match₁ n p t') (Fault F G) (percent n s)
   percent-agrees {F} {G} n s s' t' p without x f =
       let y = near-step same x (f .0) (f .1) (f .2) in
       subst (λ (r : List ℕ). Each (Match₁ n false s') (Fault F G) (percent n r)) (sym (y .1))
-      (subst (Each (Match₁ n false s') (Fault F G)) (sym (percent-stop n (f .0) (y .0) (f .3))) (gives (inl (refl, refl, subst (λ (r : List ℕ). Near r s') (y .1) x))))
+      (subst (Each (Match₁ n false s') (Fault F G)) (sym (percent-stop n (f .0) (y .0) (f .3)))
+      (gives (inl (refl, refl, subst (λ (r : List ℕ). Near r s') (y .1) x))))
   percent-agrees {F} {G} n s s' t' p sign x f =
       let y = step x in
-      subst (λ (r : List ℕ). Each (Match₁ n true t') (Fault F G) (percent n r)) (sym (y .1)) (unfold percent in gives (⊎-elim (λ i. inl (refl, refl, i)) (λ i. inr i) (y .2)))
+      subst (λ (r : List ℕ). Each (Match₁ n true t') (Fault F G) (percent n r)) (sym (y .1))
+      (unfold percent in gives (⊎-elim (λ i. inl (refl, refl, i)) (λ i. inr i) (y .2)))
 
   module _ {L : Type 0} (Leaf : List ℕ → List ℕ → L → Type 0) (leafLevel : (s r : List ℕ) (x : L) → Leaf s r x → ℕ) (leafNodes : L → ℕ) (Ok : L → Type 0) where
     abbrev pub Agrees : Rank → ℕ → Reader (Form L) → Type 0
@@ -355,7 +376,8 @@ module _ (u u' : List ℕ) (same : SameHead u u') where
     module _ (k₁ k₂ : Rank) (c : ℕ) (join : Form L → Form L → Form L)
         (join-nodes : (a b : Form L) → nodes leafNodes (join a b) ≡ suc (nodes leafNodes a + nodes leafNodes b))
         (range-of : (a b : Form L) → InRange Ok (join a b) → InRange Ok a × InRange Ok b)
-        (not-32 : c ≡ 32 → ⊥) (stops : (e : ℕ) → goes k₂ e ≡ false → eqb e c ≡ false) (follow : (t : List ℕ) → Follow k₂ t → Follow k₁ t) (c-ends : goes k₁ c ≡ false) (c-plain : goes small c ≡ false)
+        (not-32 : c ≡ 32 → ⊥) (stops : (e : ℕ) → goes k₂ e ≡ false → eqb e c ≡ false) (follow : (t : List ℕ) → Follow k₂ t → Follow k₁ t)
+        (c-ends : goes k₁ c ≡ false) (c-plain : goes small c ≡ false)
         (l : ℕ) (sub : Reader (Form L)) (agrees : Agrees k₁ l sub) (shrinks : Shrinks sub) where
       abbrev Rest : ℕ → Form L → List ℕ → List ℕ → Form L → Type 0
       Rest = More Leaf leafLevel k₁ c join
@@ -372,7 +394,8 @@ module _ (u u' : List ℕ) (same : SameHead u u') where
       rest-follow {s = s} enough f = follow s f
       rest-follow (on {s₁ = s₁} y q h m) f = record { byte = c; rest = s₁; spaces = y; ends = c-ends; plain = c-plain }
 
-      rest-agrees : {lim : ℕ} (a x : Form L) (s' t' : List ℕ) → Rest lim a s' t' x → (n f n₀ : ℕ) (s : List ℕ) → Near s s' → Follow k₂ t' → n ≤ f → n₀ ≡ n + nodes leafNodes a
+      rest-agrees : {lim : ℕ} (a x : Form L) (s' t' : List ℕ) → Rest lim a s' t' x → (n f n₀ : ℕ) (s : List ℕ) → Near s s' → Follow k₂ t' → n ≤ f
+          → n₀ ≡ n + nodes leafNodes a
           → Each (Match n₀ x (nodes leafNodes x) t') (Fault ((lim ≤ l) × (nodes leafNodes x ≤ n₀)) (InRange Ok x)) (chainMore c join sub f a n s)
       rest-agrees {lim} a x s' t' enough n f n₀ s near fo h e =
           ⊎-elim
@@ -382,27 +405,32 @@ module _ (u u' : List ℕ) (same : SameHead u u') where
           (token (not-space (fo .byte) (fo .plain)) near (fo .spaces))
       rest-agrees {lim} a x s' t' (on {b = b} {s₁ = s₁'} y q i m) zero f n₀ s near fo h e =
           ⊎-elim
-          (λ z. subst (Each (Match n₀ x (nodes leafNodes x) t') (Fault ((lim ≤ l) × (nodes leafNodes x ≤ n₀)) (InRange Ok x))) (sym (more-out c join sub a s f (z .0) (z .1)))
+          (λ z. subst (Each (Match n₀ x (nodes leafNodes x) t') (Fault ((lim ≤ l) × (nodes leafNodes x ≤ n₀)) (InRange Ok x)))
+          (sym (more-out c join sub a s f (z .0) (z .1)))
           (denies (limit (λ v. let j = rest-nodes m in let j₂ = join-nodes a b in omega arith))))
           (λ z. beyond (nodes leafNodes x) (length (skip s)) z (chain-more-short c join sub shrinks f a (length (skip s)) zero s (omega arith)))
           (token not-32 near y)
       rest-agrees {lim} a x s' t' (on {b = b} {s₁ = s₁'} y q i m) (suc n) zero n₀ s near fo h e = absurd (omega arith)
       rest-agrees {lim} a x s' t' (on {b = b} {s₁ = s₁'} {s₂ = s₂'} y q i m) (suc n) (suc f) n₀ s near fo h e =
           ⊎-elim
-          (λ z. subst (Each (Match n₀ x (nodes leafNodes x) t') (Fault ((lim ≤ l) × (nodes leafNodes x ≤ n₀)) (InRange Ok x))) (sym (more-go c join sub a s f n (z .0) (z .1)))
+          (λ z. subst (Each (Match n₀ x (nodes leafNodes x) t') (Fault ((lim ≤ l) × (nodes leafNodes x ≤ n₀)) (InRange Ok x)))
+          (sym (more-go c join sub a s f n (z .0) (z .1)))
           (each-bind (sub n (z .0)) _
           (⊎-elim
           (λ near₁.
           each-map (agrees n (z .0) s₁' s₂' b q near₁ (rest-follow m fo))
           (λ b₁ m₂ r₂ v.
           ⊎-elim
-          (λ g. subst (λ (d : Form L). Each (Match n₀ x (nodes leafNodes x) t') (Fault ((lim ≤ l) × (nodes leafNodes x ≤ n₀)) (InRange Ok x)) (chainMore c join sub f (join a d) m₂ r₂)) (sym (g .0))
+          (λ g. subst (λ (d : Form L). Each (Match n₀ x (nodes leafNodes x) t') (Fault ((lim ≤ l) × (nodes leafNodes x ≤ n₀)) (InRange Ok x))
+          (chainMore c join sub f (join a d) m₂ r₂)) (sym (g .0))
           (rest-agrees (join a b) x s₂' t' m m₂ f n₀ r₂ (g .2) fo (omega (arith, g .1)) (omega (arith, g .1, join-nodes a b))))
           (λ g. beyond (nodes leafNodes x) (length (skip r₂)) g (chain-more-short c join sub shrinks f (join a b₁) (length (skip r₂)) m₂ r₂ (omega arith)))
           v)
           (λ w r₂ v. fault-map (λ o. (omega (arith, o .0), omega (arith, o .1, rest-nodes m, join-nodes a b))) (λ o. range-of a b (rest-range m o) .1) v))
           (λ past. let v = skip-short (z .0) in
-          each-map (shrinks (length (z .0)) n (z .0) v) (λ b₁ m₂ r₂ g. beyond (nodes leafNodes x) (length (z .0)) past (chain-more-short c join sub shrinks f (join a b₁) (length (z .0)) m₂ r₂ g)) (λ w r₂ g. gone (omega arith)))
+          each-map (shrinks (length (z .0)) n (z .0) v)
+          (λ b₁ m₂ r₂ g. beyond (nodes leafNodes x) (length (z .0)) past (chain-more-short c join sub shrinks f (join a b₁) (length (z .0)) m₂ r₂ g))
+          (λ w r₂ g. gone (omega arith)))
           (z .2))))
           (λ z. beyond (nodes leafNodes x) (length (skip s)) z (chain-more-short c join sub shrinks (suc f) a (length (skip s)) (suc n) s (omega arith)))
           (token not-32 near y)
@@ -417,7 +445,8 @@ module _ (u u' : List ℕ) (same : SameHead u u') where
           (each-map (agrees n s s' (y .0) a (y .2) near (rest-follow m fo))
           (λ a₁ m₁ r v.
           ⊎-elim
-          (λ g. subst (λ (d : Form L). Each (Match n x (nodes leafNodes x) t') (Fault ((lim ≤ l) × (nodes leafNodes x ≤ n)) (InRange Ok x)) (chainMore c join sub m₁ d m₁ r)) (sym (g .0))
+          (λ g. subst (λ (d : Form L). Each (Match n x (nodes leafNodes x) t') (Fault ((lim ≤ l) × (nodes leafNodes x ≤ n)) (InRange Ok x))
+          (chainMore c join sub m₁ d m₁ r)) (sym (g .0))
           (rest-agrees a x (y .0) t' m m₁ m₁ n r (g .2) fo (omega arith) (g .1)))
           (λ g. beyond (nodes leafNodes x) (length (skip r)) g (chain-more-short c join sub shrinks m₁ a₁ (length (skip r)) m₁ r (omega arith)))
           v)
@@ -426,17 +455,21 @@ module _ (u u' : List ℕ) (same : SameHead u u') where
     and-agrees : (l : ℕ) (sub : Reader (Form L)) → Agrees Rank.untils l sub → Shrinks sub → Agrees Rank.ands l (andChain sub)
     unfolding andChain
     and-agrees l sub g h n s s' t' a p near fo =
-        chain-agrees Rank.untils Rank.ands 38 Form.and (λ a b. refl) (λ a b o. o) (λ e. omega arith) (λ e i. or-false-l (eqb e 38) _ i) (λ t f. follow-until f) refl refl l sub g h
+        chain-agrees Rank.untils Rank.ands 38 Form.and (λ a b. refl) (λ a b o. o) (λ e. omega arith) (λ e i. or-false-l (eqb e 38) _ i)
+        (λ t f. follow-until f) refl refl l sub g h
         (level Leaf leafLevel p) n s s' t' a (and-chained Leaf leafLevel (level Leaf leafLevel p) p (omega arith)) near fo
 
     or-agrees : (l : ℕ) (sub : Reader (Form L)) → Agrees Rank.untils l sub → Shrinks sub → Agrees Rank.ors l (orChain sub)
     unfolding orChain
     or-agrees l sub g h n s s' t' a p near fo =
-        chain-agrees Rank.ands Rank.ors 124 Form.or (λ a b. refl) (λ a b o. o) (λ e. omega arith) (λ e i. or-false-l (eqb e 124) _ i) (λ t f. follow-and f) refl refl l (andChain sub)
-        (and-agrees l sub g h) (and-short sub h) (level Leaf leafLevel p) n s s' t' a (or-chained Leaf leafLevel (level Leaf leafLevel p) p (omega arith)) near fo
+        chain-agrees Rank.ands Rank.ors 124 Form.or (λ a b. refl) (λ a b o. o) (λ e. omega arith) (λ e i. or-false-l (eqb e 124) _ i)
+        (λ t f. follow-and f) refl refl l (andChain sub)
+        (and-agrees l sub g h) (and-short sub h) (level Leaf leafLevel p) n s s' t' a
+        (or-chained Leaf leafLevel (level Leaf leafLevel p) p (omega arith)) near fo
 
     ---- Smallest parts.
-    word-agrees : {F G : Type 0} (lf : Reader L) (d : Deeper (Form L)) (n : ℕ) (t t' : List ℕ) → (F → 1 ≤ n) → Close t (114 ∷ 117 ∷ 101 ∷ t') → Each (Match n top 1 t') (Fault F G) (byKind lf d Kind.word n 116 t)
+    word-agrees : {F G : Type 0} (lf : Reader L) (d : Deeper (Form L)) (n : ℕ) (t t' : List ℕ) → (F → 1 ≤ n) → Close t (114 ∷ 117 ∷ 101 ∷ t')
+        → Each (Match n top 1 t') (Fault F G) (byKind lf d Kind.word n 116 t)
     unfolding byKind
     word-agrees {F} {G} lf d n t t' f close =
         each-bind (literal (114 ∷ 117 ∷ 101 ∷ []) tt n t) _
@@ -448,8 +481,10 @@ module _ (u u' : List ℕ) (same : SameHead u u') where
         (λ w r z. z .0))
 
     module _ (l : ℕ) (lf : Reader L) where
-      paren-agrees : (d : Deeper (Form L)) → AgreesDeeper l d → ShrinksDeeper d → (n : ℕ) (t s₁' s₂' t' : List ℕ) (a : Form L) (p : Part Leaf Rank.ors s₁' s₂' a) → Spaces s₂' (41 ∷ t') → Close t s₁'
-          → Each (Match n a (nodes leafNodes a) t') (Fault ((suc (level Leaf leafLevel p) ≤ l) × (nodes leafNodes a ≤ n)) (InRange Ok a)) (byKind lf d Kind.paren n 40 t)
+      paren-agrees : (d : Deeper (Form L)) → AgreesDeeper l d → ShrinksDeeper d
+          → (n : ℕ) (t s₁' s₂' t' : List ℕ) (a : Form L) (p : Part Leaf Rank.ors s₁' s₂' a) → Spaces s₂' (41 ∷ t') → Close t s₁'
+          → Each (Match n a (nodes leafNodes a) t') (Fault ((suc (level Leaf leafLevel p) ≤ l) × (nodes leafNodes a ≤ n)) (InRange Ok a))
+          (byKind lf d Kind.paren n 40 t)
       unfolding byKind
       paren-agrees shut ad sd n t s₁' s₂' t' a p y close = denies (limit (λ v. omega (arith, v .0, ad)))
       paren-agrees (open' sm un) ad sd n t s₁' s₂' t' a p y (inl near) =
@@ -469,8 +504,11 @@ module _ (u u' : List ℕ) (same : SameHead u u') where
           beyond (nodes leafNodes a) (length t) past
           (each-bind (orChain un n t) _ (each-map (or-short un (sd .1) (length t) n t h) (λ a₁ m r i. expect-short 41 a₁ (length t) m r i) (λ w r i. i)))
 
-      prefix-agrees : (d : Deeper (Form L)) → AgreesDeeper l d → ShrinksDeeper d → (o : Prefix) (b n : ℕ) (t s₁' t' : List ℕ) (a : Form L) (p : Part Leaf small s₁' t' a) → Follow small t' → Close t s₁'
-          → Each (Match n (prefixed o a) (nodes leafNodes (prefixed o a)) t') (Fault ((suc (level Leaf leafLevel p) ≤ l) × (nodes leafNodes (prefixed o a) ≤ n)) (InRange Ok (prefixed o a))) (byKind lf d (Kind.prefix o) n b t)
+      prefix-agrees : (d : Deeper (Form L)) → AgreesDeeper l d → ShrinksDeeper d
+          → (o : Prefix) (b n : ℕ) (t s₁' t' : List ℕ) (a : Form L) (p : Part Leaf small s₁' t' a) → Follow small t' → Close t s₁'
+          → Each (Match n (prefixed o a) (nodes leafNodes (prefixed o a)) t')
+          (Fault ((suc (level Leaf leafLevel p) ≤ l) × (nodes leafNodes (prefixed o a) ≤ n)) (InRange Ok (prefixed o a)))
+          (byKind lf d (Kind.prefix o) n b t)
       unfolding byKind
       prefix-agrees shut ad sd o b n t s₁' t' a p fo close = denies (limit (λ v. omega (arith, v .0, ad)))
       prefix-agrees (open' sm un) ad sd o b n t s₁' t' a p fo (inl near) =
@@ -489,19 +527,22 @@ module _ (u u' : List ℕ) (same : SameHead u u') where
           (λ j. limit (λ v. omega (arith, v .1, nodes-prefix leafNodes o a)))
 
       module _ (d : Deeper (Form L)) (ad : AgreesDeeper l d) (sd : ShrinksDeeper d) (al : AgreesLeaf l lf) (sl : Shrinks₁ lf) where
-        at-past : {F G : Type 0} (n : ℕ) (s t' : List ℕ) (a : Form L) → Past (skip s) → Each (Match n a (nodes leafNodes a) t') (Fault F G) (smallAt lf d n (skip s))
+        at-past : {F G : Type 0} (n : ℕ) (s t' : List ℕ) (a : Form L) → Past (skip s)
+            → Each (Match n a (nodes leafNodes a) t') (Fault F G) (smallAt lf d n (skip s))
         at-past n s t' a h = beyond (nodes leafNodes a) (length (skip s)) h (small-at-short lf d sl sd (length (skip s)) n (skip s) (omega arith))
 
         small-agrees : Agrees small l (smallOf lf d)
         unfolding smallOf smallAt
         small-agrees n s s' t' a (word x) near fo =
             ⊎-elim
-            (λ z. subst (λ (r : List ℕ). Each (Match n top 1 t') (Fault ((0 ≤ l) × (1 ≤ n)) (Unit {0})) (smallAt lf d n r)) (sym (z .1)) (word-agrees lf d n (z .0) t' (λ v. v .1) (z .2)))
+            (λ z. subst (λ (r : List ℕ). Each (Match n top 1 t') (Fault ((0 ≤ l) × (1 ≤ n)) (Unit {0})) (smallAt lf d n r)) (sym (z .1))
+            (word-agrees lf d n (z .0) t' (λ v. v .1) (z .2)))
             (at-past n s t' top)
             (token (λ e. omega arith) near x)
         small-agrees n s s' t' a (parens {s₁ = s₁'} {s₂ = s₂'} x p y) near fo =
             ⊎-elim
-            (λ z. subst (λ (r : List ℕ). Each (Match n a (nodes leafNodes a) t') (Fault ((suc (level Leaf leafLevel p) ≤ l) × (nodes leafNodes a ≤ n)) (InRange Ok a)) (smallAt lf d n r)) (sym (z .1))
+            (λ z. subst (λ (r : List ℕ). Each (Match n a (nodes leafNodes a) t')
+            (Fault ((suc (level Leaf leafLevel p) ≤ l) × (nodes leafNodes a ≤ n)) (InRange Ok a)) (smallAt lf d n r)) (sym (z .1))
             (paren-agrees d ad sd n (z .0) s₁' s₂' t' a p y (z .2)))
             (at-past n s t' a)
             (token (λ e. omega arith) near x)
@@ -510,7 +551,9 @@ module _ (u u' : List ℕ) (same : SameHead u u') where
             let G : Type 0 = InRange Ok (prefixed o b) in
             ⊎-elim
             (λ z. subst (λ (r : List ℕ). Each (Match n (prefixed o b) (nodes leafNodes (prefixed o b)) t') (Fault F G) (smallAt lf d n r)) (sym (z .1))
-            (subst (λ (q : Kind). Each (Match n (prefixed o b) (nodes leafNodes (prefixed o b)) t') (Fault F G) (byKind lf d q n (prefixByte o) (z .0))) (sym (kind-prefix o))
+            (subst
+            (λ (q : Kind). Each (Match n (prefixed o b) (nodes leafNodes (prefixed o b)) t') (Fault F G) (byKind lf d q n (prefixByte o) (z .0)))
+            (sym (kind-prefix o))
             (prefix-agrees d ad sd o (prefixByte o) n (z .0) s₁' t' b p fo (z .2))))
             (at-past n s t' (prefixed o b))
             (token (prefix-space o) near x)
@@ -521,15 +564,19 @@ module _ (u u' : List ℕ) (same : SameHead u u') where
             (λ z. subst (λ (r : List ℕ). Each (Match n (Form.leaf y) (leafNodes y) t') (Fault F G) (smallAt lf d n r)) (sym (z .2))
             (subst (λ (q : Kind). Each (Match n (Form.leaf y) (leafNodes y) t') (Fault F G) (byKind lf d q n (z .0) (z .1))) (sym (z .3))
             (subst (Each (Match n (Form.leaf y) (leafNodes y) t') (Fault F G)) (sym (by-other lf d n (z .0) (z .1)))
-            (each-bind (lf n (z .0 ∷ z .1)) _ (each-map (z .4) (λ x₁ m r i. gives (⊎-elim (λ g. inl (ap Form.leaf (g .0), g .1, g .2)) (λ g. inr g) i)) (λ w r i. i))))))
+            (each-bind (lf n (z .0 ∷ z .1)) _
+            (each-map (z .4) (λ x₁ m r i. gives (⊎-elim (λ g. inl (ap Form.leaf (g .0), g .1, g .2)) (λ g. inr g) i)) (λ w r i. i))))))
             (at-past n s t' (Form.leaf y))
             (al n s s' t' y p near fo)
 
       ---- Until-chains.
-      reach-agrees : (d : Deeper (Form L)) → AgreesDeeper l d → ShrinksDeeper d → (o : Reach) (a : Form L) (b n n₀ : ℕ) (r t s₁' t' : List ℕ) (c : Form L) (e : ℕ) (q : Part Leaf Rank.untils s₁' t' c) → Follow Rank.untils t' → Close t s₁'
+      reach-agrees : (d : Deeper (Form L)) → AgreesDeeper l d → ShrinksDeeper d
+          → (o : Reach) (a : Form L) (b n n₀ : ℕ) (r t s₁' t' : List ℕ) (c : Form L) (e : ℕ) (q : Part Leaf Rank.untils s₁' t' c)
+          → Follow Rank.untils t' → Close t s₁'
           → n₀ ≡ n + nodes leafNodes a
           → Each (Match n₀ (reached o a c) (nodes leafNodes (reached o a c)) t')
-          (Fault ((max e (suc (level Leaf leafLevel q)) ≤ l) × (nodes leafNodes (reached o a c) ≤ n₀)) (InRange Ok (reached o a c))) (byOnward d a n r (Onward.reach o) b t)
+          (Fault ((max e (suc (level Leaf leafLevel q)) ≤ l) × (nodes leafNodes (reached o a c) ≤ n₀)) (InRange Ok (reached o a c)))
+          (byOnward d a n r (Onward.reach o) b t)
       unfolding byOnward
       reach-agrees shut ad sd o a b n n₀ r t s₁' t' c e q fo close h = denies (limit (λ v. omega (arith, v .0, ad)))
       reach-agrees (open' sm un) ad sd o a b n n₀ r t s₁' t' c e q fo (inl near) h =
@@ -560,7 +607,9 @@ module _ (u u' : List ℕ) (same : SameHead u u') where
             (λ g.
             ⊎-elim
             (λ i. subst (λ (y : List ℕ). Each (Match n a (nodes leafNodes a) t') (Fault F G) (untilAt d a₁ m r y)) (sym (i .1))
-            (subst (λ (q : Onward). Each (Match n a (nodes leafNodes a) t') (Fault F G) (byOnward d a₁ m r q (fo .byte) (i .0))) (sym (onward-stop (fo .byte) (fo .ends))) (subst (Each (Match n a (nodes leafNodes a) t') (Fault F G)) (sym (by-stop d a₁ m r (fo .byte) (i .0))) (gives (inl g)))))
+            (subst (λ (q : Onward). Each (Match n a (nodes leafNodes a) t') (Fault F G) (byOnward d a₁ m r q (fo .byte) (i .0)))
+            (sym (onward-stop (fo .byte) (fo .ends)))
+            (subst (Each (Match n a (nodes leafNodes a) t') (Fault F G)) (sym (by-stop d a₁ m r (fo .byte) (i .0))) (gives (inl g)))))
             (λ i. beyond (nodes leafNodes a) (length (skip r)) i (until-more-short d sd (length (skip r)) a₁ m r (omega arith)))
             (token (not-space (fo .byte) (fo .plain)) (g .2) (fo .spaces)))
             (λ g. beyond (nodes leafNodes a) (length (skip r)) g (until-more-short d sd (length (skip r)) a₁ m r (omega arith)))
@@ -577,8 +626,11 @@ module _ (u u' : List ℕ) (same : SameHead u u') where
             (λ g.
             ⊎-elim
             (λ i. subst (λ (y : List ℕ). Each (Match n (reached o a b) (nodes leafNodes (reached o a b)) t') (Fault F G) (untilAt d a₁ m r y)) (sym (i .1))
-            (subst (λ (k : Onward). Each (Match n (reached o a b) (nodes leafNodes (reached o a b)) t') (Fault F G) (byOnward d a₁ m r k (reachByte o) (i .0))) (sym (onward-reach o))
-            (subst (λ (v : Form L). Each (Match n (reached o a b) (nodes leafNodes (reached o a b)) t') (Fault F G) (byOnward d v m r (Onward.reach o) (reachByte o) (i .0))) (sym (g .0))
+            (subst
+            (λ (k : Onward). Each (Match n (reached o a b) (nodes leafNodes (reached o a b)) t') (Fault F G) (byOnward d a₁ m r k (reachByte o) (i .0)))
+            (sym (onward-reach o))
+            (subst (λ (v : Form L). Each (Match n (reached o a b) (nodes leafNodes (reached o a b)) t') (Fault F G)
+            (byOnward d v m r (Onward.reach o) (reachByte o) (i .0))) (sym (g .0))
             (reach-agrees d ad sd o a (reachByte o) m n r (i .0) s₂' t' b (level Leaf leafLevel p) q fo (i .2) (g .1)))))
             (λ i. beyond (nodes leafNodes (reached o a b)) (length (skip r)) i (until-more-short d sd (length (skip r)) a₁ m r (omega arith)))
             (token (not-space (reachByte o) (reach-goes o)) (g .2) y))

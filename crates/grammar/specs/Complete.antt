@@ -43,12 +43,14 @@ module _ (u u' : List ℕ) (same : SameHead u u') where
             ⊎-elim
             (λ g.
             each-node (109 ∷ z .0) m _
-            (λ m₁ j. either (Each (Match u u' same n k 1 t') (Fault u u' same ((0 ≤ l) × (1 ≤ n)) (k ≤ 31))) (leb k₁ 31) (got k₁ m₁ r) (no 15 (z .0)) (λ e. gives (inl (g .0, omega (arith, g .1), g .2)))
+            (λ m₁ j. either (Each (Match u u' same n k 1 t') (Fault u u' same ((0 ≤ l) × (1 ≤ n)) (k ≤ 31))) (leb k₁ 31) (got k₁ m₁ r) (no 15 (z .0))
+            (λ e. gives (inl (g .0, omega (arith, g .1), g .2)))
             (λ e. denies (range u u' same (λ v. omega (arith, v, g .0, leb-false k₁ 31 e)))))
             (λ j. limit u u' same (λ v. omega (arith, v .1, g .1))))
             (λ g.
             each-node (109 ∷ z .0) m _
-            (λ m₁ j. either (Each (Match u u' same n k 1 t') (Fault u u' same ((0 ≤ l) × (1 ≤ n)) (k ≤ 31))) (leb k₁ 31) (got k₁ m₁ r) (no 15 (z .0)) (λ e. gives (inr (skipped u u' same r g)))
+            (λ m₁ j. either (Each (Match u u' same n k 1 t') (Fault u u' same ((0 ≤ l) × (1 ≤ n)) (k ≤ 31))) (leb k₁ 31) (got k₁ m₁ r) (no 15 (z .0))
+            (λ e. gives (inr (skipped u u' same r g)))
             (λ e. denies (range u u' same (λ v. omega arith))))
             (λ j. limit u u' same (λ v. omega (arith, v .1, i .1))))
             (i .0))
@@ -62,8 +64,10 @@ module _ (u u' : List ℕ) (same : SameHead u u') where
   inners-agrees l = ors-agrees u u' same Mark markLevel markNodes MarkOk (λ i. marks) marks-agrees (λ i. marks-short) l
 
   -- a count from its number on
-  threshold-agrees : {F G : Type 0} (a : Inner) (n m : ℕ) (s s₄' s₅' s₆' t' : List ℕ) (k : ℕ) (p : Bool) → Number s₄' s₅' k → Percent s₅' s₆' p → Spaces s₆' (93 ∷ t') → Close u u' same s s₄'
-      → n ≡ suc (m + nodes markNodes a) → (G → k ≤ most p) → Each (Match u u' same n (counted a k p) (suc (nodes markNodes a)) t') (Fault u u' same F G) (threshold a m s)
+  threshold-agrees : {F G : Type 0} (a : Inner) (n m : ℕ) (s s₄' s₅' s₆' t' : List ℕ) (k : ℕ) (p : Bool) → Number s₄' s₅' k → Percent s₅' s₆' p
+      → Spaces s₆' (93 ∷ t') → Close u u' same s s₄'
+      → n ≡ suc (m + nodes markNodes a) → (G → k ≤ most p)
+      → Each (Match u u' same n (counted a k p) (suc (nodes markNodes a)) t') (Fault u u' same F G) (threshold a m s)
   unfolding threshold
   threshold-agrees {F} {G} a n m s s₄' s₅' s₆' t' k p e f g close h ok =
       let c : ℕ = suc (nodes markNodes a) in
@@ -80,7 +84,8 @@ module _ (u u' : List ℕ) (same : SameHead u u') where
       ⊎-elim
       (λ y.
       each-map (expect-agrees u u' same 93 (λ z. omega arith) (counted a k₁ p₁) m₂ r₂ s₆' t' (y .2) g)
-      (λ v m₃ r₃ z. ⊎-elim (λ w. inl ((let kk = j .0 in let pp = y .0 in let vv = w .0 in cc), omega (arith, j .1, y .1, w .1), w .2)) (λ w. inr (skipped u u' same r₃ w)) z)
+      (λ v m₃ r₃ z. ⊎-elim (λ w. inl ((let kk = j .0 in let pp = y .0 in let vv = w .0 in cc), omega (arith, j .1, y .1, w .1), w .2))
+      (λ w. inr (skipped u u' same r₃ w)) z)
       (λ w r₃ z. z))
       (λ y. let o = skip-short r₂ in beyond u u' same c (length r₂) y (expect-short 93 (counted a k₁ p₁) (length r₂) m₂ r₂ o))
       x)
@@ -116,14 +121,17 @@ module _ (u u' : List ℕ) (same : SameHead u u') where
       (λ a₂ m₂ r₂ x.
       ⊎-elim
       (λ w.
-      subst (λ (b : Inner). Each (Match u u' same n (counted a k p) cost t') (Fault u u' same ((suc (level Mark markLevel i) ≤ suc l) × (cost ≤ n)) (InRange MarkOk a × (k ≤ most p))) (threshold b m₂ (skip r₂)))
+      subst
+      (λ (b : Inner). Each (Match u u' same n (counted a k p) cost t')
+      (Fault u u' same ((suc (level Mark markLevel i) ≤ suc l) × (cost ≤ n)) (InRange MarkOk a × (k ≤ most p))) (threshold b m₂ (skip r₂)))
       (sym (w .0 ∙ y .0))
       (threshold-agrees a n m₂ (skip r₂) s₄' s₅' s₆' t' k p e f g (arrive u u' same (number-head e) (w .2) d) (omega (arith, w .1, y .1)) (λ v. v .1)))
       (λ w. let o = skip-short r₂ in beyond u u' same cost (length r₂) w (threshold-short a₂ (length r₂) m₂ (skip r₂) o))
       x)
       (λ w r₂ x. x))
       (λ y.
-      each-map (expect-short 44 a₁ (length (skip r)) m₁ r (omega arith)) (λ a₂ m₂ r₂ x. beyond u u' same cost (length (skip r)) y (threshold-short a₂ (length (skip r)) m₂ (skip r₂) x))
+      each-map (expect-short 44 a₁ (length (skip r)) m₁ r (omega arith))
+      (λ a₂ m₂ r₂ x. beyond u u' same cost (length (skip r)) y (threshold-short a₂ (length (skip r)) m₂ (skip r₂) x))
       (λ w r₂ x. gone u u' same (omega arith)))
       z)
       (λ w r z. fault-map u u' same (λ v. (omega (arith, v .0), omega (arith, v .1))) (λ v. v .0) z))))
@@ -136,13 +144,16 @@ module _ (u u' : List ℕ) (same : SameHead u u') where
       beyond u u' same cost (length t) past
       (each-bind (bind (inners l m t) _) _
       (each-bind (inners l m t) _
-      (each-map (inners-short l (length t) m t h) (λ a₁ m₁ r z. each-map (expect-short 44 a₁ (length t) m₁ r z) (λ a₂ m₂ r₂ x. threshold-short a₂ (length t) m₂ (skip r₂) x) (λ w r₂ x. x)) (λ w r z. z)))))
+      (each-map (inners-short l (length t) m t h)
+      (λ a₁ m₁ r z. each-map (expect-short 44 a₁ (length t) m₁ r z) (λ a₂ m₂ r₂ x. threshold-short a₂ (length t) m₂ (skip r₂) x) (λ w r₂ x. x))
+      (λ w r z. z)))))
       (λ j. limit u u' same (λ v. omega (arith, v .1)))
 
   counts-agrees : (l : ℕ) → AgreesLeaf u u' same Count countLevel countNodes CountOk l (counts l)
   unfolding counts
   counts-agrees l n s s' t' x (count {s₁ = s₁'} {s₂ = s₂'} {s₃ = s₃'} {s₄ = s₄'} {s₅ = s₅'} {s₆ = s₆'} {a = a} {n = k} {p = p} o i c d e f g) near fo =
-      ⊎-elim (λ z. inl (91, z .0, z .1, refl, bracket-agrees l n (z .0) s₁' s₂' s₃' s₄' s₅' s₆' t' a k p i c d e f g (z .2))) (λ z. inr z) (token u u' same (λ q. omega arith) near o)
+      ⊎-elim (λ z. inl (91, z .0, z .1, refl, bracket-agrees l n (z .0) s₁' s₂' s₃' s₄' s₅' s₆' t' a k p i c d e f g (z .2))) (λ z. inr z)
+      (token u u' same (λ q. omega arith) near o)
 
   clauses-agrees : (l : ℕ) → Agrees u u' same Count countLevel countNodes CountOk Rank.ors l (clauses l)
   unfolding clauses
@@ -196,7 +207,8 @@ module _ (u u' : List ℕ) (same : SameHead u u') where
       (λ w r₂ i. i))
       (λ g.
       each-map (expect-inside 10 c₁ (length (skip r)) m r (omega arith))
-      (λ c₂ m₂ r₂ i. each-bind (lines k r₂) _ (each-map (lines-short k (length r₂) r₂ (omega arith)) (λ cs₁ m₃ r₃ j. gives (inr (omega arith))) (λ w₁ r₃ j. gone u u' same (omega arith))))
+      (λ c₂ m₂ r₂ i. each-bind (lines k r₂) _
+      (each-map (lines-short k (length r₂) r₂ (omega arith)) (λ cs₁ m₃ r₃ j. gives (inr (omega arith))) (λ w₁ r₃ j. gone u u' same (omega arith))))
       (λ w r₂ i. gone u u' same (omega arith)))
       z)
       (λ w r z. fault-map u u' same (λ o. (o .0 .0, o .0 .1)) (λ o. o .0) z))))
@@ -206,7 +218,8 @@ itself : (s : List ℕ) → Swap [] [] s s
 itself [] = here
 itself (b ∷ s) = there (itself s)
 
-outcome-complete : (s : List ℕ) (cs : List Clause) (d : Sheet s cs) (len : ℕ) (g : Got (List Clause)) → Reading [] [] neither 32 s cs d g → Fits d → FewLines cs → outcome len g ≡ accepted cs
+outcome-complete : (s : List ℕ) (cs : List Clause) (d : Sheet s cs) (len : ℕ) (g : Got (List Clause)) → Reading [] [] neither 32 s cs d g → Fits d
+    → FewLines cs → outcome len g ≡ accepted cs
 unfolding outcome
 outcome-complete s cs d len g (gives {a = x} p) f h = ⊎-elim (λ e. ap accepted e) (λ e. absurd (omega arith)) p
 outcome-complete s cs d len g (denies q) f h = let z = q .only (f .0, h) (f .1) in absurd (omega arith)
@@ -214,14 +227,16 @@ outcome-complete s cs d len g (denies q) f h = let z = q .only (f .0, h) (f .1) 
 start-complete : (s : List ℕ) (cs : List Clause) (d : Sheet s cs) → Fits d → FewLines cs → 0 < length s → start s ≡ accepted cs
 unfolding start
 start-complete [] cs d f h i = absurd (omega arith)
-start-complete (b ∷ s) cs d f h i = outcome-complete (b ∷ s) cs d (length (b ∷ s)) (lines 32 (b ∷ s)) (lines-agrees [] [] neither 32 (b ∷ s) (b ∷ s) cs d (itself (b ∷ s))) f h
+start-complete (b ∷ s) cs d f h i =
+    outcome-complete (b ∷ s) cs d (length (b ∷ s)) (lines 32 (b ∷ s)) (lines-agrees [] [] neither 32 (b ∷ s) (b ∷ s) cs d (itself (b ∷ s))) f h
 
 pub complete : (s : List ℕ) (cs : List Clause) (d : Sheet s cs) → Fits d → FewLines cs → 0 < length s → FewBytes s → readSheet s ≡ accepted cs
 unfolding readSheet
 complete s cs d f h i j = ap (λ (x : Bool). pick x (refused 12 0) (start s)) (le-ltb 16384 (length s) j) ∙ start-complete s cs d f h i
 
 -- so a sheet within the limits means one thing
-pub unambiguous : (s : List ℕ) (cs cs' : List Clause) (d : Sheet s cs) (e : Sheet s cs') → Fits d → Fits e → FewLines cs → FewLines cs' → 0 < length s → FewBytes s → cs ≡ cs'
+pub unambiguous : (s : List ℕ) (cs cs' : List Clause) (d : Sheet s cs) (e : Sheet s cs') → Fits d → Fits e → FewLines cs → FewLines cs' → 0 < length s
+    → FewBytes s → cs ≡ cs'
 unambiguous s cs cs' d e f g h i j k = let x = complete s cs d f h j k in let y = complete s cs' e g i j k in cc
 
 ---- With a byte that is refused by 13 no sheet of the grammar goes on, and with one refused by 14 none within the limits.
@@ -250,14 +265,16 @@ none-of s w r e i cs d =
     omega arith
 
 at-byte : (s : List ℕ) (w : ℕ) (r : List ℕ) → lines 32 s ≡ no w r → (v t : List ℕ) → Swap r v s t → (w ≡ 14 → 0 < length r) → Refused s (length s - length r) w
-at-byte s w [] e v t x f = record { stuck = λ i j. absurd (omega arith); ends = none-of s w [] e; over = λ i. absurd (omega (arith, f i)); there = λ i. absurd (omega (arith, f i)) }
+at-byte s w [] e v t x f =
+    record { stuck = λ i j. absurd (omega arith); ends = none-of s w [] e; over = λ i. absurd (omega (arith, f i)); there = λ i. absurd (omega (arith, f i)) }
 at-byte s w (b ∷ q) e v t x f = record {
   stuck = λ i j y cs d. let h = denied (reading y cs d) .past i in omega arith;
   ends = none-of s w (b ∷ q) e;
   over = λ i y cs d j k. let h = denied (reading y cs d) .over i (j, k) in omega arith;
   there = λ i. let h = swap-short x in omega arith;
 } where
-  reading : (y : List ℕ) (cs : List Clause) (d : Sheet (take (suc (length s - length (b ∷ q))) s ++ y) cs) → Reading (b ∷ q) (b ∷ y) both 32 (take (suc (length s - length (b ∷ q))) s ++ y) cs d (no w (b ∷ q))
+  reading : (y : List ℕ) (cs : List Clause) (d : Sheet (take (suc (length s - length (b ∷ q))) s ++ y) cs)
+      → Reading (b ∷ q) (b ∷ y) both 32 (take (suc (length s - length (b ∷ q))) s ++ y) cs d (no w (b ∷ q))
   reading y cs d =
       let s' : List ℕ = take (suc (length s - length (b ∷ q))) s ++ y in
       subst (Reading (b ∷ q) (b ∷ y) both 32 s' cs d) e (lines-agrees (b ∷ q) (b ∷ y) both 32 s s' cs d (swap-on x y))
@@ -280,7 +297,8 @@ goes-refused s w r h e (on x d (keeps-15 m i o y) a) = absurd (h i)
 goes-refused s w r h e (full {s' = t} x d i j k a) = at-byte s w r e [] t x (λ i. k)
 
 refused-at : (s : List ℕ) (w k : ℕ) → (w ≡ 7 → ⊥) → (w ≡ 12 → ⊥) → (w ≡ 15 → ⊥) → readSheet s ≡ refused w k → Refused s k w
-refused-at s w k h i j e = let q = refusal s w k h i e in subst (λ (n : ℕ). Refused s n w) (q .at) (goes-refused s w (q .rest) j (q .read) (q .refuses .goes whole))
+refused-at s w k h i j e =
+    let q = refusal s w k h i e in subst (λ (n : ℕ). Refused s n w) (q .at) (goes-refused s w (q .rest) j (q .read) (q .refuses .goes whole))
 
 -- (c) the other half: no sheet of the grammar begins with the bytes up to one that is refused by 13; at the text's end, the text is none.
 pub stuck-13 : (s : List ℕ) (k : ℕ) → readSheet s ≡ refused 13 k → (k < length s → Never (take (suc k) s)) × ((cs : List Clause) → Sheet s cs → ⊥)
@@ -291,7 +309,8 @@ pub over-14 : (s : List ℕ) (k : ℕ) → readSheet s ≡ refused 14 k → (k <
 over-14 s k e = let r = refused-at s 14 k (λ z. omega arith) (λ z. omega arith) (λ z. omega arith) e in (r .there refl, r .over refl)
 
 ---- No other refusals.
-outcome-code : (len w k : ℕ) (g : Got (List Clause)) (N : ℕ) → Each (λ cs m r. Unit {0}) (λ v r. (length r ≤ N) × Code v) g → outcome len g ≡ refused w k → Code w
+outcome-code : (len w k : ℕ) (g : Got (List Clause)) (N : ℕ) → Each (λ cs m r. Unit {0}) (λ v r. (length r ≤ N) × Code v) g
+    → outcome len g ≡ refused w k → Code w
 unfolding outcome
 outcome-code len w k g N (gives p) e = let z : _≡_ {A = ℕ} 0 1 = cc in absurd (omega arith)
 outcome-code len w k g N (denies {w = v} q) e = let i : v ≡ w = cc in subst Code i (q .1)
@@ -299,13 +318,15 @@ outcome-code len w k g N (denies {w = v} q) e = let i : v ≡ w = cc in subst Co
 start-code : (s : List ℕ) (w k : ℕ) → start s ≡ refused w k → Coded s w k
 unfolding start
 start-code [] w k e = let i : 7 ≡ w = cc in let j : 0 ≡ k = cc in inr (inl (sym i, sym j, refl))
-start-code (b ∷ s) w k e = inr (inr (outcome-code (length (b ∷ s)) w k (lines 32 (b ∷ s)) (length (b ∷ s)) (lines-short 32 (length (b ∷ s)) (b ∷ s) (omega arith)) e))
+start-code (b ∷ s) w k e =
+    inr (inr (outcome-code (length (b ∷ s)) w k (lines 32 (b ∷ s)) (length (b ∷ s)) (lines-short 32 (length (b ∷ s)) (b ∷ s) (omega arith)) e))
 
 pub codes : (s : List ℕ) (w k : ℕ) → readSheet s ≡ refused w k → Coded s w k
 unfolding readSheet
 codes s w k =
     either (λ x. x ≡ refused w k → Coded s w k) (ltb 16384 (length s)) (refused 12 0) (start s)
-    (λ h e. let i : 12 ≡ w = cc in let j : 0 ≡ k = cc in let l = ltb-true 16384 (length s) h in inl (sym i, sym j, λ f. omega arith)) (λ h e. start-code s w k e)
+    (λ h e. let i : 12 ≡ w = cc in let j : 0 ≡ k = cc in let l = ltb-true 16384 (length s) h in inl (sym i, sym j, λ f. omega arith))
+    (λ h e. start-code s w k e)
 
 pub long-12 : (s : List ℕ) → (FewBytes s → ⊥) → readSheet s ≡ refused 12 0
 unfolding readSheet

@@ -17,7 +17,8 @@ pub data Each {A : Type 0} (P : A → ℕ → List ℕ → Type 0) (Q : ℕ → 
   denies : {w : ℕ} {r : List ℕ} → Q w r → Each P Q (no w r)
 
 -- of a reading and what follows it, what holds of each outcome
-pub each-bind : {A B : Type 0} {P : B → ℕ → List ℕ → Type 0} {Q : ℕ → List ℕ → Type 0} (g : Got A) (f : A → Reader B) → Each (λ a n r. Each P Q (f a n r)) Q g → Each P Q (bind g f)
+pub each-bind : {A B : Type 0} {P : B → ℕ → List ℕ → Type 0} {Q : ℕ → List ℕ → Type 0} (g : Got A) (f : A → Reader B)
+    → Each (λ a n r. Each P Q (f a n r)) Q g → Each P Q (bind g f)
 unfolding bind
 each-bind g f (gives p) = p
 each-bind g f (denies q) = denies q
@@ -27,7 +28,8 @@ pub each-map : {A : Type 0} {P P' : A → ℕ → List ℕ → Type 0} {Q Q' : �
 each-map (gives {a = a} {n = n} {r = r} p) y z = gives (y a n r p)
 each-map (denies {w = w} {r = r} q) y z = denies (z w r q)
 
-pub each-both : {A : Type 0} {P P' : A → ℕ → List ℕ → Type 0} {Q Q' : ℕ → List ℕ → Type 0} {g : Got A} → Each P Q g → Each P' Q' g → Each (λ a n r. P a n r × P' a n r) (λ w r. Q w r × Q' w r) g
+pub each-both : {A : Type 0} {P P' : A → ℕ → List ℕ → Type 0} {Q Q' : ℕ → List ℕ → Type 0} {g : Got A} → Each P Q g → Each P' Q' g
+    → Each (λ a n r. P a n r × P' a n r) (λ w r. Q w r × Q' w r) g
 each-both (gives p) (gives q) = gives (p, q)
 each-both (denies p) (denies q) = denies (p, q)
 
@@ -55,7 +57,9 @@ both-right false b e = never e
 pub skip-spaces : (s : List ℕ) → Spaces s (skip s)
 unfolding skip
 skip-spaces [] = none
-skip-spaces (b ∷ s) = either (λ r. Spaces (b ∷ s) r) (eqb b 32) (skip s) (b ∷ s) (λ e. subst (λ (c : ℕ). Spaces (c ∷ s) (skip s)) (sym (eqb-true b 32 e)) (space (skip-spaces s))) (λ e. none)
+skip-spaces (b ∷ s) =
+    either (λ r. Spaces (b ∷ s) r) (eqb b 32) (skip s) (b ∷ s)
+    (λ e. subst (λ (c : ℕ). Spaces (c ∷ s) (skip s)) (sym (eqb-true b 32 e)) (space (skip-spaces s))) (λ e. none)
 
 module _ {A : Type 0} {P : A → ℕ → List ℕ → Type 0} {Q : ℕ → List ℕ → Type 0} where
   expect-at : (c : ℕ) (a : A) (n : ℕ) (s : List ℕ) → ((r : List ℕ) → s ≡ c ∷ r → P a n r) → Q 13 s → Each P Q (expectAt c a n s)
@@ -63,11 +67,13 @@ module _ {A : Type 0} {P : A → ℕ → List ℕ → Type 0} {Q : ℕ → List 
   expect-at c a n [] y z = denies z
   expect-at c a n (b ∷ r) y z = either (Each P Q) (eqb b c) _ _ (λ e. gives (y r (ap (λ (x : ℕ). x ∷ r) (eqb-true b c e)))) (λ e. denies z)
 
-  pub each-expect : (c : ℕ) (a : A) (n : ℕ) (s : List ℕ) → ((r : List ℕ) → Spaces s (c ∷ r) → P a n r) → ((r : List ℕ) → Spaces s r → Q 13 r) → Each P Q (expect c a n s)
+  pub each-expect : (c : ℕ) (a : A) (n : ℕ) (s : List ℕ) → ((r : List ℕ) → Spaces s (c ∷ r) → P a n r) → ((r : List ℕ) → Spaces s r → Q 13 r)
+      → Each P Q (expect c a n s)
   unfolding expect
   each-expect c a n s y z = expect-at c a n (skip s) (λ r e. y r (subst (λ (r : List ℕ). Spaces s r) e (skip-spaces s))) (z (skip s) (skip-spaces s))
 
-  pub each-literal : (w : List ℕ) (a : A) (n : ℕ) (s : List ℕ) → ((r : List ℕ) → s ≡ w ++ r → P a n r) → ((r : List ℕ) → ((t : List ℕ) → (v : List ℕ) × Swap r v s (w ++ t)) → Q 13 r) → Each P Q (literal w a n s)
+  pub each-literal : (w : List ℕ) (a : A) (n : ℕ) (s : List ℕ) → ((r : List ℕ) → s ≡ w ++ r → P a n r)
+      → ((r : List ℕ) → ((t : List ℕ) → (v : List ℕ) × Swap r v s (w ++ t)) → Q 13 r) → Each P Q (literal w a n s)
   unfolding literal
   each-literal [] a n s y z = gives (y s refl)
   each-literal (c ∷ w) a n [] y z = denies (z [] (λ t. (c ∷ w ++ t, here)))
@@ -89,7 +95,8 @@ is-digit b h i = simp (le-leb 48 b h, le-leb b 57 i)
 abbrev Furthest : ℕ → List ℕ → List ℕ → Type 0
 Furthest v s r = (r' : List ℕ) (k' : ℕ) → Digits v s r' k' → length r ≤ length r'
 
-digits-on-far : {v b k' : ℕ} {s r' : List ℕ} (r : List ℕ) → length r ≤ length s → Furthest (v * 10 + (b - 48)) s r → Digits v (b ∷ s) r' k' → length r ≤ length r'
+digits-on-far : {v b k' : ℕ} {s r' : List ℕ} (r : List ℕ) → length r ≤ length s → Furthest (v * 10 + (b - 48)) s r → Digits v (b ∷ s) r' k'
+    → length r ≤ length r'
 digits-on-far r h f end = omega arith
 digits-on-far r h f (digit i j x) = f _ _ x
 
@@ -120,7 +127,8 @@ module _ {P : ℕ → ℕ → List ℕ → Type 0} {Q : ℕ → List ℕ → Typ
   each-digits v n (b ∷ s) y =
       either (Each P Q) (isDigit b) (digits (v * 10 + (b - 48)) n s) _
       (λ e. each-digits (v * 10 + (b - 48)) n s
-      (λ k r x f. y k r (digit (leb-true 48 b (both-left (leb 48 b) (leb b 57) e)) (leb-true b 57 (both-right (leb 48 b) (leb b 57) e)) x) (λ r' k' z. digits-on-far r (digits-length x) f z)))
+      (λ k r x f. y k r (digit (leb-true 48 b (both-left (leb 48 b) (leb b 57) e)) (leb-true b 57 (both-right (leb 48 b) (leb b 57) e)) x)
+      (λ r' k' z. digits-on-far r (digits-length x) f z)))
       (λ e. gives (y v (b ∷ s) end (λ r' k' z. digits-stop-far e z)))
 
   pub each-number : (n : ℕ) (s : List ℕ) → ((k : ℕ) (r : List ℕ) → WholeNumber s r k → P k n r) → Q 13 s → Each P Q (number n s)
@@ -136,12 +144,14 @@ module _ {P : ℕ → ℕ → List ℕ → Type 0} {Q : ℕ → List ℕ → Typ
       each-digits (b - 48) n s (λ k r x f. y k r (record { number = other (omega arith) i x; longest = λ r' k' w. other-far r j f w })))
       (λ d. denies z))
 
-pub each-percent : {P : Bool → ℕ → List ℕ → Type 0} {Q : ℕ → List ℕ → Type 0} (n : ℕ) (s : List ℕ) → ((p : Bool) (r : List ℕ) → WholePercent s r p → P p n r) → Each P Q (percent n s)
+pub each-percent : {P : Bool → ℕ → List ℕ → Type 0} {Q : ℕ → List ℕ → Type 0} (n : ℕ) (s : List ℕ)
+    → ((p : Bool) (r : List ℕ) → WholePercent s r p → P p n r) → Each P Q (percent n s)
 unfolding percent
 each-percent n [] y = gives (y false [] (record { percent = without; longest = λ r' p' x. omega arith }))
 each-percent {P} {Q} n (b ∷ s) y =
     either (Each P Q) (eqb b 37) _ _
-    (λ e. gives (y true s (subst (λ (x : ℕ). WholePercent (x ∷ s) s true) (sym (eqb-true b 37 e)) (record { percent = sign; longest = λ r' p' x. sign-far x }))))
+    (λ e. gives
+    (y true s (subst (λ (x : ℕ). WholePercent (x ∷ s) s true) (sym (eqb-true b 37 e)) (record { percent = sign; longest = λ r' p' x. sign-far x }))))
     (λ e. gives (y false (b ∷ s) (record { percent = without; longest = λ r' p' x. without-far (eqb-false b 37 e) x })))
 
 -- these count no nodes

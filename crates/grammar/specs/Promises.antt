@@ -39,7 +39,9 @@ promises s = record {
   sound = sound s;
   complete = complete s;
   count = λ c. clause-length c 0;
-  standing = λ c q. let e : 0 + nodes countNodes c ≡ nodes countNodes c = omega arith in subst (λ (n : ℕ). Stands StandsCount (flatClause c 0 ++ q) (n - 1) c) e (clause-stands c [] q);
+  standing =
+      λ c q. let e : 0 + nodes countNodes c ≡ nodes countNodes c = omega arith in subst
+      (λ (n : ℕ). Stands StandsCount (flatClause c 0 ++ q) (n - 1) c) e (clause-stands c [] q);
   long-12 = long-12 s;
   codes = codes s;
   before = before-in-range s;

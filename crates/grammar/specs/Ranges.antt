@@ -77,7 +77,8 @@ module _ (h : ℕ) (x : List ℕ) (key : (h ≡ 109) ⊎ (h ≡ 44)) where
   abbrev Passes : List ℕ → Type 0
   Passes r = Behind r ⊎ Fine (h ∷ x)
 
-  module _ {L : Type 0} (Leaf : List ℕ → List ℕ → L → Type 0) (Ok : L → Type 0) (leaf-fine : (s r : List ℕ) (y : L) → Leaf s r y → Plain r → Ok y → Behind s → Passes r) where
+  module _ {L : Type 0} (Leaf : List ℕ → List ℕ → L → Type 0) (Ok : L → Type 0)
+      (leaf-fine : (s r : List ℕ) (y : L) → Leaf s r y → Plain r → Ok y → Behind s → Passes r) where
     part-fine : {k : Rank} {s r : List ℕ} {a : Form L} → Part Leaf k s r a → Plain r → InRange Ok a → Behind s → Passes r
     part-fine (word y) d ok t =
         let t₁ = token-past (λ e. omega arith) (λ e. omega arith) y t in
@@ -106,14 +107,16 @@ module _ (h : ℕ) (x : List ℕ) (key : (h ≡ 109) ⊎ (h ≡ 44)) where
   count-fine s r y (count o p c a e f g) d ok t =
       ⊎-elim
       (λ t₁.
-      ⊎-elim (λ i. inr (in-count i a e f g (ok .1))) (λ t₂. inl (token-past (λ e. omega arith) (λ e. omega arith) g (percent-past f (number-past e (spaces-past a t₂))))) (spaces-past c t₁))
+      ⊎-elim (λ i. inr (in-count i a e f g (ok .1)))
+      (λ t₂. inl (token-past (λ e. omega arith) (λ e. omega arith) g (percent-past f (number-past e (spaces-past a t₂))))) (spaces-past c t₁))
       (λ i. inr i)
       (part-fine Mark MarkOk mark-fine p (plain refl c) (ok .0) (token-past (λ e. omega arith) (λ e. omega arith) o t))
 
   pub sheet-fine : {s : List ℕ} {cs : List Clause} (d : Sheet s cs) → Ranged d → Behind s → Fine (h ∷ x)
   sheet-fine done ok t = absurd t
   sheet-fine (line p y rest) ok t =
-      ⊎-elim (λ t₁. sheet-fine rest (ok .1) (token-past (λ e. omega arith) (λ e. omega arith) y t₁)) (λ f. f) (part-fine Count CountOk count-fine p (plain refl y) (ok .0) t)
+      ⊎-elim (λ t₁. sheet-fine rest (ok .1) (token-past (λ e. omega arith) (λ e. omega arith) y t₁)) (λ f. f)
+      (part-fine Count CountOk count-fine p (plain refl y) (ok .0) t)
 
 ---- What begins with a number out of range is not fine, whatever stands behind the number.
 digits-ge : {v k : ℕ} {s r : List ℕ} → Digits v s r k → v ≤ k
@@ -171,7 +174,8 @@ mark-never {x} y h (in-mark {x = x₁} {r = r} {n = n} e z d l) =
     omega arith
 mark-never y h (in-count e a z f g l) = let i : _≡_ {A = ℕ} 109 44 = cc in omega arith
 
-threshold-never : {x t₁ t r r₁ r₂ : List ℕ} {n m : ℕ} {p q : Bool} → Number x t₁ n → Percent t₁ t p → most p < n → Number x r m → Percent r r₁ q → Spaces r₁ (93 ∷ r₂) → m ≤ most q → ⊥
+threshold-never : {x t₁ t r r₁ r₂ : List ℕ} {n m : ℕ} {p q : Bool} → Number x t₁ n → Percent t₁ t p → most p < n → Number x r m → Percent r r₁ q
+    → Spaces r₁ (93 ∷ r₂) → m ≤ most q → ⊥
 threshold-never {q = q} y without h z f g l = let k = number-most z (percent-plain f g) y in let o = most-least q in omega arith
 threshold-never {r₁ = r₁} {q = q} y (sign {s = s}) h z f g l =
     let e = number-same z (percent-plain f g) y refl in

@@ -72,7 +72,8 @@ pub data Kind : Type 0 where
 abbrev pub kind : ℕ → Kind
 kind b =
     pick (eqb b 116) word
-    (pick (eqb b 40) paren (pick (eqb b 33) (prefix not) (pick (eqb b 88) (prefix next) (pick (eqb b 70) (prefix finally) (pick (eqb b 71) (prefix globally) other)))))
+    (pick (eqb b 40) paren
+    (pick (eqb b 33) (prefix not) (pick (eqb b 88) (prefix next) (pick (eqb b 70) (prefix finally) (pick (eqb b 71) (prefix globally) other)))))
 
 pub data Onward : Type 0 where
   stop : Onward

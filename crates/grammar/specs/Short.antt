@@ -47,7 +47,8 @@ Shrinks₁ rd = (N n : ℕ) (s : List ℕ) → length s ≤ N → Within N (rd n
 expect-at-short : {A : Type 0} (c : ℕ) (a : A) (N n : ℕ) (s : List ℕ) → length s ≤ N → Inside N (expectAt c a n s)
 unfolding expectAt
 expect-at-short c a N n [] h = denies (h, c13)
-expect-at-short {A} c a N n (b ∷ r) h = either (λ (g : Got A). Inside N g) (eqb b c) (got a n r) (no 13 (b ∷ r)) (λ e. gives (omega arith)) (λ e. denies (h, c13))
+expect-at-short {A} c a N n (b ∷ r) h =
+    either (λ (g : Got A). Inside N g) (eqb b c) (got a n r) (no 13 (b ∷ r)) (λ e. gives (omega arith)) (λ e. denies (h, c13))
 
 pub expect-inside : {A : Type 0} (c : ℕ) (a : A) (N n : ℕ) (s : List ℕ) → length (skip s) ≤ N → Inside N (expect c a n s)
 unfolding expect
@@ -60,19 +61,23 @@ pub literal-short : {A : Type 0} (w : List ℕ) (a : A) (N n : ℕ) (s : List �
 unfolding literal
 literal-short [] a N n s h = gives h
 literal-short (c ∷ w) a N n [] h = denies (h, c13)
-literal-short {A} (c ∷ w) a N n (b ∷ s) h = either (λ (g : Got A). Inside N g) (eqb b c) (literal w a n s) (no 13 (b ∷ s)) (λ e. literal-short w a N n s (omega arith)) (λ e. denies (h, c13))
+literal-short {A} (c ∷ w) a N n (b ∷ s) h =
+    either (λ (g : Got A). Inside N g) (eqb b c) (literal w a n s) (no 13 (b ∷ s)) (λ e. literal-short w a N n s (omega arith)) (λ e. denies (h, c13))
 
 pub digits-short : (v N n : ℕ) (s : List ℕ) → length s ≤ N → Inside N (digits v n s)
 unfolding digits
 digits-short v N n [] h = gives h
-digits-short v N n (b ∷ s) h = either (λ (g : Got ℕ). Inside N g) (isDigit b) (digits (v * 10 + (b - 48)) n s) (got v n (b ∷ s)) (λ e. digits-short (v * 10 + (b - 48)) N n s (omega arith)) (λ e. gives h)
+digits-short v N n (b ∷ s) h =
+    either (λ (g : Got ℕ). Inside N g) (isDigit b) (digits (v * 10 + (b - 48)) n s) (got v n (b ∷ s))
+    (λ e. digits-short (v * 10 + (b - 48)) N n s (omega arith)) (λ e. gives h)
 
 pub number-short : (N n : ℕ) (s : List ℕ) → length s ≤ N → Inside N (number n s)
 unfolding number
 number-short N n [] h = denies (h, c13)
 number-short N n (b ∷ s) h =
     either (λ (g : Got ℕ). Inside N g) (eqb b 48) (got 0 n s) _ (λ e. gives (omega arith))
-    (λ e. either (λ (g : Got ℕ). Inside N g) (isDigit b) (digits (b - 48) n s) (no 13 (b ∷ s)) (λ d. digits-short (b - 48) N n s (omega arith)) (λ d. denies (h, c13)))
+    (λ e. either (λ (g : Got ℕ). Inside N g) (isDigit b) (digits (b - 48) n s) (no 13 (b ∷ s)) (λ d. digits-short (b - 48) N n s (omega arith))
+    (λ d. denies (h, c13)))
 
 pub percent-short : (N n : ℕ) (s : List ℕ) → length s ≤ N → Inside N (percent n s)
 unfolding percent
@@ -85,14 +90,16 @@ module _ {A : Type 0} (c : ℕ) (join : A → A → A) where
   unfolding chainAt
   chain-at-short N a n r go [] h i y = gives h
   chain-at-short N a n r go (b ∷ r₁) h i y =
-      either (λ (g : Got A). Within N g) (eqb b c) (node (b ∷ r₁) n (λ m. go m r₁)) (got a n r) (λ e. each-node (b ∷ r₁) n _ (λ m j. y m r₁ i) (λ j. (i, c14))) (λ e. gives h)
+      either (λ (g : Got A). Within N g) (eqb b c) (node (b ∷ r₁) n (λ m. go m r₁)) (got a n r)
+      (λ e. each-node (b ∷ r₁) n _ (λ m j. y m r₁ i) (λ j. (i, c14))) (λ e. gives h)
 
   pub chain-more-short : (sub : Reader A) → Shrinks sub → (f : ℕ) (a : A) → Shrinks (chainMore c join sub f a)
   unfolding chainMore
   chain-more-short sub g zero a N n s h = chain-at-short N a n s _ (skip s) h h (λ m r₁ i. denies (i, c14))
   chain-more-short sub g (suc f) a N n s h =
       chain-at-short N a n s _ (skip s) h h
-      (λ m r₁ i. let k = skip-short r₁ in each-bind (sub m r₁) _ (each-map (g N m r₁ (omega arith)) (λ b m₂ r₂ j. chain-more-short sub g f (join a b) N m₂ r₂ j) (λ w r₂ j. j)))
+      (λ m r₁ i. let k = skip-short r₁ in each-bind (sub m r₁) _
+      (each-map (g N m r₁ (omega arith)) (λ b m₂ r₂ j. chain-more-short sub g f (join a b) N m₂ r₂ j) (λ w r₂ j. j)))
 
   pub chain-short : (sub : Reader A) → Shrinks sub → Shrinks (chain c join sub)
   unfolding chain
@@ -111,17 +118,21 @@ module _ {L : Type 0} where
   unfolding orChain
   or-short sub g = chain-short 124 Form.or (andChain sub) (and-short sub g)
 
-  by-kind-short : (lf : Reader L) (d : Deeper (Form L)) → Shrinks₁ lf → ShrinksDeeper d → (q : Kind) (N n b : ℕ) (r : List ℕ) → suc (length r) ≤ N → Within N (byKind lf d q n b r)
+  by-kind-short : (lf : Reader L) (d : Deeper (Form L)) → Shrinks₁ lf → ShrinksDeeper d → (q : Kind) (N n b : ℕ) (r : List ℕ) → suc (length r) ≤ N
+      → Within N (byKind lf d q n b r)
   unfolding byKind
   by-kind-short lf d gl gd Kind.word N n b r h =
       each-bind (literal (114 ∷ 117 ∷ 101 ∷ []) tt n r) _
-      (each-map (literal-short (114 ∷ 117 ∷ 101 ∷ []) tt N n r (omega arith)) (λ u m r₁ i. each-node (b ∷ r) m _ (λ m₁ j. gives (let k = skip-short r₁ in omega arith)) (λ j. (h, c14))) (λ w r₁ i. i))
+      (each-map (literal-short (114 ∷ 117 ∷ 101 ∷ []) tt N n r (omega arith))
+      (λ u m r₁ i. each-node (b ∷ r) m _ (λ m₁ j. gives (let k = skip-short r₁ in omega arith)) (λ j. (h, c14))) (λ w r₁ i. i))
   by-kind-short lf shut gl gd Kind.paren N n b r h = denies {r = b ∷ r} (h, c14)
   by-kind-short lf (open' sm un) gl gd Kind.paren N n b r h =
-      let k = skip-short r in each-bind (orChain un n r) _ (each-map (or-short un (gd .1) N n r (omega arith)) (λ a m r₁ i. expect-short 41 a N m r₁ i) (λ w r₁ i. i))
+      let k = skip-short r in
+      each-bind (orChain un n r) _ (each-map (or-short un (gd .1) N n r (omega arith)) (λ a m r₁ i. expect-short 41 a N m r₁ i) (λ w r₁ i. i))
   by-kind-short lf shut gl gd (Kind.prefix o) N n b r h = denies {r = b ∷ r} (h, c14)
   by-kind-short lf (open' sm un) gl gd (Kind.prefix o) N n b r h =
-      let k = skip-short r in each-node (b ∷ r) n _ (λ m j. each-bind (sm m r) _ (each-map (gd .0 N m r (omega arith)) (λ a m₁ r₁ i. gives i) (λ w r₁ i. i))) (λ j. (h, c14))
+      let k = skip-short r in
+      each-node (b ∷ r) n _ (λ m j. each-bind (sm m r) _ (each-map (gd .0 N m r (omega arith)) (λ a m₁ r₁ i. gives i) (λ w r₁ i. i))) (λ j. (h, c14))
   by-kind-short lf d gl gd Kind.other N n b r h = each-bind (lf n (b ∷ r)) _ (each-map (gl N n (b ∷ r) h) (λ x m r₁ i. gives i) (λ w r₁ i. i))
 
   pub small-at-short : (lf : Reader L) (d : Deeper (Form L)) → Shrinks₁ lf → ShrinksDeeper d → Shrinks₁ (smallAt lf d)
@@ -133,20 +144,24 @@ module _ {L : Type 0} where
   unfolding smallOf
   small-short lf d gl gd N n s h = small-at-short lf d gl gd N n (skip s) h
 
-  by-onward-short : (d : Deeper (Form L)) → ShrinksDeeper d → (q : Onward) (N : ℕ) (a : Form L) (n : ℕ) (r : List ℕ) (b : ℕ) (r₁ : List ℕ) → length (skip r) ≤ N → suc (length r₁) ≤ N
+  by-onward-short : (d : Deeper (Form L)) → ShrinksDeeper d → (q : Onward) (N : ℕ) (a : Form L) (n : ℕ) (r : List ℕ) (b : ℕ) (r₁ : List ℕ)
+      → length (skip r) ≤ N → suc (length r₁) ≤ N
       → Within N (byOnward d a n r q b r₁)
   unfolding byOnward
   by-onward-short d gd stop N a n r b r₁ h i = gives h
   by-onward-short shut gd (Onward.reach o) N a n r b r₁ h i = denies {r = b ∷ r₁} (i, c14)
   by-onward-short (open' sm un) gd (Onward.reach o) N a n r b r₁ h i =
-      let k = skip-short r₁ in each-node (b ∷ r₁) n _ (λ m j. each-bind (un m r₁) _ (each-map (gd .1 N m r₁ (omega arith)) (λ c m₁ r₂ z. gives z) (λ w r₂ z. z))) (λ j. (i, c14))
+      let k = skip-short r₁ in
+      each-node (b ∷ r₁) n _ (λ m j. each-bind (un m r₁) _ (each-map (gd .1 N m r₁ (omega arith)) (λ c m₁ r₂ z. gives z) (λ w r₂ z. z))) (λ j. (i, c14))
 
-  until-at-short : (d : Deeper (Form L)) → ShrinksDeeper d → (N : ℕ) (a : Form L) (n : ℕ) (r r' : List ℕ) → length (skip r) ≤ N → length r' ≤ N → Within N (untilAt d a n r r')
+  until-at-short : (d : Deeper (Form L)) → ShrinksDeeper d → (N : ℕ) (a : Form L) (n : ℕ) (r r' : List ℕ) → length (skip r) ≤ N → length r' ≤ N
+      → Within N (untilAt d a n r r')
   unfolding untilAt
   until-at-short d gd N a n r [] h i = gives h
   until-at-short d gd N a n r (b ∷ r₁) h i = by-onward-short d gd (onward b) N a n r b r₁ h i
 
-  pub until-more-short : (d : Deeper (Form L)) → ShrinksDeeper d → (N : ℕ) (a : Form L) (n : ℕ) (r : List ℕ) → length (skip r) ≤ N → Within N (untilAt d a n r (skip r))
+  pub until-more-short : (d : Deeper (Form L)) → ShrinksDeeper d → (N : ℕ) (a : Form L) (n : ℕ) (r : List ℕ) → length (skip r) ≤ N
+      → Within N (untilAt d a n r (skip r))
   until-more-short d gd N a n r h = until-at-short d gd N a n r (skip r) h h
 
   pub until-short : (sm : Reader (Form L)) (d : Deeper (Form L)) → Shrinks sm → ShrinksDeeper d → Shrinks (untilOf sm d)
@@ -179,7 +194,8 @@ mark-by-short true N n b r h =
     (each-map (number-short N n r (omega arith))
     (λ k m r₁ i.
     each-node (b ∷ r) m _
-    (λ m₁ j. either (λ (g : Got ℕ). Within N g) (leb k 31) (got k m₁ r₁) (no 15 r) (λ e. gives (let z = skip-short r₁ in omega arith)) (λ e. denies {r = r} (omega arith, c15)))
+    (λ m₁ j. either (λ (g : Got ℕ). Within N g) (leb k 31) (got k m₁ r₁) (no 15 r) (λ e. gives (let z = skip-short r₁ in omega arith))
+    (λ e. denies {r = r} (omega arith, c15)))
     (λ j. (h, c14)))
     (λ w r₁ i. i))
 
@@ -216,7 +232,8 @@ count-by-short (suc l) true N n b r h =
     (λ m j.
     each-bind (bind (inners l m r) _) _
     (each-bind (inners l m r) _
-    (each-map (inners-short l N m r (omega arith)) (λ a m₁ r₁ i. each-map (expect-short 44 a N m₁ r₁ i) (λ a₁ m₂ r₂ z. threshold-short a₁ N m₂ (skip r₂) z) (λ w r₂ z. z)) (λ w r₁ i. i))))
+    (each-map (inners-short l N m r (omega arith))
+    (λ a m₁ r₁ i. each-map (expect-short 44 a N m₁ r₁ i) (λ a₁ m₂ r₂ z. threshold-short a₁ N m₂ (skip r₂) z) (λ w r₂ z. z)) (λ w r₁ i. i))))
     (λ j. (h, c14))
 
 pub counts-short : (l : ℕ) → Shrinks₁ (counts l)
@@ -238,5 +255,6 @@ lines-short (suc k) N (b ∷ s) h =
     each-bind (bind (clauses 32 128 (b ∷ s)) _) _
     (each-bind (clauses 32 128 (b ∷ s)) _
     (each-map (clauses-short 32 N 128 (b ∷ s) (omega arith))
-    (λ c m r i. each-map (expect-inside 10 c N m r i) (λ c₁ m₁ r₁ j. each-bind (lines k r₁) _ (each-map (lines-short k N r₁ j) (λ cs m₂ r₂ x. gives tt) (λ w r₂ x. x))) (λ w r₁ j. j))
+    (λ c m r i. each-map (expect-inside 10 c N m r i)
+    (λ c₁ m₁ r₁ j. each-bind (lines k r₁) _ (each-map (lines-short k N r₁ j) (λ cs m₂ r₂ x. gives tt) (λ w r₂ x. x))) (λ w r₁ j. j))
     (λ w r i. i)))

@@ -74,7 +74,8 @@ module _ {L : Type 0} (Leaf : List ℕ → List ℕ → L → Type 0) (leafLevel
   abbrev pub Completes : Rank → List ℕ → ℕ → List ℕ → Type 0
   Completes k s w r = (t : List ℕ) (m : Mode) → Completed k s w r t m
 
-  pub modes : (k : Rank) (s : List ℕ) (w : ℕ) (r : List ℕ) → ((t : List ℕ) → Completed k s w r t near) → ((t : List ℕ) → Completed k s w r t whole) → Completes k s w r
+  pub modes : (k : Rank) (s : List ℕ) (w : ℕ) (r : List ℕ) → ((t : List ℕ) → Completed k s w r t near) → ((t : List ℕ) → Completed k s w r t whole)
+      → Completes k s w r
   modes k s w r f g t near = f t
   modes k s w r f g t whole = g t
 
@@ -114,7 +115,8 @@ module _ {L : Type 0} (Leaf : List ℕ → List ℕ → L → Type 0) (leafLevel
 
   -- what is refused behind something that stands in the grammar
   pub through : {k k' : Rank} {s s₁ r : List ℕ} (w : ℕ) (Rel : List ℕ → List ℕ → Type 0) (tail : List ℕ → List ℕ) → Framed Rel s s₁ → Refuses k' s₁ w r
-      → ((s' s₁' t : List ℕ) (a : Form L) → Rel s' s₁' → Part Leaf k' s₁' (tail t) a → (b : Form L) × Part Leaf k s' t b × (InRange Ok a → InRange Ok b)) → Refuses k s w r
+      → ((s' s₁' t : List ℕ) (a : Form L) → Rel s' s₁' → Part Leaf k' s₁' (tail t) a → (b : Form L) × Part Leaf k s' t b × (InRange Ok a → InRange Ok b))
+      → Refuses k s w r
   through {s₁ = s₁} w Rel tail f q build = record {
     short = let h = swap-short (f s₁ .1) in let i = q .short in omega arith;
     goes = λ t m.
@@ -163,7 +165,8 @@ module _ {L : Type 0} (Leaf : List ℕ → List ℕ → L → Type 0) (leafLevel
             );
       }
 
-      chain-at : {P : Form L → ℕ → List ℕ → Type 0} {Q : ℕ → List ℕ → Type 0} (a : Form L) (n : ℕ) (r : List ℕ) (go : Reader (Form L)) (r' : List ℕ) → Spaces r r'
+      chain-at : {P : Form L → ℕ → List ℕ → Type 0} {Q : ℕ → List ℕ → Type 0} (a : Form L) (n : ℕ) (r : List ℕ) (go : Reader (Form L)) (r' : List ℕ)
+          → Spaces r r'
           → P a n r → ((m : ℕ) (r₁ : List ℕ) → n ≡ suc m → Spaces r (c ∷ r₁) → Each P Q (go m r₁)) → ((r₁ : List ℕ) → Spaces r (c ∷ r₁) → Q 14 (c ∷ r₁))
           → Each P Q (chainAt c join a n r go r')
       unfolding chainAt
@@ -171,10 +174,12 @@ module _ {L : Type 0} (Leaf : List ℕ → List ℕ → L → Type 0) (leafLevel
       chain-at {P} {Q} a n r go (b ∷ r₁) x p y z =
           either (Each P Q) (eqb b c) _ _
           (λ e. let h = eqb-true b c e in
-          each-node (b ∷ r₁) n _ (λ m i. y m r₁ i (subst (λ (d : ℕ). Spaces r (d ∷ r₁)) h x)) (λ i. subst (λ (d : ℕ). Q 14 (d ∷ r₁)) (sym h) (z r₁ (subst (λ (d : ℕ). Spaces r (d ∷ r₁)) h x))))
+          each-node (b ∷ r₁) n _ (λ m i. y m r₁ i (subst (λ (d : ℕ). Spaces r (d ∷ r₁)) h x))
+          (λ i. subst (λ (d : ℕ). Q 14 (d ∷ r₁)) (sym h) (z r₁ (subst (λ (d : ℕ). Spaces r (d ∷ r₁)) h x))))
           (λ e. gives p)
 
-      chain-more : (f n : ℕ) (s : List ℕ) (a : Form L) (m : ℕ) (r : List ℕ) → Reads k₂ l n s a m r → Each (Reads k₂ l n s) (Refuses k₂ s) (chainMore c join sub f a m r)
+      chain-more : (f n : ℕ) (s : List ℕ) (a : Form L) (m : ℕ) (r : List ℕ) → Reads k₂ l n s a m r
+          → Each (Reads k₂ l n s) (Refuses k₂ s) (chainMore c join sub f a m r)
       unfolding chainMore
       chain-more zero n s a m r p =
           chain-at a m r _ (skip r) (skip-spaces r) p
@@ -204,23 +209,28 @@ module _ {L : Type 0} (Leaf : List ℕ → List ℕ → L → Type 0) (leafLevel
       chain-good n s =
           each-bind (sub n s) _
           (each-map (good n s)
-          (λ a m r p. let z = one s r a (p .part) in chain-more m n s a m r (record { part = z .0; low = let h = p .low in let h₂ = z .1 in omega arith; used = p .used; ok = p .ok }))
-          (λ w r q. record { short = q .short; goes = λ t m. let y = q .goes t m in (y .0, y .1, y .2, y .3, y .4, one (y .2) t (y .3) (y .5) .0, y .6, y .7) }))
+          (λ a m r p. let z = one s r a (p .part) in chain-more m n s a m r
+          (record { part = z .0; low = let h = p .low in let h₂ = z .1 in omega arith; used = p .used; ok = p .ok }))
+          (λ w r q. record
+          { short = q .short; goes = λ t m. let y = q .goes t m in (y .0, y .1, y .2, y .3, y .4, one (y .2) t (y .3) (y .5) .0, y .6, y .7) }))
 
     and-good : (l : ℕ) (sub : Reader (Form L)) → Good Rank.untils l sub → Good Rank.ands l (andChain sub)
     unfolding andChain
     and-good l sub g =
-        chain-good Rank.untils Rank.ands 38 Form.and (λ a b. refl) (λ a b x y. (x, y)) (λ s r a p. (one-until p, refl)) (λ s s₁ s₂ r a b p x q. (Part.and p x q, refl)) (λ t. one-small (word none)) (λ r. Token.and) l sub g
+        chain-good Rank.untils Rank.ands 38 Form.and (λ a b. refl) (λ a b x y. (x, y)) (λ s r a p. (one-until p, refl))
+        (λ s s₁ s₂ r a b p x q. (Part.and p x q, refl)) (λ t. one-small (word none)) (λ r. Token.and) l sub g
 
     or-good : (l : ℕ) (sub : Reader (Form L)) → Good Rank.untils l sub → Good Rank.ors l (orChain sub)
     unfolding orChain
     or-good l sub g =
-        chain-good Rank.ands Rank.ors 124 Form.or (λ a b. refl) (λ a b x y. (x, y)) (λ s r a p. (one-and p, refl)) (λ s s₁ s₂ r a b p x q. (Part.or p x q, refl)) (λ t. one-until (one-small (word none))) (λ r. Token.or) l (andChain sub)
+        chain-good Rank.ands Rank.ors 124 Form.or (λ a b. refl) (λ a b x y. (x, y)) (λ s r a p. (one-and p, refl))
+        (λ s s₁ s₂ r a b p x q. (Part.or p x q, refl)) (λ t. one-until (one-small (word none))) (λ r. Token.or) l (andChain sub)
         (and-good l sub g)
 
     prefix-refuses : (o : Prefix) (b : ℕ) {s r : List ℕ} → Spaces s (b ∷ r) → b ≡ prefixByte o → Refuses small s 14 (b ∷ r)
     prefix-refuses o b {r = r} x e =
-        byte-refuses small b x (subst (λ (c : ℕ). Token (c ∷ r) r) (sym e) (Token.prefix o)) (λ t. 116 ∷ 114 ∷ 117 ∷ 101 ∷ t) (prefixed o top) (range-prefix Ok o top tt) (λ s' t y. prefix o (subst (λ (c : ℕ). Spaces s' (c ∷ 116 ∷ 114 ∷ 117 ∷ 101 ∷ t)) e y) (word none))
+        byte-refuses small b x (subst (λ (c : ℕ). Token (c ∷ r) r) (sym e) (Token.prefix o)) (λ t. 116 ∷ 114 ∷ 117 ∷ 101 ∷ t) (prefixed o top)
+        (range-prefix Ok o top tt) (λ s' t y. prefix o (subst (λ (c : ℕ). Spaces s' (c ∷ 116 ∷ 114 ∷ 117 ∷ 101 ∷ t)) e y) (word none))
 
     by-kind : (l : ℕ) (lf : Reader L) (d : Deeper (Form L)) → GoodLeaf l lf → GoodDeeper l d
         → (q : Kind) (n b : ℕ) (s r : List ℕ) → Shows q b → Spaces s (b ∷ r) → Each (Reads small l n s) (Refuses small s) (byKind lf d q n b r)
@@ -235,10 +245,13 @@ module _ {L : Type 0} (Leaf : List ℕ → List ℕ → L → Type 0) (leafLevel
         (λ j.
         let w : 116 ∷ 114 ∷ 117 ∷ 101 ∷ r₁ ≡ b ∷ r = cc in
         subst (λ (y : List ℕ). Refuses small s 14 y) w
-        (token-refuses small (subst (λ (y : List ℕ). Spaces s y) (sym w) x) Token.word top tt (λ t. (116 ∷ 114 ∷ 117 ∷ 101 ∷ t, t, there (there (there (there here))), λ s' y. word y)))))
+        (token-refuses small (subst (λ (y : List ℕ). Spaces s y) (sym w) x) Token.word top tt
+        (λ t. (116 ∷ 114 ∷ 117 ∷ 101 ∷ t, t, there (there (there (there here))), λ s' y. word y)))))
         (λ r₁ q. record {
           short = let h = swap-short (q [] .1) in let h₂ = spaces-short x in omega arith;
-          goes = λ t m. let y = q t in let u = frame-token x₁ (114 ∷ 117 ∷ 101 ∷ t) in (r₁, y .0, u .0, top, swap-trans (u .1) (y .1), word (u .2), keeps-13 refl, λ o. tt);
+          goes =
+              λ t m. let y = q t in let u = frame-token x₁ (114 ∷ 117 ∷ 101 ∷ t) in
+              (r₁, y .0, u .0, top, swap-trans (u .1) (y .1), word (u .2), keeps-13 refl, λ o. tt);
         }))
     by-kind l lf shut gl gd Kind.paren n b s r e x =
         denies
@@ -250,7 +263,8 @@ module _ {L : Type 0} (Leaf : List ℕ → List ℕ → L → Type 0) (leafLevel
         each-bind (orChain un n r) _
         (each-map (or-good i un (gd .3) n r)
         (λ a m r₁ p.
-        each-expect 41 a m r₁ (λ r₂ y. record { part = parens x₁ (p .part) y; low = let h = p .low in let h₂ = gd .1 in omega arith; used = p .used; ok = p .ok })
+        each-expect 41 a m r₁
+        (λ r₂ y. record { part = parens x₁ (p .part) y; low = let h = p .low in let h₂ = gd .1 in omega arith; used = p .used; ok = p .ok })
         (λ r₂ y. record {
           short = let h = spaces-short x in let h₂ = part-short (p .part) in let h₃ = spaces-short y in omega arith;
           goes = λ t m.
@@ -274,7 +288,8 @@ module _ {L : Type 0} (Leaf : List ℕ → List ℕ → L → Type 0) (leafLevel
           used = let h = p .used in let h₂ = nodes-prefix leafNodes o a in omega arith;
           ok = range-prefix Ok o a (p .ok);
         }))
-        (λ w r₁ q. through w (λ s r. Spaces s (prefixByte o ∷ r)) (λ t. t) (frame-token x₁) q (λ s' s₁' t a y p. (prefixed o a, prefix o y p, range-prefix Ok o a)))))
+        (λ w r₁ q. through w (λ s r. Spaces s (prefixByte o ∷ r)) (λ t. t) (frame-token x₁) q
+        (λ s' s₁' t a y p. (prefixed o a, prefix o y p, range-prefix Ok o a)))))
         (λ j. prefix-refuses o b x e)
     by-kind l lf d gl gd Kind.other n b s r e x =
         each-bind (lf n (b ∷ r)) _
@@ -290,7 +305,8 @@ module _ {L : Type 0} (Leaf : List ℕ → List ℕ → L → Type 0) (leafLevel
     unfolding smallOf
     small-good l lf d gl gd n s = small-at l lf d gl gd n s (skip s) (skip-spaces s)
 
-    reach-refuses : (o : Reach) (b : ℕ) {s r r₁ : List ℕ} {a : Form L} → Part Leaf small s r a → InRange Ok a → Spaces r (b ∷ r₁) → b ≡ reachByte o → Refuses Rank.untils s 14 (b ∷ r₁)
+    reach-refuses : (o : Reach) (b : ℕ) {s r r₁ : List ℕ} {a : Form L} → Part Leaf small s r a → InRange Ok a → Spaces r (b ∷ r₁) → b ≡ reachByte o
+        → Refuses Rank.untils s 14 (b ∷ r₁)
     reach-refuses o b {r₁ = r₁} {a = a} p ok x e = record {
       short = let h = spaces-short x in let h₂ = part-short p in omega arith;
       goes = λ t m.

@@ -9,7 +9,8 @@ use Rattle.grammar.specs.Grammar.{Form, top, leaf, neg, and, or, next, u
 use Rattle.grammar.specs.Limits.{nodes, markNodes, countNodes}
 use Rattle.grammar.specs.Nodes.{neg₁, next₁, ev₁, gl₁, and₂, or₂, until₂, release₂, Node, topN, markN, countN, oneN, twoN, flat, flatMark, flatInner, flatCount, flatClause, node, Stands, StandsMark, StandsCount}
 
-module _ {L : Type 0} (leafNodes : L → ℕ) (leafFlat : L → ℕ → List Node) (Leaf : List Node → ℕ → L → Type 0) (some : (x : L) → 1 ≤ leafNodes x) (leaf-length : (x : L) (b : ℕ) → length (leafFlat x b) ≡ leafNodes x)
+module _ {L : Type 0} (leafNodes : L → ℕ) (leafFlat : L → ℕ → List Node) (Leaf : List Node → ℕ → L → Type 0) (some : (x : L) → 1 ≤ leafNodes x)
+    (leaf-length : (x : L) (b : ℕ) → length (leafFlat x b) ≡ leafNodes x)
     (leaf-stands : (x : L) (p q : List Node) → Leaf ((p ++ leafFlat x (length p)) ++ q) ((length p + leafNodes x) - 1) x) where
   abbrev N : Form L → ℕ
   N a = nodes leafNodes a
@@ -63,25 +64,30 @@ module _ {L : Type 0} (leafNodes : L → ℕ) (leafFlat : L → ℕ → List Nod
   front : (a : Form L) (p : List Node) → length (p ++ Fl a (length p)) ≡ length p + N a
   front a p = let h₁ = length-append p (Fl a (length p)) in let h₂ = flat-length a (length p) in omega arith
 
-  two-all : (a c : Form L) (p q : List Node) (x : Node) → ((p ++ Fl a (length p)) ++ (Fl c (length p + N a) ++ (x ∷ q))) ≡ ((p ++ ((Fl a (length p) ++ Fl c (length p + N a)) ++ (x ∷ []))) ++ q)
+  two-all : (a c : Form L) (p q : List Node) (x : Node)
+      → ((p ++ Fl a (length p)) ++ (Fl c (length p + N a) ++ (x ∷ q))) ≡ ((p ++ ((Fl a (length p) ++ Fl c (length p + N a)) ++ (x ∷ []))) ++ q)
   two-all a c p q x = simp append-assoc
 
-  two-back : (a c : Form L) (p q : List Node) (x : Node) → (((p ++ Fl a (length p)) ++ Fl c (length p + N a)) ++ (x ∷ q)) ≡ ((p ++ ((Fl a (length p) ++ Fl c (length p + N a)) ++ (x ∷ []))) ++ q)
+  two-back : (a c : Form L) (p q : List Node) (x : Node)
+      → (((p ++ Fl a (length p)) ++ Fl c (length p + N a)) ++ (x ∷ q)) ≡ ((p ++ ((Fl a (length p) ++ Fl c (length p + N a)) ++ (x ∷ []))) ++ q)
   two-back a c p q x = simp append-assoc
 
-  two-at : (a c : Form L) (p q : List Node) (x : Node) → node ((p ++ ((Fl a (length p) ++ Fl c (length p + N a)) ++ (x ∷ []))) ++ q) ((length p + suc (N a + N c)) - 1) ≡ x
+  two-at : (a c : Form L) (p q : List Node) (x : Node)
+      → node ((p ++ ((Fl a (length p) ++ Fl c (length p + N a)) ++ (x ∷ []))) ++ q) ((length p + suc (N a + N c)) - 1) ≡ x
   two-at a c p q x =
       let h₁ = length-append (p ++ Fl a (length p)) (Fl c (length p + N a)) in
       let h₂ = front a p in
       let h₃ = flat-length c (length p + N a) in
       let h : length ((p ++ Fl a (length p)) ++ Fl c (length p + N a)) ≡ (length p + suc (N a + N c)) - 1 = omega arith in
-      ap (λ (l : List Node). node l ((length p + suc (N a + N c)) - 1)) (sym (two-back a c p q x)) ∙ getD-at ((p ++ Fl a (length p)) ++ Fl c (length p + N a)) x q topN _ h
+      ap (λ (l : List Node). node l ((length p + suc (N a + N c)) - 1)) (sym (two-back a c p q x))
+      ∙ getD-at ((p ++ Fl a (length p)) ++ Fl c (length p + N a)) x q topN _ h
 
   -- the last node of a text's nodes stands for it
   abbrev Last : Form L → List Node → List Node → Type 0
   Last a p q = Stands Leaf ((p ++ Fl a (length p)) ++ q) ((length p + N a) - 1) a
 
-  first-in : (a c : Form L) (p q : List Node) (x : Node) → Last a p (Fl c (length p + N a) ++ (x ∷ q)) → Stands Leaf ((p ++ ((Fl a (length p) ++ Fl c (length p + N a)) ++ (x ∷ []))) ++ q) ((length p + N a) - 1) a
+  first-in : (a c : Form L) (p q : List Node) (x : Node) → Last a p (Fl c (length p + N a) ++ (x ∷ q))
+      → Stands Leaf ((p ++ ((Fl a (length p) ++ Fl c (length p + N a)) ++ (x ∷ []))) ++ q) ((length p + N a) - 1) a
   first-in a c p q x h = subst (λ (l : List Node). Stands Leaf l ((length p + N a) - 1) a) (two-all a c p q x) h
 
   second-in : (a c : Form L) (p q : List Node) (x : Node) → Last c (p ++ Fl a (length p)) (x ∷ q)
@@ -93,22 +99,34 @@ module _ {L : Type 0} (leafNodes : L → ℕ) (leafFlat : L → ℕ → List Nod
   one-in : (a : Form L) (p q : List Node) (x : Node) → Last a p (x ∷ q) → Stands Leaf ((p ++ (Fl a (length p) ++ (x ∷ []))) ++ q) ((length p + N a) - 1) a
   one-in a p q x h = subst (λ (l : List Node). Stands Leaf l ((length p + N a) - 1) a) (one-all a p q x) h
 
-  one-stands : (f : ℕ → Node) (a : Form L) (p q : List Node) → let x = f ((length p + N a) - 1) in let ns = (p ++ (Fl a (length p) ++ (x ∷ []))) ++ q in let i = (length p + suc (N a)) - 1 in
+  one-stands : (f : ℕ → Node) (a : Form L) (p q : List Node) → let x =
+      f ((length p + N a) - 1) in let ns = (p ++ (Fl a (length p) ++ (x ∷ []))) ++ q in let i = (length p + suc (N a)) - 1 in
       ((p q : List Node) → Last a p q) → (j : ℕ) × (j < i) × (node ns i ≡ f j) × Stands Leaf ns j a
   one-stands f a p q h = let s = node-some a in ((length p + N a) - 1, omega arith, one-at a p q _, one-in a p q _ (h p _))
 
   two-stands : (f : ℕ → ℕ → Node) (a c : Form L) (p q : List Node) → let x = f ((length p + N a) - 1) (((length p + N a) + N c) - 1) in
       let ns = (p ++ ((Fl a (length p) ++ Fl c (length p + N a)) ++ (x ∷ []))) ++ q in let i = (length p + suc (N a + N c)) - 1 in
-      ((p q : List Node) → Last a p q) → ((p q : List Node) → Last c p q) → (j k : ℕ) × (j < i) × (k < i) × (node ns i ≡ f j k) × Stands Leaf ns j a × Stands Leaf ns k c
+      ((p q : List Node) → Last a p q) → ((p q : List Node) → Last c p q) → (j k : ℕ) × (j < i) × (k < i) × (node ns i ≡ f j k) × Stands Leaf ns j a
+      × Stands Leaf ns k c
   two-stands f a c p q h₁ h₂ =
       let s = node-some a in
       let s₂ = node-some c in
-      let x : Node = f ((length p + N a) - 1) (((length p + N a) + N c) - 1) in
-      ((length p + N a) - 1, ((length p + N a) + N c) - 1, omega arith, omega arith, two-at a c p q x, first-in a c p q x (h₁ p (Fl c (length p + N a) ++ (x ∷ q))), second-in a c p q x (h₂ (p ++ Fl a (length p)) (x ∷ q)))
+      let x : Node = f ((length p + N a) - 1) (((length p + N a) + N c) - 1) in (
+        (length p + N a) - 1,
+        ((length p + N a) + N c) - 1,
+        omega arith,
+        omega arith,
+        two-at a c p q x,
+        first-in a c p q x
+            (h₁ p (Fl c (length p + N a) ++ (x ∷ q))),
+        second-in a c p q x (h₂ (p ++ Fl a (length p)) (x ∷ q)),
+      )
 
   pub flat-stands : (a : Form L) (p q : List Node) → Last a p q
   unfolding flat
-  flat-stands top p q = let h : length p ≡ (length p + 1) - 1 = omega arith in ap (λ (l : List Node). node l ((length p + 1) - 1)) (append-assoc p (topN ∷ []) q) ∙ getD-at p topN q topN _ h
+  flat-stands top p q =
+      let h : length p ≡ (length p + 1) - 1 = omega arith in
+      ap (λ (l : List Node). node l ((length p + 1) - 1)) (append-assoc p (topN ∷ []) q) ∙ getD-at p topN q topN _ h
   flat-stands (leaf x) p q = leaf-stands x p q
   flat-stands (neg a) p q = one-stands (oneN neg₁) a p q (λ p q. flat-stands a p q)
   flat-stands (next a) p q = one-stands (oneN next₁) a p q (λ p q. flat-stands a p q)
@@ -122,7 +140,8 @@ module _ {L : Type 0} (leafNodes : L → ℕ) (leafFlat : L → ℕ → List Nod
 mark-stands : (k : ℕ) (p q : List Node) → StandsMark ((p ++ flatMark k (length p)) ++ q) ((length p + 1) - 1) k
 unfolding flatMark
 mark-stands k p q =
-    let h : length p ≡ (length p + 1) - 1 = omega arith in ap (λ (l : List Node). node l ((length p + 1) - 1)) (append-assoc p (markN k ∷ []) q) ∙ getD-at p (markN k) q topN _ h
+    let h : length p ≡ (length p + 1) - 1 = omega arith in
+    ap (λ (l : List Node). node l ((length p + 1) - 1)) (append-assoc p (markN k ∷ []) q) ∙ getD-at p (markN k) q topN _ h
 
 mark-length : (k b : ℕ) → length (flatMark k b) ≡ 1
 unfolding flatMark
@@ -134,7 +153,9 @@ inner-stands a p q = flat-stands markNodes flatMark StandsMark (λ k. omega arit
 
 count-length : (x : Threshold) (b : ℕ) → length (flatCount x b) ≡ countNodes x
 unfolding flatCount flatInner
-count-length (counted a n c) b = one-length markNodes flatMark StandsMark (λ k. omega arith) mark-length mark-stands a b _ (flat-length markNodes flatMark StandsMark (λ k. omega arith) mark-length mark-stands a b)
+count-length (counted a n c) b =
+    one-length markNodes flatMark StandsMark (λ k. omega arith) mark-length mark-stands a b _
+    (flat-length markNodes flatMark StandsMark (λ k. omega arith) mark-length mark-stands a b)
 
 count-some : (x : Threshold) → 1 ≤ countNodes x
 count-some (counted a n c) = omega arith

@@ -17,7 +17,8 @@ module _ {L : Type 0} (lf : ℕ → Reader L) where
     unfolding smalls smallOf smallAt
     small-sees l b r e = ap (smallAt (lf l) (deeper lf l) n) e
 
-    pub small-true : (l : ℕ) (r : List ℕ) → skip s ≡ 116 ∷ r → smalls lf l n s ≡ bind (literal {A = Unit {0}} (114 ∷ 117 ∷ 101 ∷ []) tt n r) (λ u m r₁. node (116 ∷ r) m (λ m₁. got top m₁ r₁))
+    pub small-true : (l : ℕ) (r : List ℕ) → skip s ≡ 116 ∷ r
+        → smalls lf l n s ≡ bind (literal {A = Unit {0}} (114 ∷ 117 ∷ 101 ∷ []) tt n r) (λ u m r₁. node (116 ∷ r) m (λ m₁. got top m₁ r₁))
     unfolding byKind
     small-true l r e = small-sees l 116 r e
 
@@ -37,9 +38,11 @@ module _ {L : Type 0} (lf : ℕ → Reader L) where
     unfolding byKind deeper
     small-prefix-none o r e = small-sees 0 (prefixByte o) r e ∙ ap (λ (q : Kind). byKind (lf 0) (deeper lf 0) q n (prefixByte o) r) (kind-prefix o)
 
-    pub small-prefix : (o : Prefix) (l : ℕ) (r : List ℕ) → skip s ≡ prefixByte o ∷ r → smalls lf (suc l) n s ≡ node (prefixByte o ∷ r) n (λ m. bind (smalls lf l m r) (λ a m₁ r₁. got (prefixed o a) m₁ r₁))
+    pub small-prefix : (o : Prefix) (l : ℕ) (r : List ℕ) → skip s ≡ prefixByte o ∷ r
+        → smalls lf (suc l) n s ≡ node (prefixByte o ∷ r) n (λ m. bind (smalls lf l m r) (λ a m₁ r₁. got (prefixed o a) m₁ r₁))
     unfolding byKind deeper smalls
-    small-prefix o l r e = small-sees (suc l) (prefixByte o) r e ∙ ap (λ (q : Kind). byKind (lf (suc l)) (deeper lf (suc l)) q n (prefixByte o) r) (kind-prefix o)
+    small-prefix o l r e =
+        small-sees (suc l) (prefixByte o) r e ∙ ap (λ (q : Kind). byKind (lf (suc l)) (deeper lf (suc l)) q n (prefixByte o) r) (kind-prefix o)
 
   ---- Until-chains: a smallest part, and then by the first byte behind spaces.
   pub until-is : (l n : ℕ) (s : List ℕ) → untils lf l n s ≡ bind (smalls lf l n s) (λ a m r. untilAt (deeper lf l) a m r (skip r))
@@ -59,7 +62,8 @@ module _ {L : Type 0} (lf : ℕ → Reader L) where
     unfolding untilAt byOnward deeper
     until-none o r₁ e = ap (untilAt (deeper lf 0) a m r) e ∙ ap (λ (q : Onward). byOnward (deeper lf 0) a m r q (reachByte o) r₁) (onward-reach o)
 
-    pub until-on : (o : Reach) (l : ℕ) (r₁ : List ℕ) → skip r ≡ reachByte o ∷ r₁ → untilAt (deeper lf (suc l)) a m r (skip r) ≡ node (reachByte o ∷ r₁) m (λ m₁. bind (untils lf l m₁ r₁) (λ c m₂ r₂. got (reached o a c) m₂ r₂))
+    pub until-on : (o : Reach) (l : ℕ) (r₁ : List ℕ) → skip r ≡ reachByte o ∷ r₁
+        → untilAt (deeper lf (suc l)) a m r (skip r) ≡ node (reachByte o ∷ r₁) m (λ m₁. bind (untils lf l m₁ r₁) (λ c m₂ r₂. got (reached o a c) m₂ r₂))
     unfolding untilAt byOnward deeper untils smalls
     until-on o l r₁ e = ap (untilAt (deeper lf (suc l)) a m r) e ∙ ap (λ (q : Onward). byOnward (deeper lf (suc l)) a m r q (reachByte o) r₁) (onward-reach o)
 

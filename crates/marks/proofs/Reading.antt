@@ -8,7 +8,8 @@ use lib.Seq.{drop-cons}
 use Rattle.endian.specs.Little.{value}
 use Rattle.marks.specs.Bears.{marksOf}
 
-four-at : (s : List ℕ) (n : ℕ) → n + 3 < length s → take 4 (drop n s) ≡ getD s n 0 ∷ getD s (suc n) 0 ∷ getD s (suc (suc n)) 0 ∷ getD s (suc (suc (suc n))) 0 ∷ []
+four-at : (s : List ℕ) (n : ℕ) → n + 3 < length s
+    → take 4 (drop n s) ≡ getD s n 0 ∷ getD s (suc n) 0 ∷ getD s (suc (suc n)) 0 ∷ getD s (suc (suc (suc n))) 0 ∷ []
 four-at s n p =
     let a : n < length s = omega arith in
     let b : suc n < length s = omega arith in

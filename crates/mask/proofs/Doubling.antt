@@ -71,7 +71,8 @@ pub ended : (h l a b first r gap w out : ℕ) → l < h → b < 2 ^ h → Row h 
 ended h l a b first r gap w out some low start d past row =
     let open-end : (s : ℕ) → h ≤ s → free first s ≡ true = λ s p. ap not (on-beyond first h s (start .low) p) in
     let no-more : (s : ℕ) → h ≤ s → on b s ≡ false = λ s p. on-beyond b h s low p in
-    let reached : (s : ℕ) → s < h → on r s ≡ reaches (free first) (on b) (h - s) s = λ s p. d .at s ∙ reaches-end (free first) (on b) h open-end no-more w s (omega arith) past in
+    let reached : (s : ℕ) → s < h → on r s ≡ reaches (free first) (on b) (h - s) s =
+    λ s p. d .at s ∙ reaches-end (free first) (on b) h open-end no-more w s (omega arith) past in
     let held : (s : ℕ) → s < h → not (on gap s) ≡ holds (free first) (h - s) s =
     λ s p. ap not (d .gap-at s) ∙ Bool·not-not (holds (free first) w s) ∙ holds-end (free first) (on b) h open-end no-more w s (omega arith) past in
     record {

@@ -28,7 +28,9 @@ onward old w planes carry i r p =
     record {
       within = p;
       wide = simp length-set (r .wide);
-      same = ap₂ (λ (xs ys : List ℕ). xs ++ ripple ys (bitAnd x carry)) (take-suc-set planes i (bitXor x carry) inside) (drop-set-lt (suc i) planes i (bitXor x carry) (omega arith))
+      same =
+          ap₂ (λ (xs ys : List ℕ). xs ++ ripple ys (bitAnd x carry)) (take-suc-set planes i (bitXor x carry) inside)
+          (drop-set-lt (suc i) planes i (bitXor x carry) (omega arith))
           ∙ append-snoc (take i planes) (bitXor x carry) (ripple (drop (suc i) planes) (bitAnd x carry))
           ∙ ap (λ (ys : List ℕ). take i planes ++ ripple ys carry) (sym (drop-cons planes i 0 inside)) ∙ r .same;
     }

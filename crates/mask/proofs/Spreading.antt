@@ -21,7 +21,8 @@ pub record Spreading (h m : ℕ) (planes : List ℕ) (n i : ℕ) : Type 0 where
 pub begun : (h m n : ℕ) (planes : List ℕ) → length planes ≡ 7 → m < 128 → n ≡ m → Spreading h m planes n 0
 begun h m n planes e p q = record { within = omega arith; wide = e; small = omega arith; rest = λ xs each. subst (λ (k : ℕ). Each h k xs) q each }
 
-pub onward : (h m : ℕ) (planes : List ℕ) (n i x : ℕ) → Spreading h m planes n i → i < 7 → Row h x (λ s. eqb (n % 2) 1) → Spreading h m (set planes i x) (n / 2) (suc i)
+pub onward : (h m : ℕ) (planes : List ℕ) (n i x : ℕ) → Spreading h m planes n i → i < 7 → Row h x (λ s. eqb (n % 2) 1)
+    → Spreading h m (set planes i x) (n / 2) (suc i)
 onward h m planes n i x r p row =
     let left : 7 - i ≡ suc (7 - suc i) = omega arith in
     let room : n < 2 ^ suc (7 - suc i) = subst (λ (k : ℕ). n < 2 ^ k) left (r .small) in
@@ -39,4 +40,5 @@ ended h m planes n i r p =
     let none-left : 7 - i ≡ 0 = omega arith in
     let last : n < 2 ^ 0 = subst (λ (k : ℕ). n < 2 ^ k) none-left (r .small) in
     let zero : 0 ≡ n = omega arith in
-    subst (Each h m) (ap (λ (ys : List ℕ). ys ++ []) (take-all i planes (omega (arith, r .wide))) ∙ append-nil planes) (r .rest [] (subst (λ (k : ℕ). Each h k []) zero (none h)))
+    subst (Each h m) (ap (λ (ys : List ℕ). ys ++ []) (take-all i planes (omega (arith, r .wide))) ∙ append-nil planes)
+    (r .rest [] (subst (λ (k : ℕ). Each h k []) zero (none h)))

@@ -30,8 +30,14 @@ module _ (h l : ℕ) (some : l < h) where
   pub again : (a i here all next : ℕ) → Staying h l a i here all → Row h next (λ s. on here (nextStep h l s)) → Staying h l a (suc i) next (bitAnd next all)
   unfolding window every
   again a i here all next g r =
-      let on-now : (s : ℕ) → s < h → on next s ≡ on a (stepOf h l (s + suc i)) = λ s p. r .at s p ∙ g .later .at (nextStep h l s) (next-below h l some s) ∙ ap (on a) (on-from-next h l some s i p) in
+      let on-now : (s : ℕ) → s < h → on next s ≡ on a (stepOf h l (s + suc i)) =
+      λ s p. r .at s p ∙ g .later .at (nextStep h l s) (next-below h l some s) ∙ ap (on a) (on-from-next h l some s i p) in
       record {
         later = record { low = r .low; at = on-now };
-        so-far = record { low = and-lt h next all (r .low) (g .so-far .low); at = λ s p. on-and next all s ∙ ap₂ (λ (x y : Bool). x && y) (on-now s p) (g .so-far .at s p) };
+        so-far =
+            record {
+              low = and-lt h next all (r .low) (g .so-far .low);
+              at = λ s p. on-and next all s ∙ ap₂ (λ (x y : Bool). x && y) (on-now s p)
+                  (g .so-far .at s p);
+            };
       }

@@ -46,11 +46,15 @@ module _ (h l r gap : ℕ) (low : r < 2 ^ h) where
   pub turn-true : (c : ℕ) → r / 2 ^ l % 2 ≡ 1 → Row h c (λ s. not (on gap s)) → Turn (bitOr r c)
   turn-true c e row = record {
     low = or-lt h r c low (row .low);
-    at = λ s p. on-or r c s ∙ ap (λ (x : Bool). on r s || x) (row .at s p ∙ sym (ap (λ (x : Bool). not (on gap s) && x) (on-one r l e) ∙ and-true (not (on gap s))));
+    at =
+        λ s p. on-or r c s
+        ∙ ap (λ (x : Bool). on r s || x) (row .at s p ∙ sym (ap (λ (x : Bool). not (on gap s) && x) (on-one r l e) ∙ and-true (not (on gap s))));
   }
 
   pub turn-false : r / 2 ^ l % 2 ≡ 0 → Turn r
   turn-false e = record {
     low = low;
-    at = λ s p. sym (ap (λ (x : Bool). on r s || (not (on gap s) && x)) (on-none r l e) ∙ ap (λ (x : Bool). on r s || x) (and-false (not (on gap s))) ∙ or-false (on r s));
+    at =
+        λ s p. sym
+        (ap (λ (x : Bool). on r s || (not (on gap s) && x)) (on-none r l e) ∙ ap (λ (x : Bool). on r s || x) (and-false (not (on gap s))) ∙ or-false (on r s));
   }

@@ -79,7 +79,8 @@ top zero s (x ∷ []) e = tells (on x s)
     tells false = refl
 top zero s (x ∷ y ∷ xs) e = absurd (omega arith)
 top (suc k) s (x ∷ xs) e =
-    top k s xs (omega arith) ∙ double (2 ^ k) (number xs s) (digit (on x s)) (digit-le (on x s)) ∙ ap (λ (n : ℕ). leb n (digit (on x s) + 2 * number xs s)) (sym (pow-suc 2 k ∙ omega arith))
+    top k s xs (omega arith) ∙ double (2 ^ k) (number xs s) (digit (on x s)) (digit-le (on x s))
+    ∙ ap (λ (n : ℕ). leb n (digit (on x s) + 2 * number xs s)) (sym (pow-suc 2 k ∙ omega arith))
 
 plane-low : (h i : ℕ) (xs : List ℕ) → Below h xs → getD xs i 0 < 2 ^ h
 plane-low h i [] b = pow-pos h
@@ -98,7 +99,8 @@ tally-more f n = tells (f n)
     tells false = omega arith
 
 -- one cart more
-pub counted : (f : ℕ → Bool) (start i w s : ℕ) (before after : List ℕ) → Added before w after → on w s ≡ f i → start + i < 127 → number before s ≡ start + tally f i → number after s ≡ start + tally f (suc i)
+pub counted : (f : ℕ → Bool) (start i w s : ℕ) (before after : List ℕ) → Added before w after → on w s ≡ f i → start + i < 127
+    → number before s ≡ start + tally f i → number after s ≡ start + tally f (suc i)
 counted f start i w s before after a e p q =
     let d : digit (on w s) ≡ digit (f i) = ap digit e in
     omega (arith, a .at s (omega (arith, tally-le f i)), tally-more f i)

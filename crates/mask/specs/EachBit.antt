@@ -30,7 +30,9 @@ on-none a s e = ap (λ (x : ℕ). eqb x 1) e
 abbrev Tells : (ℕ → ℕ → ℕ) → (Bool → Bool → Bool) → ℕ → ℕ → Type 0
 Tells f g m n = eqb (f m n) 1 ≡ g (eqb m 1) (eqb n 1)
 
-module _ (op f : ℕ → ℕ → ℕ) (g : Bool → Bool → Bool) (shift : (a b k : ℕ) → op a b / 2 ^ k ≡ op (a / 2 ^ k) (b / 2 ^ k)) (step : (a b : ℕ) → op a b % 2 ≡ f (a % 2) (b % 2)) (none : Tells f g 0 0) (right : Tells f g 0 1) (left : Tells f g 1 0) (both : Tells f g 1 1) where
+module _ (op f : ℕ → ℕ → ℕ) (g : Bool → Bool → Bool) (shift : (a b k : ℕ) → op a b / 2 ^ k ≡ op (a / 2 ^ k) (b / 2 ^ k))
+    (step : (a b : ℕ) → op a b % 2 ≡ f (a % 2) (b % 2)) (none : Tells f g 0 0) (right : Tells f g 0 1) (left : Tells f g 1 0)
+    (both : Tells f g 1 1) where
   tells : (a b : ℕ) → Tells f g (a % 2) (b % 2)
   tells a b = binary (λ m. Tells f g m (b % 2)) (binary (Tells f g 0) none right b) (binary (Tells f g 1) left both b) a
 
@@ -84,7 +86,8 @@ pub on-ones : (h s : ℕ) → s < h → on (2 ^ h - 1) s ≡ true
 unfolding on
 on-ones h s p =
     let j : h ≡ suc (h - s - 1) + s = omega arith in
-    let e : (2 ^ h - 1) / 2 ^ s ≡ 2 ^ suc (h - s - 1) - 1 = ap (λ (k : ℕ). (2 ^ k - 1) / 2 ^ s) j ∙ ap (λ (x : ℕ). x / 2 ^ s) (ones-split (suc (h - s - 1)) s) ∙ high (2 ^ suc (h - s - 1) - 1) s (ones-lt s) in
+    let e : (2 ^ h - 1) / 2 ^ s ≡ 2 ^ suc (h - s - 1) - 1 =
+    ap (λ (k : ℕ). (2 ^ k - 1) / 2 ^ s) j ∙ ap (λ (x : ℕ). x / 2 ^ s) (ones-split (suc (h - s - 1)) s) ∙ high (2 ^ suc (h - s - 1) - 1) s (ones-lt s) in
     let o : (2 ^ h - 1) / 2 ^ s % 2 ≡ 1 = omega (arith, pow-suc 2 (h - s - 1), pow-pos (h - s - 1)) in
     ap (λ (x : ℕ). eqb x 1) o
 
@@ -99,6 +102,8 @@ pub on-under : (t k s : ℕ) → s < k → on (t * 2 ^ k) s ≡ false
 unfolding on
 on-under t k s p =
     let j : k ≡ suc (k - s - 1) + s = omega arith in
-    let e : t * 2 ^ k ≡ t * 2 ^ suc (k - s - 1) * 2 ^ s = ap (λ (i : ℕ). t * 2 ^ i) j ∙ ap (λ (x : ℕ). t * x) (pow-add 2 (suc (k - s - 1)) s) ∙ sym (mul-assoc t (2 ^ suc (k - s - 1)) (2 ^ s)) in
-    let z : t * 2 ^ k / 2 ^ s % 2 ≡ 0 = ap (λ (x : ℕ). x / 2 ^ s % 2) e ∙ ap (λ (x : ℕ). x % 2) (shl-shr (t * 2 ^ suc (k - s - 1)) s) ∙ shifted-even t (k - s - 1) in
+    let e : t * 2 ^ k ≡ t * 2 ^ suc (k - s - 1) * 2 ^ s =
+    ap (λ (i : ℕ). t * 2 ^ i) j ∙ ap (λ (x : ℕ). t * x) (pow-add 2 (suc (k - s - 1)) s) ∙ sym (mul-assoc t (2 ^ suc (k - s - 1)) (2 ^ s)) in
+    let z : t * 2 ^ k / 2 ^ s % 2 ≡ 0 =
+    ap (λ (x : ℕ). x / 2 ^ s % 2) e ∙ ap (λ (x : ℕ). x % 2) (shl-shr (t * 2 ^ suc (k - s - 1)) s) ∙ shifted-even t (k - s - 1) in
     ap (λ (x : ℕ). eqb x 1) z

@@ -78,31 +78,37 @@ module _ (a b : ℕ → Bool) where
         ap₂ (λ (m t : ℕ). b s || (a s && fix h l true a b m t)) f (next-last h l s (omega arith)) ∙ before (a s) (b s) false true (fix h l true a b n l)
     straight (suc k) n s e =
         let f : suc k + n ≡ suc (k + n) = omega arith in
-        ap₂ (λ (m t : ℕ). b s || (a s && fix h l true a b m t)) f (next-low h l s (omega arith)) ∙ ap (λ (x : Bool). b s || (a s && x)) (straight k n (suc s) (omega arith))
+        ap₂ (λ (m t : ℕ). b s || (a s && fix h l true a b m t)) f (next-low h l s (omega arith))
+        ∙ ap (λ (x : Bool). b s || (a s && x)) (straight k n (suc s) (omega arith))
         ∙ before (a s) (b s) (reaches a b (suc k) (suc s)) (holds a (suc k) (suc s)) (fix h l true a b n l)
 
     to-end : (n s : ℕ) → s < h → fix h l true a b (h - s + n) s ≡ (reaches a b (h - s) s || (holds a (h - s) s && fix h l true a b n l))
     to-end n s p =
         let e : suc (h - s - 1) ≡ h - s = omega arith in
         let f : h - s + n ≡ suc (h - s - 1 + n) = omega arith in
-        ap (λ (m : ℕ). fix h l true a b m s) f ∙ straight (h - s - 1) n s (omega arith) ∙ ap (λ (k : ℕ). reaches a b k s || (holds a k s && fix h l true a b n l)) e
+        ap (λ (m : ℕ). fix h l true a b m s) f ∙ straight (h - s - 1) n s (omega arith)
+        ∙ ap (λ (k : ℕ). reaches a b k s || (holds a k s && fix h l true a b n l)) e
 
     lap-alone : fix h l true a b (h - l) l ≡ reaches a b (h - l) l
     unfolding fix
     lap-alone =
         let e : h - l ≡ h - l + 0 = omega arith in
-        ap (λ (m : ℕ). fix h l true a b m l) e ∙ to-end 0 l some ∙ ap (λ (x : Bool). reaches a b (h - l) l || x) (and-false (holds a (h - l) l)) ∙ or-false (reaches a b (h - l) l)
+        ap (λ (m : ℕ). fix h l true a b m l) e ∙ to-end 0 l some ∙ ap (λ (x : Bool). reaches a b (h - l) l || x) (and-false (holds a (h - l) l))
+        ∙ or-false (reaches a b (h - l) l)
 
     pub lapped : (s : ℕ) → s < h → fix h l true a b h s ≡ (reaches a b (h - s) s || (holds a (h - s) s && reaches a b (h - l) l))
     lapped s p = sym (enough h l some true a b s p) ∙ to-end (h - l) s p ∙ ap (λ (x : Bool). reaches a b (h - s) s || (holds a (h - s) s && x)) lap-alone
 
 -- release is the negation of until, of negations
-signed-fix : (h l : ℕ) → l < h → (p : Bool) (a b a′ b′ : ℕ → Bool) → ((s : ℕ) → s < h → a′ s ≡ signed p (a s)) → ((s : ℕ) → s < h → b′ s ≡ signed p (b s)) → (n s : ℕ) → s < h
+signed-fix : (h l : ℕ) → l < h → (p : Bool) (a b a′ b′ : ℕ → Bool) → ((s : ℕ) → s < h → a′ s ≡ signed p (a s))
+    → ((s : ℕ) → s < h → b′ s ≡ signed p (b s)) → (n s : ℕ) → s < h
     → signed p (fix h l true a′ b′ n s) ≡ fix h l p a b n s
 signed-fix h l some true a b a′ b′ f g n s q = fix-cong h l some true a′ b′ a b f g n s q
-signed-fix h l some false a b a′ b′ f g n s q = sym (fix-not h l some true a′ b′ a b (λ t r. sym (ap not (f t r) ∙ Bool·not-not (a t))) (λ t r. sym (ap not (g t r) ∙ Bool·not-not (b t))) n s q)
+signed-fix h l some false a b a′ b′ f g n s q =
+    sym (fix-not h l some true a′ b′ a b (λ t r. sym (ap not (f t r) ∙ Bool·not-not (a t))) (λ t r. sym (ap not (g t r) ∙ Bool·not-not (b t))) n s q)
 
-pub signed-row : (h l : ℕ) → l < h → (p : Bool) (a b a′ b′ u r : ℕ) → Row h a′ (λ s. signed p (on a s)) → Row h b′ (λ s. signed p (on b s)) → Row h u (fix h l true (on a′) (on b′) h)
+pub signed-row : (h l : ℕ) → l < h → (p : Bool) (a b a′ b′ u r : ℕ) → Row h a′ (λ s. signed p (on a s)) → Row h b′ (λ s. signed p (on b s))
+    → Row h u (fix h l true (on a′) (on b′) h)
     → Row h r (λ s. signed p (on u s)) → Row h r (fix h l p (on a) (on b) h)
 signed-row h l some p a b a′ b′ u r f g until back = record {
   low = back .low;

@@ -52,8 +52,10 @@ module _ (h l : ℕ) (some : l < h) where
   on-from-next s zero p =
       let e : nextStep h l s + 0 ≡ nextStep h l s = omega arith in
       let f : suc s ≡ s + 1 = omega arith in
-      ap (stepOf h l) e ∙ step-low h l (nextStep h l s) (next-below h l some s) ∙ ap (nextStep h l) (sym (step-low h l s p)) ∙ sym (step-next h l some s) ∙ ap (stepOf h l) f
+      ap (stepOf h l) e ∙ step-low h l (nextStep h l s) (next-below h l some s) ∙ ap (nextStep h l) (sym (step-low h l s p))
+      ∙ sym (step-next h l some s) ∙ ap (stepOf h l) f
   on-from-next s (suc i) p =
       let e : nextStep h l s + suc i ≡ suc (nextStep h l s + i) = omega arith in
       let f : suc (s + suc i) ≡ s + suc (suc i) = omega arith in
-      ap (stepOf h l) e ∙ step-next h l some (nextStep h l s + i) ∙ ap (nextStep h l) (on-from-next s i p) ∙ sym (step-next h l some (s + suc i)) ∙ ap (stepOf h l) f
+      ap (stepOf h l) e ∙ step-next h l some (nextStep h l s + i) ∙ ap (nextStep h l) (on-from-next s i p) ∙ sym (step-next h l some (s + suc i))
+      ∙ ap (stepOf h l) f

@@ -30,10 +30,13 @@ module _ (carts : ℕ) (h : Head) (block : List ℕ) (c : ℕ) (few : carts ≤ 
   part = blockPart (h .steps) block c
 
   -- the cart judged, by its answer
-  module _ (floor : List ℕ) (w : Judging floor carts h block c) (v : Verdict) (e : v ≡ cartVerdict floor c part (length part) (h .stem)) (t : Bool) (q : t ≡ isAccepted v) where
+  module _ (floor : List ℕ) (w : Judging floor carts h block c) (v : Verdict) (e : v ≡ cartVerdict floor c part (length part) (h .stem)) (t : Bool)
+      (q : t ≡ isAccepted v) where
     judged : v ≡ rowVerdict floor (heldNumbers carts h block) c
     judged =
-        e ∙ ap₂ (λ (x : List ℕ) (n : ℕ). cartVerdict floor c x n (h .stem)) (part-is (h .steps) block c ∙ sym (row-in carts (h .steps) block c l)) (part-length (h .steps) block c (omega arith) fits size)
+        e
+        ∙ ap₂ (λ (x : List ℕ) (n : ℕ). cartVerdict floor c x n (h .stem)) (part-is (h .steps) block c ∙ sym (row-in carts (h .steps) block c l))
+        (part-length (h .steps) block c (omega arith) fits size)
 
     by : (b : Bool) → not t ≡ b → isAccepted (rowVerdict floor (heldNumbers carts h block) c) ≡ not b
     by b z = ap isAccepted (sym judged) ∙ sym q ∙ not-is t b z
@@ -42,4 +45,6 @@ module _ (carts : ℕ) (h : Head) (block : List ℕ) (c : ℕ) (few : carts ≤ 
     refused z = judged ∙ sym (w .same ∙ cart-refused floor (heldNumbers carts h block) carts c l (by true z))
 
     pub onward : not t ≡ false → Judging floor carts h block (c + 1)
-    onward z = subst (Judging floor carts h block) (sym (add-one c)) (record { within = l; same = w .same ∙ cart-passed floor (heldNumbers carts h block) carts c l (by false z) })
+    onward z =
+        subst (Judging floor carts h block) (sym (add-one c))
+        (record { within = l; same = w .same ∙ cart-passed floor (heldNumbers carts h block) carts c l (by false z) })

@@ -25,6 +25,7 @@ module _ (s : List ℕ) (f : Floor) (w : Accepts s f) (c : ℕ) (l : c < f .cart
   pub class-low : classOf s c < 8
   class-low =
       let n = numbersOf s .carts in
-      let e : classOf s c ≡ getD n (2 * c + 0) 0 = ap (λ (x : List ℕ). getD x 0 0) (part-of 2 (omega arith) (f .carts) n (w .valid .carts) c l) ∙ field-of 2 n c 0 (omega arith) in
+      let e : classOf s c ≡ getD n (2 * c + 0) 0 =
+      ap (λ (x : List ℕ). getD x 0 0) (part-of 2 (omega arith) (f .carts) n (w .valid .carts) c l) ∙ field-of 2 n c 0 (omega arith) in
       let z : 2 * c + 0 ≡ 2 * c = omega arith in
       subst (λ (x : ℕ). x < 8) (sym (e ∙ ap (λ (k : ℕ). getD n k 0) z)) (w .valid .cart-class c l)

@@ -78,7 +78,8 @@ module _ (floor : List ℕ) (p : Numbers) where
       go false q f e = record { cart = c; from = omega arith; below = omega arith; refused = refl; passed = λ j a b. absurd (omega arith) }
       go true q f e =
           let w = f e in
-          record { cart = w .cart; from = omega (arith, w .from); below = omega (arith, w .below); refused = w .refused; passed = λ j a b. by j a b (eqb j c) refl }
+          record
+          { cart = w .cart; from = omega (arith, w .from); below = omega (arith, w .below); refused = w .refused; passed = λ j a b. by j a b (eqb j c) refl }
         where
           by : (j : ℕ) → c ≤ j → j < f e .cart → (t : Bool) → eqb j c ≡ t → Passes j
           by j a b true r = subst Passes (sym (eqb-true j c r)) (accepted-is _ q)
@@ -101,7 +102,15 @@ module _ (floor : List ℕ) (p : Numbers) where
       first-refused : isAccepted (movesVerdict floor f p) ≡ false → FirstRefused floor f p (movesVerdict floor f p)
       first-refused e =
           let w = first-from (f .carts) 0 e in
-          record { cart = w .cart; there = omega (arith, w .below); refused = w .refused; before = λ c l. cart-unending c (w .passed c (omega arith) l); lowest = λ k q. refused-step _ _ _ _ _ (startOf floor (w .cart)) k (only-shut (w .cart) k _ (w .refused ∙ q)) .1 }
+          record {
+            cart = w .cart;
+            there = omega (arith, w .below);
+            refused = w .refused;
+            before = λ c l. cart-unending c
+                (w .passed c (omega arith) l);
+            lowest = λ k q. refused-step _ _ _ _ _ (startOf floor (w .cart)) k
+                (only-shut (w .cart) k _ (w .refused ∙ q)) .1;
+          }
 
 stem-low : (f : Floor) (plan : List ℕ) (n : Numbers) → readPlan f plan ≡ accepted n → n .head .stem < n .head .steps
 stem-low f plan n e = valid f plan n e .head .stem

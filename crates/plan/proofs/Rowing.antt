@@ -53,7 +53,8 @@ module _ (f : Floor) (h : Head) (s : List ℕ) where
 
     -- the rows are complete
     pub done : foundAt s at ≡ End → f .carts ≤ n
-        → _≡_ {A = PlanRead} (record { verdict = Accepted; floor = f; plan = record { head = h; carts = n; block = block } }) (planRead f (rowsFrom f h [] 10 s))
+        → _≡_ {A = PlanRead} (record { verdict = Accepted; floor = f; plan = record { head = h; carts = n; block = block } })
+        (planRead f (rowsFrom f h [] 10 s))
     done e l =
         let c = w .count in
         let m : f .carts ≤ length (w .rows) = omega arith in

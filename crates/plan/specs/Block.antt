@@ -80,7 +80,8 @@ row-stored rows row s h l =
     let none : 0 + length row ≡ length row = omega arith in
     let fill : m - length row ≡ 64 - length row + rest = omega arith in
     ap (λ (k : ℕ). stored (front ++ zeros m) k row) at ∙ stored-behind front (zeros m) 0 row
-    ∙ ap (λ (x : List ℕ). front ++ (row ++ x)) (ap (λ (k : ℕ). drop k (zeros m)) none ∙ drop-zeros m (length row) (omega arith) ∙ ap zeros fill ∙ sym (zeros-append (64 - length row) rest))
+    ∙ ap (λ (x : List ℕ). front ++ (row ++ x))
+    (ap (λ (k : ℕ). drop k (zeros m)) none ∙ drop-zeros m (length row) (omega arith) ∙ ap zeros fill ∙ sym (zeros-append (64 - length row) rest))
     ∙ ap (λ (x : List ℕ). front ++ x) (sym (append-assoc row (zeros (64 - length row)) (zeros rest)))
     ∙ sym (append-assoc front (padded row) (zeros rest)) ∙ ap (λ (x : List ℕ). x ++ zeros rest) (sym (rows-append rows row))
 

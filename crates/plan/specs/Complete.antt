@@ -54,7 +54,8 @@ rows-fit f h [] done at s p l =
     simp (le-ltb (length done) (f .carts) e) a
 rows-fit f h (x ∷ xs) done at s p l =
     let n = length-append done (x ∷ []) in
-    ap (λ (m : ℕ). onward m at (readRows f h (done ++ (x ∷ [])) (at + 4 + length x) (map (ofKind 5) xs) false)) (one-row f h (length done) x (s .0) (p .0) (omega arith))
+    ap (λ (m : ℕ). onward m at (readRows f h (done ++ (x ∷ [])) (at + 4 + length x) (map (ofKind 5) xs) false))
+    (one-row f h (length done) x (s .0) (p .0) (omega arith))
     ∙ rows-fit f h xs (done ++ (x ∷ [])) (at + 4 + length x) (s .1) (p .1) (omega arith)
     ∙ ap (λ (y : List (List ℕ)). accepted (record { head = h; rows = y })) (append-assoc done (x ∷ []) xs)
 
@@ -80,7 +81,8 @@ complete f h rows m v =
     let places : All (λ (row : List ℕ). judgedPlaces (f .places) 0 row ≡ Fits) xs =
     all-of (λ (row : List ℕ). judgedPlaces (f .places) 0 row ≡ Fits) xs
     (λ i l. fits-all (f .places) 0 (getD xs i []) (λ s k. v .places i s (omega (arith, v .carts)) (omega (arith, v .steps i (omega (arith, v .carts)))))) in
-    let short : length (planBytes h rows) ≤ 65536 = omega (arith, length-plan h rows, length-rows (h .steps) xs sizes, few-rows (h .steps) (length xs) (r .steps) (omega (arith, v .carts))) in
+    let short : length (planBytes h rows) ≤ 65536 =
+    omega (arith, length-plan h rows, length-rows (h .steps) xs sizes, few-rows (h .steps) (length xs) (r .steps) (omega (arith, v .carts))) in
     let narrow : Narrow h = record { steps = omega (arith, r .steps); stem = omega (arith, r .steps, r .stem); drift = omega (arith, r .drift) } in
     good-head f h rows narrow short (in-range h r) ∙ rows-fit f h xs [] 10 sizes places (omega (arith, v .carts))
 

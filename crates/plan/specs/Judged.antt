@@ -60,7 +60,8 @@ module _ (f : Floor) (h : Head) (rows : List ℕ) (w : Narrow h) (short : length
   laid-out : readPlan f (planBytes h rows) ≡ behindHead f (judgedHead 4 (headBytes h)) (rowRecords h rows) false
   unfolding readPlan
   laid-out =
-      ap (λ (b : Bool). cond b (rejected (atOffset 1 0)) (readRecords f (recordsIn (planBytes h rows) .records) (recordsIn (planBytes h rows) .cut))) (le-ltb 65536 _ short)
+      ap (λ (b : Bool). cond b (rejected (atOffset 1 0)) (readRecords f (recordsIn (planBytes h rows) .records) (recordsIn (planBytes h rows) .cut)))
+      (le-ltb 65536 _ short)
       ∙ ap (λ (x : Split). readRecords f (x .records) (x .cut)) (records-layout (planRecords h rows) (plan-encodable h rows short))
 
   head-by : (b : Bool) → outOfRange h ≡ b → judgedHead 4 (headBytes h) ≡ headBy (cond b 8 0) h

@@ -119,7 +119,8 @@ unfolding judgedPlaces
 absent-in places i [] s e = let z : _≡_ {A = ℕ} 0 1 = cc in absurd (omega arith)
 absent-in places i (p ∷ row) s e = go (leb places p) (absent-in places (suc i) row s) e
   where
-    go : (b : Bool) → (judgedPlaces places (suc i) row ≡ Absent s → s < suc i + length row) → cond b (Absent i) (judgedPlaces places (suc i) row) ≡ Absent s → s < i + suc (length row)
+    go : (b : Bool) → (judgedPlaces places (suc i) row ≡ Absent s → s < suc i + length row)
+        → cond b (Absent i) (judgedPlaces places (suc i) row) ≡ Absent s → s < i + suc (length row)
     go true f e = let z : i ≡ s = cc in omega arith
     go false f e = omega (arith, f e)
 

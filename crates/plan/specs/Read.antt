@@ -68,7 +68,8 @@ same-rows : (xs ys : List (List ℕ)) → length xs ≡ length ys → ((c : ℕ)
 same-rows [] [] e f = refl
 same-rows [] (y ∷ ys) e f = absurd (omega arith)
 same-rows (x ∷ xs) [] e f = absurd (omega arith)
-same-rows (x ∷ xs) (y ∷ ys) e f = ap₂ (λ (a : List ℕ) (l : List (List ℕ)). a ∷ l) (f 0 (omega arith)) (same-rows xs ys (omega arith) (λ c l. f (suc c) (omega arith)))
+same-rows (x ∷ xs) (y ∷ ys) e f =
+    ap₂ (λ (a : List ℕ) (l : List (List ℕ)). a ∷ l) (f 0 (omega arith)) (same-rows xs ys (omega arith) (λ c l. f (suc c) (omega arith)))
 
 -- an accepted plan holds the numbers of its file
 module _ (floor s : List ℕ) (r : PlanRead) (w : Accepts floor s r) where
@@ -91,8 +92,10 @@ module _ (floor s : List ℕ) (r : PlanRead) (w : Accepts floor s r) where
   held-length few =
       let n = w .numbers in
       let v = w .valid in
-      let sizes : AllOf (n .head .steps) (n .rows) = all-of (λ (x : List ℕ). length x ≡ n .head .steps) (n .rows) (λ i l. v .steps i (omega (arith, v .carts))) in
-      ap (λ (p : Plan). length (p .block)) (w .held) ∙ length-block (n .rows) (short-all (n .head .steps) (n .rows) (v .head .steps) sizes) (omega (arith, v .carts))
+      let sizes : AllOf (n .head .steps) (n .rows) =
+      all-of (λ (x : List ℕ). length x ≡ n .head .steps) (n .rows) (λ i l. v .steps i (omega (arith, v .carts))) in
+      ap (λ (p : Plan). length (p .block)) (w .held)
+      ∙ length-block (n .rows) (short-all (n .head .steps) (n .rows) (v .head .steps) sizes) (omega (arith, v .carts))
 
 pub accepts-if : (floor s : List ℕ) (r : PlanRead) → PlanReads floor s r → isAccepted (r .verdict) ≡ true → Accepts floor s r
 accepts-if floor s r w e = w .accepted (accepted-is _ e)

@@ -180,8 +180,11 @@ length-plan h rows =
     a ∙ omega arith
 
 pub plan-encodable : (h : Head) (rows : List ℕ) → length (planBytes h rows) ≤ 65536 → AllEncodable (planRecords h rows)
-plan-encodable h rows l =
-    (record { kind = omega arith; size = omega (arith, length-head h) }, short-encodable 5 (parts (h .steps) rows) (omega arith) (omega (arith, length-plan h rows)))
+plan-encodable h rows l = (
+  record { kind = omega arith; size = omega (arith, length-head h) },
+  short-encodable 5 (parts (h .steps) rows) (omega arith)
+      (omega (arith, length-plan h rows)),
+)
 
 bodies-of : (k : ℕ) (xs ys : List (List ℕ)) → map (ofKind k) xs ≡ map (ofKind k) ys → xs ≡ ys
 bodies-of k xs ys e = sym (only xs) ∙ ap (map (λ (r : Record). r .body)) e ∙ only ys
@@ -234,13 +237,16 @@ module _ (floor : List ℕ) (h : Head) (rows before : List ℕ) (v : Verdict) (a
 pub valid : (f : Floor) (s : List ℕ) (n : Numbers) → readPlan f s ≡ accepted n → Valid n f
 valid f s n e =
     let w = whole f s n e in
-    let size : (c : ℕ) → c < f .carts → length (getD (n .rows) c []) ≡ n .head .steps = λ c l. each (λ (row : List ℕ). length row ≡ n .head .steps) (n .rows) c (w .sizes) (omega (arith, w .carts)) in
+    let size : (c : ℕ) → c < f .carts → length (getD (n .rows) c []) ≡ n .head .steps =
+    λ c l. each (λ (row : List ℕ). length row ≡ n .head .steps) (n .rows) c (w .sizes) (omega (arith, w .carts)) in
     record {
       head = w .range;
       carts = w .carts;
       steps = size;
       places =
-          λ c t l m. all-on-floor (f .places) 0 (getD (n .rows) c []) (each (λ (row : List ℕ). judgedPlaces (f .places) 0 row ≡ Fits) (n .rows) c (w .places) (omega (arith, w .carts))) t (omega (arith, size c l));
+          λ c t l m. all-on-floor (f .places) 0 (getD (n .rows) c [])
+          (each (λ (row : List ℕ). judgedPlaces (f .places) 0 row ≡ Fits) (n .rows) c (w .places) (omega (arith, w .carts))) t
+          (omega (arith, size c l));
     }
 
 pub row-located : (f : Floor) (s : List ℕ) (n : Numbers) → readPlan f s ≡ accepted n → (c : ℕ) → c < f .carts

@@ -65,11 +65,20 @@ module _ (floor s sheet : List ℕ) (fb : Bytes floor) (pb : Bytes s) where
     drifted-read d less =
         let v = valid f s p (files .plan-read) in
         let v′ : Valid (drifted p d) f =
-        record { head = record { some = v .head .some; steps = v .head .steps; stem = v .head .stem; drift = let x = v .head .drift in omega arith }; carts = v .carts; steps = v .steps; places = v .places } in
-        let e : planFile (drifted p d) ≡ stored s 8 (bytes 2 d) = sym (drifted-file p d) ∙ ap (λ (x : List ℕ). stored x 8 (bytes 2 d)) (bytes-back f s p pb (files .plan-read)) in
+        record {
+          head = record { some = v .head .some; steps = v .head .steps; stem = v .head .stem; drift = let x = v .head .drift in omega arith };
+          carts
+              = v .carts;
+          steps = v .steps;
+          places = v .places;
+        } in
+        let e : planFile (drifted p d) ≡ stored s 8 (bytes 2 d) =
+        sym (drifted-file p d) ∙ ap (λ (x : List ℕ). stored x 8 (bytes 2 d)) (bytes-back f s p pb (files .plan-read)) in
         record {
           floor-read = files .floor-read;
-          plan-read = subst (λ (x : List ℕ). readPlan f x ≡ plan.accepted (drifted p d)) e (file-reads f (drifted p d) (accepts floor f fb (files .floor-read) .valid .few-carts) v′);
+          plan-read =
+              subst (λ (x : List ℕ). readPlan f x ≡ plan.accepted (drifted p d)) e
+              (file-reads f (drifted p d) (accepts floor f fb (files .floor-read) .valid .few-carts) v′);
         }
 
     less-drift : (d : ℕ) → d ≤ p .head .drift → checked floor (stored s 8 (bytes 2 d)) sheet ≡ Accepted
@@ -77,7 +86,11 @@ module _ (floor s sheet : List ℕ) (fb : Bytes floor) (pb : Bytes s) where
         let a = accepted-as floor s sheet f p files yes in
         let w = a .1 .readable in
         as-accepted floor (stored s 8 (bytes 2 d)) sheet f (drifted p d) (a .0)
-        (record { readable = record { files = drifted-read d less; moves = w .moves; clauses = w .clauses }; steady = ⊎-elim (λ z. inl (omega arith)) (λ x. inr x) (a .1 .steady) })
+        (record {
+          readable = record { files = drifted-read d less; moves = w .moves; clauses = w .clauses };
+          steady = ⊎-elim (λ z. inl (omega arith))
+              (λ x. inr x) (a .1 .steady);
+        })
         (all-map (λ c k. cltl.smaller (planRows floor f p) (proper f p files) (p .head .drift) d less c 0 k) (a .0) (a .2))
 
   module _ (f : Floor) (p : Numbers) (files : ReadAs floor s f p) (none : p .head .drift ≡ 0) where
@@ -97,5 +110,7 @@ module _ (floor s sheet : List ℕ) (fb : Bytes floor) (pb : Bytes s) where
     kept = λ f p cs a. (λ yes. all-kept f p (a .readable .files) (sym e ∙ yes) cs (a .readable .clauses), λ k. e ∙ as-accepted floor s sheet f p cs a k);
     runs = λ yes f p cs w plain r. in-runs f p (w .files) (sym e ∙ yes) cs w plain r;
     smaller = λ yes f p files d less. less-drift f p files (sym e ∙ yes) d less;
-    readable = λ yes. let w = accepted-read floor s sheet (sym e ∙ yes) in let a = accepted-as floor s sheet (w .0) (w .1) (w .2) (sym e ∙ yes) in (w .0, w .1, a .0, a .1);
+    readable =
+        λ yes. let w = accepted-read floor s sheet (sym e ∙ yes) in let a = accepted-as floor s sheet (w .0) (w .1) (w .2) (sym e ∙ yes) in
+        (w .0, w .1, a .0, a .1);
   }

@@ -25,7 +25,8 @@ each Q [] k a q = absurd (omega arith)
 each Q (c ∷ cs) zero a q = a .0
 each Q (c ∷ cs) (suc k) a q = each Q cs k (a .1) (omega arith)
 
-module _ (floor plan sheet : List ℕ) (v : Verdict) (w : PlanChecked floor plan sheet v) (yes : v ≡ Accepted) (f : Floor) (p : Numbers) (cs : List Clause) (r : Readable floor plan sheet f p cs) where
+module _ (floor plan sheet : List ℕ) (v : Verdict) (w : PlanChecked floor plan sheet v) (yes : v ≡ Accepted) (f : Floor) (p : Numbers)
+    (cs : List Clause) (r : Readable floor plan sheet f p cs) where
   -- accepted, "next" only inside counts: clause k is true of every run within the drift
   pub clause-in-run : All Plain cs → (run : Run (f .carts) (p .head .drift)) (k : ℕ) → k < length cs → TrueOf (planRows floor f p) run (getD cs k top)
   clause-in-run plain run k q = each (TrueOf (planRows floor f p) run) cs k (w .runs yes f p cs r plain run) q
@@ -36,14 +37,17 @@ module _ (floor plan sheet : List ℕ) (v : Verdict) (w : PlanChecked floor plan
 
 module _ (floor plan sheet : List ℕ) (v : Verdict) (w : PlanChecked floor plan sheet v) where
   -- in step: what is true of every clause is accepted, and nothing else is
-  pub accepted-in-step : (f : Floor) (p : Numbers) (cs : List Clause) → Readable floor plan sheet f p cs → p .head .drift ≡ 0 → All (TrueInStep (planRows floor f p)) cs → v ≡ Accepted
+  pub accepted-in-step : (f : Floor) (p : Numbers) (cs : List Clause) → Readable floor plan sheet f p cs → p .head .drift ≡ 0
+      → All (TrueInStep (planRows floor f p)) cs → v ≡ Accepted
   accepted-in-step f p cs r none all = w .in-step f p (r .files) none .1 (cs, r, all)
 
-  pub true-in-step : (f : Floor) (p : Numbers) → ReadAs floor plan f p → p .head .drift ≡ 0 → v ≡ Accepted → (cs : List Clause) × Readable floor plan sheet f p cs × All (TrueInStep (planRows floor f p)) cs
+  pub true-in-step : (f : Floor) (p : Numbers) → ReadAs floor plan f p → p .head .drift ≡ 0 → v ≡ Accepted
+      → (cs : List Clause) × Readable floor plan sheet f p cs × All (TrueInStep (planRows floor f p)) cs
   true-in-step f p files none e = w .in-step f p files none .0 e
 
   -- with drift: what the rules keep is accepted, and nothing else is
-  pub accepted-kept : (f : Floor) (p : Numbers) (cs : List Clause) → Ahead floor plan sheet f p cs → All (λ c. T (rules (planRows floor f p) (p .head .drift) c 0)) cs → v ≡ Accepted
+  pub accepted-kept : (f : Floor) (p : Numbers) (cs : List Clause) → Ahead floor plan sheet f p cs
+      → All (λ c. T (rules (planRows floor f p) (p .head .drift) c 0)) cs → v ≡ Accepted
   accepted-kept f p cs a all = w .kept f p cs a .1 all
 
   -- and "next" outside a count is refused

@@ -22,14 +22,16 @@ pub record Judgeable (block : List ℕ) (n : ℕ) (c : Clause) : Type 0 where
   pub size : length block ≡ 512
   pub tree : (m : ℕ) → n - 1 < m → clauseTree block m (n - 1) ≡ c
 
-pub line-held : (s before : List ℕ) (r : Part) (block : List ℕ) (n : ℕ) (cs : List Clause) → (l : Line s before r block n cs) → length before ≡ 512 → Judgeable block (r .n) (l .clause)
+pub line-held : (s before : List ℕ) (r : Part) (block : List ℕ) (n : ℕ) (cs : List Clause) → (l : Line s before r block n cs) → length before ≡ 512
+    → Judgeable block (r .n) (l .clause)
 unfolding flatClause
 line-held s before r block n cs l size =
     let c = l .clause in
     let h = held c before size (l .good .0) (l .good .1) in
     let k : ℕ = length (flatClause c 0) in
     let e : k ≡ r .n = sym (l .held .slots ∙ zero k) in
-    subst (λ (b : List ℕ). Judgeable b (r .n) c) (sym (l .held .block)) (subst (λ (m : ℕ). Judgeable (stored before 0 (nodesBytes (flatClause c 0))) m c) e (all h))
+    subst (λ (b : List ℕ). Judgeable b (r .n) c) (sym (l .held .block))
+    (subst (λ (m : ℕ). Judgeable (stored before 0 (nodesBytes (flatClause c 0))) m c) e (all h))
   where
     zero : (k : ℕ) → 0 + k ≡ k
     zero k = omega arith
@@ -45,7 +47,8 @@ pub record Ready (s before : List ℕ) (r : Part) (block : List ℕ) (n : ℕ) (
   pub judge : Judgeable block (r .n) (line .clause)
 
 pub ready : (s before : List ℕ) (r : Part) (block : List ℕ) (at n : ℕ) → at < length s
-    → PartIs countNodes flatCount s 0 128 before r block (clauseLine 128 (drop at s)) → (cs : List Clause) → Left s at n cs → length before ≡ 512 → Ready s before r block n cs
+    → PartIs countNodes flatCount s 0 128 before r block (clauseLine 128 (drop at s)) → (cs : List Clause) → Left s at n cs → length before ≡ 512
+    → Ready s before r block n cs
 ready s before r block at n inside h cs left size =
     let l = next-line s before r block at n inside h cs left in
     record { line = l; judge = line-held s before r block n cs l size }

@@ -69,10 +69,13 @@ pub record Line (s before : List ℕ) (r : Part) (block : List ℕ) (n : ℕ) (c
   pub held : Held countNodes flatCount s 0 128 before r block clause allowed behind
   pub left : Left s (r .at) (n + 1) rest
 
-module _ (s before : List ℕ) (r : Part) (block : List ℕ) (at n : ℕ) (inside : at < length s) (h : PartIs countNodes flatCount s 0 128 before r block (clauseLine 128 (drop at s))) where
+module _ (s before : List ℕ) (r : Part) (block : List ℕ) (at n : ℕ) (inside : at < length s)
+    (h : PartIs countNodes flatCount s 0 128 before r block (clauseLine 128 (drop at s))) where
   opened : (k : ℕ) → lines (suc k) (drop at s) ≡ bind (clauseLine 128 (drop at s)) (λ c m t. bind (lines k t) (λ cs m₁ r₁. got (c ∷ cs) m₁ r₁))
   unfolding lines
-  opened k = let e = drop-cons s at 0 inside in ap (λ (u : List ℕ). lines (suc k) u) e ∙ ap (λ (u : List ℕ). bind (clauseLine 128 u) (λ c m t. bind (lines k t) (λ cs m₁ r₁. got (c ∷ cs) m₁ r₁))) (sym e)
+  opened k =
+      let e = drop-cons s at 0 inside in
+      ap (λ (u : List ℕ). lines (suc k) u) e ∙ ap (λ (u : List ℕ). bind (clauseLine 128 u) (λ c m t. bind (lines k t) (λ cs m₁ r₁. got (c ∷ cs) m₁ r₁))) (sym e)
 
   full : lines 0 (drop at s) ≡ no 14 (drop at s)
   unfolding lines
@@ -85,7 +88,8 @@ module _ (s before : List ℕ) (r : Part) (block : List ℕ) (at n : ℕ) (insid
     by-line k e (no w t) p q = absurd (not-got q)
     by-line k e (got c m t) p q = behind-it (lines k t) refl q
       where
-        behind-it : (g : Got (List Clause)) → lines k t ≡ g → bind g (λ cs m₁ r₁. got (c ∷ cs) m₁ r₁) ≡ got cs (l .allowed) (l .end) → Line s before r block n cs
+        behind-it : (g : Got (List Clause)) → lines k t ≡ g → bind g (λ cs m₁ r₁. got (c ∷ cs) m₁ r₁) ≡ got cs (l .allowed) (l .end)
+            → Line s before r block n cs
         behind-it (no w u) z q = absurd (not-got q)
         behind-it (got cs′ m′ u) z q =
             let f : cs ≡ c ∷ cs′ = sym (ap listed q) in

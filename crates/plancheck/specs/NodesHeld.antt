@@ -81,7 +81,8 @@ all-at b (x ∷ ns) h (suc k) q = let e : b + suc k ≡ suc b + k = omega arith 
 all-snoc : (b : ℕ) (ns : List Node) (x : Node) → AllFrom b ns → Below (b + length ns) x → AllFrom b (ns ++ (x ∷ []))
 all-snoc b ns x h g = all-append b ns (x ∷ []) h (g, tt)
 
-module _ {L : Type 0} (leafNodes : L → ℕ) (leafFlat : L → ℕ → List Node) (Ok : L → Type 0) (some : (x : L) → 1 ≤ leafNodes x) (leaf-length : (x : L) (b : ℕ) → length (leafFlat x b) ≡ leafNodes x)
+module _ {L : Type 0} (leafNodes : L → ℕ) (leafFlat : L → ℕ → List Node) (Ok : L → Type 0) (some : (x : L) → 1 ≤ leafNodes x)
+    (leaf-length : (x : L) (b : ℕ) → length (leafFlat x b) ≡ leafNodes x)
     (leaf-all : (x : L) (b : ℕ) → Ok x → AllFrom b (leafFlat x b)) where
   abbrev N : Form L → ℕ
   N a = nodes leafNodes a
@@ -103,7 +104,8 @@ module _ {L : Type 0} (leafNodes : L → ℕ) (leafFlat : L → ℕ → List Nod
   one-all : (o : Op₁) (a : Form L) (b : ℕ) → AllFrom b (Fl a b) → AllFrom b (Fl a b ++ (oneN o ((b + N a) - 1) ∷ []))
   one-all o a b h = all-snoc b (Fl a b) _ h (last-below a b)
 
-  two-all : (o : Op₂) (a c : Form L) (b : ℕ) → let m = b + N a in AllFrom b (Fl a b) → AllFrom m (Fl c m) → AllFrom b (Fl a b ++ Fl c m ++ (twoN o (m - 1) ((m + N c) - 1) ∷ []))
+  two-all : (o : Op₂) (a c : Form L) (b : ℕ) → let m =
+      b + N a in AllFrom b (Fl a b) → AllFrom m (Fl c m) → AllFrom b (Fl a b ++ Fl c m ++ (twoN o (m - 1) ((m + N c) - 1) ∷ []))
   two-all o a c b h g =
       let m = b + N a in
       let l = fl-length a b in
@@ -147,7 +149,8 @@ count-length (counted a n p) b = let h = fl-length markNodes flatMark MarkOk mar
 count-all : (x : Threshold) (b : ℕ) → CountOk x → AllFrom b (flatCount x b)
 unfolding flatCount flatInner
 count-all (counted a n p) b ok =
-    all-snoc b (flat markNodes flatMark a b) _ (flat-all markNodes flatMark MarkOk mark-some mark-length mark-all a b (ok .0)) (last-below markNodes flatMark MarkOk mark-some mark-length mark-all a b)
+    all-snoc b (flat markNodes flatMark a b) _ (flat-all markNodes flatMark MarkOk mark-some mark-length mark-all a b (ok .0))
+    (last-below markNodes flatMark MarkOk mark-some mark-length mark-all a b)
 
 pub clause-all : (c : Clause) (b : ℕ) → InRange CountOk c → AllFrom b (flatClause c b)
 unfolding flatClause
@@ -163,19 +166,22 @@ held-ordered before ns room h = record {
 module _ (block : List ℕ) (ns : List Node) (room : length ns ≤ length block) (at : (k : ℕ) → k < length ns → nodeAt block k ≡ node ns k) where
   module _ {L : Type 0} (mark : ℕ → Form L) (count : ℕ → ℕ → Bool → Form L) where
     -- however deep the look, past the node's number
-    tree-at : (i n : ℕ) → i < n → (x : Node) → nodeAt block i ≡ x → (a : Form L) → ((m : ℕ) → i ≤ m → formOf mark count (λ j. tree mark count block m j) x ≡ a) → tree mark count block n i ≡ a
+    tree-at : (i n : ℕ) → i < n → (x : Node) → nodeAt block i ≡ x → (a : Form L)
+        → ((m : ℕ) → i ≤ m → formOf mark count (λ j. tree mark count block m j) x ≡ a) → tree mark count block n i ≡ a
     unfolding tree
     tree-at i zero q x e a f = absurd (omega arith)
     tree-at i (suc n) q x e a f = rw e (f n (omega arith))
 
-    module _ (Leaf : List Node → ℕ → L → Type 0) (leaf-tree : (i : ℕ) → i < length ns → (x : L) → Leaf ns i x → (f : ℕ → Form L) → formOf mark count f (node ns i) ≡ leaf x) where
+    module _ (Leaf : List Node → ℕ → L → Type 0)
+        (leaf-tree : (i : ℕ) → i < length ns → (x : L) → Leaf ns i x → (f : ℕ → Form L) → formOf mark count f (node ns i) ≡ leaf x) where
       abbrev IsTree : ℕ → Form L → Type 0
       IsTree i a = (n : ℕ) → i < n → tree mark count block n i ≡ a
 
       abbrev AreTrees : Form L → Type 0
       AreTrees a = (i : ℕ) → i < length ns → Stands Leaf ns i a → IsTree i a
 
-      one-tree : (o : Op₁) (a : Form L) → AreTrees a → (i : ℕ) → i < length ns → (j : ℕ) × (j < i) × (node ns i ≡ oneN o j) × Stands Leaf ns j a → IsTree i (one o a)
+      one-tree : (o : Op₁) (a : Form L) → AreTrees a → (i : ℕ) → i < length ns → (j : ℕ) × (j < i) × (node ns i ≡ oneN o j) × Stands Leaf ns j a
+          → IsTree i (one o a)
       one-tree o a f i p (j, l, e, s) n q = tree-at i n q (oneN o j) (at i p ∙ e) (one o a) (λ m z. ap (one o) (f j (omega arith) s m (omega arith)))
 
       two-tree : (o : Op₂) (a c : Form L) → AreTrees a → AreTrees c → (i : ℕ) → i < length ns
@@ -204,7 +210,8 @@ module _ (block : List ℕ) (ns : List Node) (room : length ns ≤ length block)
   counts i m percent = leaf (counted (innerTree block (length block) i) m percent)
 
   count-tree : (i : ℕ) → i < length ns → (x : Threshold) → StandsCount ns i x → (f : ℕ → Form Threshold) → formOf (λ m. top) counts f (node ns i) ≡ leaf x
-  count-tree i p (counted a n percent) (j, l, e, s) f = rw e (ap (λ (b : Inner). leaf (counted b n percent)) (inner-tree a j (omega arith) s (length block) (omega arith)))
+  count-tree i p (counted a n percent) (j, l, e, s) f =
+      rw e (ap (λ (b : Inner). leaf (counted b n percent)) (inner-tree a j (omega arith) s (length block) (omega arith)))
 
   pub clause-tree : (c : Clause) (i : ℕ) → i < length ns → Stands StandsCount ns i c → (n : ℕ) → i < n → clauseTree block n i ≡ c
   unfolding clauseTree
@@ -220,7 +227,8 @@ clause-last c =
     (subst (λ (l : List Node). Stands StandsCount l ((0 + nodes countNodes c) - 1) c) (append-nil ns) (clause-stands c [] []))
 
 -- a clause's nodes, at most 128, at the front of a block
-pub held : (c : Clause) (before : List ℕ) → length before ≡ 512 → nodes countNodes c ≤ 128 → InRange CountOk c → let ns = flatClause c 0 in let block = stored before 0 (nodesBytes ns) in
+pub held : (c : Clause) (before : List ℕ) → length before ≡ 512 → nodes countNodes c ≤ 128 → InRange CountOk c → let ns =
+    flatClause c 0 in let block = stored before 0 (nodesBytes ns) in
     (Ordered block (length ns)) × (0 < length ns) × (length block ≡ 512) × ((n : ℕ) → length ns ≤ n → clauseTree block n (length ns - 1) ≡ c)
 held c before size small ok =
     let ns = flatClause c 0 in

@@ -49,6 +49,7 @@ module _ (floor plan sheet : List ℕ) where
     pub runs : v ≡ Accepted → (f : Floor) (p : Numbers) (cs : List Clause) → Readable f p cs → All Plain cs
         → (r : Run (f .carts) (p .head .drift)) → All (TrueOf (planRows floor f p) r) cs
     -- accepted too with every smaller drift: the same floor, sheet and plan but for the two bytes of d
-    pub smaller : v ≡ Accepted → (f : Floor) (p : Numbers) → ReadAs floor plan f p → (d : ℕ) → d ≤ p .head .drift → checked floor (stored plan 8 (bytes 2 d)) sheet ≡ Accepted
+    pub smaller : v ≡ Accepted → (f : Floor) (p : Numbers) → ReadAs floor plan f p → (d : ℕ) → d ≤ p .head .drift
+        → checked floor (stored plan 8 (bytes 2 d)) sheet ≡ Accepted
     -- what is accepted could be read, with nothing refused ahead of the clauses
     pub readable : v ≡ Accepted → (f : Floor) × (p : Numbers) × (cs : List Clause) × Ahead f p cs

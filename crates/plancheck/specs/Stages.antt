@@ -118,7 +118,8 @@ module _ (floor plan sheet : List ℕ) where
         let r = both-accepted (rulesVerdict sheet) _ (m .1) in
         let k = clauses-accepted (planRows floor f p) (p .head .drift) (clausesOf (readSheet sheet)) (r .1) in (
           clausesOf (readSheet sheet),
-          record { readable = record { files = files; moves = all-unending floor p stem-low f (m .0); clauses = sheet-read (readSheet sheet) (r .0) }; steady = k .0 },
+          record
+              { readable = record { files = files; moves = all-unending floor p stem-low f (m .0); clauses = sheet-read (readSheet sheet) (r .0) }; steady = k .0 },
           k .1,
         )
 
@@ -136,7 +137,8 @@ module _ (floor plan sheet : List ℕ) where
   stages-read f p files = read-on (λ v. v) (stages floor sheet) floor plan f p files
 
   -- with floor and plan read as these
-  pub accepted-as : (f : Floor) (p : Numbers) → ReadAs floor plan f p → checked floor plan sheet ≡ Accepted → (cs : List Clause) × Ahead floor plan sheet f p cs × All (K f p) cs
+  pub accepted-as : (f : Floor) (p : Numbers) → ReadAs floor plan f p → checked floor plan sheet ≡ Accepted
+      → (cs : List Clause) × Ahead floor plan sheet f p cs × All (K f p) cs
   accepted-as f p files e = stages-accepted f p files (sym (stages-read f p files) ∙ e)
 
   pub as-accepted : (f : Floor) (p : Numbers) (cs : List Clause) → Ahead floor plan sheet f p cs → All (K f p) cs → checked floor plan sheet ≡ Accepted
@@ -167,5 +169,6 @@ module _ (floor sheet : List ℕ) (f : Floor) (p : Numbers) (m : Verdict) (em : 
     pub stage-sheet : isAccepted r ≡ false → r ≡ stages floor sheet f p
     stage-sheet e = sym (stops r (clausesVerdict (planRows floor f p) (p .head .drift) (clausesOf (readSheet sheet))) e) ∙ moved-on
 
-    pub stage-clauses : isAccepted r ≡ true → (v : Verdict) → v ≡ clausesVerdict (planRows floor f p) (p .head .drift) (clausesOf (readSheet sheet)) → v ≡ stages floor sheet f p
+    pub stage-clauses : isAccepted r ≡ true → (v : Verdict) → v ≡ clausesVerdict (planRows floor f p) (p .head .drift) (clausesOf (readSheet sheet))
+        → v ≡ stages floor sheet f p
     stage-clauses e v ev = ev ∙ sym (goes-on r (clausesVerdict (planRows floor f p) (p .head .drift) (clausesOf (readSheet sheet))) e) ∙ moved-on

@@ -32,13 +32,15 @@ module _ (P : Rows) (d : ℕ) where
     -- the lowest bit is the truth at step 0
     pub clause-kept : r % 2 ≡ 1 → Accepted ≡ clauseVerdict P d n c
     unfolding on
-    clause-kept e = ap (λ (b : Bool). cond b Accepted (AboutRules (refused 17 n (failing P d c)))) (sym (eq-eqb (r / 2 ^ 0 % 2) 1 (omega arith)) ∙ row .at 0 some)
+    clause-kept e =
+        ap (λ (b : Bool). cond b Accepted (AboutRules (refused 17 n (failing P d c)))) (sym (eq-eqb (r / 2 ^ 0 % 2) 1 (omega arith)) ∙ row .at 0 some)
 
     pub clause-fails : (r % 2 ≡ 1 → ⊥) → (step : ℕ) → step ≡ failing P d c → AboutRules (refused 17 n step) ≡ clauseVerdict P d n c
     unfolding on
     clause-fails e step q =
         ap (λ (s : ℕ). AboutRules (refused 17 n s)) q
-        ∙ ap (λ (b : Bool). cond b Accepted (AboutRules (refused 17 n (failing P d c)))) (sym (ne-eqb (r / 2 ^ 0 % 2) 1 (λ z. e (omega arith))) ∙ row .at 0 some)
+        ∙ ap (λ (b : Bool). cond b Accepted (AboutRules (refused 17 n (failing P d c))))
+        (sym (ne-eqb (r / 2 ^ 0 % 2) 1 (λ z. e (omega arith))) ∙ row .at 0 some)
 
   -- the verdict on all clauses, where `found` was found before clause n and cs are left
   abbrev pub seen : Verdict → ℕ → List Clause → Verdict
@@ -66,23 +68,28 @@ module _ (P : Rows) (d : ℕ) where
       over false = refl
 
   -- 16 here
-  pub stops-16 : (found : Verdict) (n : ℕ) (c : Clause) (cs : List Clause) → true ≡ cond (eqb d 0) false (hasNext c) → AboutRules (refused 16 n 0) ≡ seen found n (c ∷ cs)
+  pub stops-16 : (found : Verdict) (n : ℕ) (c : Clause) (cs : List Clause) → true ≡ cond (eqb d 0) false (hasNext c)
+      → AboutRules (refused 16 n 0) ≡ seen found n (c ∷ cs)
   unfolding nextVerdict
   stops-16 found n c cs e = go (eqb d 0) (hasNext c) e
     where
       go : (z b : Bool) → true ≡ cond z false b
-          → AboutRules (refused 16 n 0) ≡ andThen (cond z Accepted (cond b (AboutRules (refused 16 n 0)) (nextVerdict (suc n) cs))) (andThen found (keptVerdict P d n (c ∷ cs)))
+          → AboutRules (refused 16 n 0) ≡ andThen (cond z Accepted (cond b (AboutRules (refused 16 n 0)) (nextVerdict (suc n) cs)))
+          (andThen found (keptVerdict P d n (c ∷ cs)))
       go true b e = let x : _≡_ {A = ℕ} 0 1 = cc in absurd (omega arith)
       go false true e = refl
       go false false e = let x : _≡_ {A = ℕ} 0 1 = cc in absurd (omega arith)
 
   -- on to the next clause
-  pub goes-on-to : (found : Verdict) (n : ℕ) (c : Clause) (cs : List Clause) → false ≡ cond (eqb d 0) false (hasNext c) → seen found n (c ∷ cs) ≡ seen (andThen found (clauseVerdict P d n c)) (n + 1) cs
+  pub goes-on-to : (found : Verdict) (n : ℕ) (c : Clause) (cs : List Clause) → false ≡ cond (eqb d 0) false (hasNext c)
+      → seen found n (c ∷ cs) ≡ seen (andThen found (clauseVerdict P d n c)) (n + 1) cs
   unfolding nextVerdict keptVerdict
   goes-on-to found n c cs e =
-      ap₂ andThen (sixteen (eqb d 0) (hasNext c) e) (seventeen (isAccepted found) refl (rules P d c 0)) ∙ ap (λ (m : ℕ). seen (andThen found (clauseVerdict P d n c)) m cs) (sym (add-one n))
+      ap₂ andThen (sixteen (eqb d 0) (hasNext c) e) (seventeen (isAccepted found) refl (rules P d c 0))
+      ∙ ap (λ (m : ℕ). seen (andThen found (clauseVerdict P d n c)) m cs) (sym (add-one n))
     where
-      sixteen : (z b : Bool) → false ≡ cond z false b → cond z Accepted (cond b (AboutRules (refused 16 n 0)) (nextVerdict (suc n) cs)) ≡ cond z Accepted (nextVerdict (suc n) cs)
+      sixteen : (z b : Bool) → false ≡ cond z false b
+          → cond z Accepted (cond b (AboutRules (refused 16 n 0)) (nextVerdict (suc n) cs)) ≡ cond z Accepted (nextVerdict (suc n) cs)
       sixteen true b e = refl
       sixteen false true e = let x : _≡_ {A = ℕ} 0 1 = cc in absurd (omega arith)
       sixteen false false e = refl
@@ -102,7 +109,8 @@ module _ (P : Rows) (d : ℕ) where
     pub going-16 : true ≡ cond (eqb d 0) false (hasNext (l .clause)) → AboutRules (refused 16 n 0) ≡ clausesVerdict P d (clausesOf (readSheet s))
     going-16 e = stops-16 found n (l .clause) (l .rest) e ∙ ap (seen found n) (sym (l .first)) ∙ g .same
 
-    pub going-on : false ≡ cond (eqb d 0) false (hasNext (l .clause)) → (v : Verdict) → v ≡ andThen found (clauseVerdict P d n (l .clause)) → Going s (r .at) (n + 1) v
+    pub going-on : false ≡ cond (eqb d 0) false (hasNext (l .clause)) → (v : Verdict) → v ≡ andThen found (clauseVerdict P d n (l .clause))
+        → Going s (r .at) (n + 1) v
     going-on e v q = record {
       rest = l .rest;
       left = l .left;
@@ -119,7 +127,8 @@ module _ (carts h l : ℕ) (ok : l < h) (b b′ : ℕ → ℕ → ℕ → Bool) 
   unfolding keptVerdict
   kept-agrees d n [] g = refl
   kept-agrees d n (c ∷ cs) g =
-      rw (rules-agree carts h l ok b b′ same d c (g .0 .1) 0 (omega arith), kept-agrees d (suc n) cs (g .1), failing-agrees carts h l ok b b′ same d c (g .0 .1))
+      rw
+      (rules-agree carts h l ok b b′ same d c (g .0 .1) 0 (omega arith), kept-agrees d (suc n) cs (g .1), failing-agrees carts h l ok b b′ same d c (g .0 .1))
 
   pub clauses-agree : (d : ℕ) (cs : List Clause) → All Good cs → clausesVerdict (by b) d cs ≡ clausesVerdict (by b′) d cs
   clauses-agree d cs g = ap (andThen (cond (eqb d 0) Accepted (nextVerdict 0 cs))) (kept-agrees d 0 cs g)

@@ -32,11 +32,14 @@ module _ (s : List ℕ) (at : ℕ) (more : at < length s) where
   -- what is found, by whether the record is whole
   found-by : (w : Bool) → whole (drop at s) ≡ w → foundAt s at ≡ foundIn at (joined w (front (drop at s)) (recordsIn (behind (drop at s))))
   found-by w e =
-      ap (foundIn at) (goes-on (drop at s) (omega (arith, length-drop at s)) ∙ ap (λ (t : Bool). joined t (front (drop at s)) (recordsIn (behind (drop at s)))) e)
+      ap (foundIn at)
+      (goes-on (drop at s) (omega (arith, length-drop at s)) ∙ ap (λ (t : Bool). joined t (front (drop at s)) (recordsIn (behind (drop at s)))) e)
 
   pub short-header : length s - at < 4 → Cut ≡ foundAt s at
   short-header h =
-      sym (found-by false (ap (λ (b : Bool). b && leb (4 + sizeIn (drop at s)) (length (drop at s))) (lt-leb 4 (length (drop at s)) (omega (arith, length-drop at s)))))
+      sym
+      (found-by false
+      (ap (λ (b : Bool). b && leb (4 + sizeIn (drop at s)) (length (drop at s))) (lt-leb 4 (length (drop at s)) (omega (arith, length-drop at s)))))
 
   pub short-body : at + 4 ≤ length s → length s - at - 4 < value (getD s at 0 ∷ getD s (at + 1) 0 ∷ []) → Cut ≡ foundAt s at
   short-body h k =
@@ -49,5 +52,6 @@ module _ (s : List ℕ) (at : ℕ) (more : at < length s) where
   whole-at h k =
       let n = length-drop at s in
       let z = size-at h in
-      let w : whole (drop at s) ≡ true = ap₂ _&&_ (le-leb 4 (length (drop at s)) (omega arith)) (le-leb (4 + sizeIn (drop at s)) (length (drop at s)) (omega arith)) in
+      let w : whole (drop at s) ≡ true =
+      ap₂ _&&_ (le-leb 4 (length (drop at s)) (omega arith)) (le-leb (4 + sizeIn (drop at s)) (length (drop at s)) (omega arith)) in
       sym (found-by true w ∙ ap₂ (λ (x y : ℕ). Whole x (at + 4) (at + 4 + y)) (kind-at h) (body-size (drop at s) w ∙ size-at h))

@@ -58,4 +58,5 @@ unfolding parts partsIn
 parts-open zero b l p = absurd (omega arith)
 parts-open (suc size) b l p =
     ap (λ (t : List (List ℕ)). take (suc size) (b ∷ l) ∷ t)
-    (parts-fuel (suc size) (length l) (length (drop (suc size) (b ∷ l))) (drop (suc size) (b ∷ l)) p (shorter b l (length l) (suc size) p (omega arith)) (omega arith))
+    (parts-fuel (suc size) (length l) (length (drop (suc size) (b ∷ l))) (drop (suc size) (b ∷ l)) p
+    (shorter b l (length l) (suc size) p (omega arith)) (omega arith))

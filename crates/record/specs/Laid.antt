@@ -126,7 +126,8 @@ length-laid k size l p = parts-ind size p (λ l. length (laid k size l) ≡ leng
         omega arith
 
     more : (l : List ℕ) → 0 < length l
-        → length (laid k size (drop (min size (length l)) l)) ≡ length (drop (min size (length l)) l) + 4 * partCount size (length (drop (min size (length l)) l))
+        → length (laid k size (drop (min size (length l)) l)) ≡ length (drop (min size (length l)) l) + 4 * partCount size
+        (length (drop (min size (length l)) l))
         → length (laid k size l) ≡ length l + 4 * partCount size (length l)
     more l h r =
         let m = min size (length l) in

@@ -54,7 +54,8 @@ module _ (s next : List ℕ) (f : Floor) (w : Accepts s f) (c a b k : ℕ) (g : 
         let two : laneAt f (it .lane) + 4 + 2 ≡ f .places * 8 + (k - 1) * 7 + 4 + 2 = omega arith in
         let p = lane-byte s f w (it .lane) 1 l (omega arith) ∙ ap (λ (n : ℕ). getD s n 0) one in
         let q = lane-byte s f w (it .lane) 2 l (omega arith) ∙ ap (λ (n : ℕ). getD s n 0) two in
-        ap (λ (t : Bool). t && (eqb (getD (getD (lanesIn s) (it .lane) []) 1 0) b && bit c (getD (getD (lanesIn s) (it .lane) []) 2 0))) (eq-eqb _ _ (it .leaves-it))
+        ap (λ (t : Bool). t && (eqb (getD (getD (lanesIn s) (it .lane) []) 1 0) b && bit c (getD (getD (lanesIn s) (it .lane) []) 2 0)))
+        (eq-eqb _ _ (it .leaves-it))
         ∙ ap₂ (λ (x y : ℕ). eqb x b && bit c y) p q
 
     decided : (t answer : Bool) → t ≡ judged → t ≡ answer → isOpen (lanesIn s) c a b ≡ answer || isOpen (drop (suc (it .lane)) (lanesIn s)) c a b

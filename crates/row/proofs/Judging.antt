@@ -24,7 +24,8 @@ module _ (lanes : List (List ℕ)) (c start : ℕ) (row : List ℕ) (l : ℕ) wh
       record { within = omega arith; same = at-start lanes c row h l start e ∙ ap (λ (n : ℕ). lowestShut lanes c row h l n 0) q }
 
   -- the move out of step i, judged by where the next step is
-  module _ (i : ℕ) (w : Judging lanes c start row l i) (m : i < length row) (n : ℕ) (at : n ≡ nextStep (length row) l i) (t : Bool) (e : t ≡ isOpen lanes c (getD row i 0) (getD row n 0)) where
+  module _ (i : ℕ) (w : Judging lanes c start row l i) (m : i < length row) (n : ℕ) (at : n ≡ nextStep (length row) l i) (t : Bool)
+      (e : t ≡ isOpen lanes c (getD row i 0) (getD row n 0)) where
     move : (b : Bool) → t ≡ b → isOpen lanes c (getD row i 0) (getD row (nextStep (length row) l i) 0) ≡ b
     move b z = ap (λ (s : ℕ). isOpen lanes c (getD row i 0) (getD row s 0)) (sym at) ∙ sym e ∙ z
 

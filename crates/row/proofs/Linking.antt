@@ -22,7 +22,8 @@ pub record Linking (s : List ℕ) (start : ℕ) (first next : List ℕ) (j : ℕ
   pub wide-next : length next ≡ 1024
   pub chained : Chained (lanesIn s) first next j
 
-pub again : (s : List ℕ) (start : ℕ) (first next : List ℕ) (j from : ℕ) → Linking s start first next j → 0 < j → from ≡ getD s (start + (j - 1) * 7 + 4) 0 → from < 256
+pub again : (s : List ℕ) (start : ℕ) (first next : List ℕ) (j from : ℕ) → Linking s start first next j → 0 < j
+    → from ≡ getD s (start + (j - 1) * 7 + 4) 0 → from < 256
     → Linking s start (set first from (j - 1 + 1)) (set next (j - 1) (getD first from 0)) (j - 1)
 again s start first next j from w some e below =
     let f = w .floor in

@@ -82,10 +82,12 @@ module _ (lanes : List (List ℕ)) where
 
   -- no lane linked yet
   pub chained-none : (n : ℕ) → length lanes ≡ n → Chained lanes (replicate 256 0) (replicate 1024 0) n
-  chained-none n e a below = subst (λ (x : ℕ). Leads lanes (replicate 1024 0) a x n) (sym (getD-replicate 256 a 0 0 below)) (end (λ m p q. absurd (omega arith)))
+  chained-none n e a below =
+      subst (λ (x : ℕ). Leads lanes (replicate 1024 0) a x n) (sym (getD-replicate 256 a 0 0 below)) (end (λ m p q. absurd (omega arith)))
 
   -- one lane more in front
-  pub chained-more : (first next : List ℕ) (j from : ℕ) → Chained lanes first next (suc j) → j < length lanes → leaves lanes j ≡ from → from < length first → j < length next
+  pub chained-more : (first next : List ℕ) (j from : ℕ) → Chained lanes first next (suc j) → j < length lanes → leaves lanes j ≡ from
+      → from < length first → j < length next
       → Chained lanes (set first from (suc j)) (set next j (getD first from 0)) j
   chained-more first next j from ch l e room room′ a below = go (eqb a from) refl
     where
@@ -95,10 +97,13 @@ module _ (lanes : List (List ℕ)) where
       go : (t : Bool) → eqb a from ≡ t → Leads lanes (set next j (getD first from 0)) a (getD (set first from (suc j)) a 0) j
       go true q =
           let same : a ≡ from = eqb-true a from q in
-          let here : getD (set first from (suc j)) a 0 ≡ suc j = ap (λ (x : ℕ). getD (set first from (suc j)) x 0) same ∙ getD-set-same first from (suc j) 0 room in
-          let next-is : getD first a 0 ≡ getD (set next j (getD first from 0)) j 0 = ap (λ (x : ℕ). getD first x 0) same ∙ sym (getD-set-same next j (getD first from 0) 0 room′) in
+          let here : getD (set first from (suc j)) a 0 ≡ suc j =
+          ap (λ (x : ℕ). getD (set first from (suc j)) x 0) same ∙ getD-set-same first from (suc j) 0 room in
+          let next-is : getD first a 0 ≡ getD (set next j (getD first from 0)) j 0 =
+          ap (λ (x : ℕ). getD first x 0) same ∙ sym (getD-set-same next j (getD first from 0) 0 room′) in
           subst (λ (x : ℕ). Leads lanes (set next j (getD first from 0)) a x j) (sym here)
-          (link (omega arith) l (e ∙ sym same) (λ m x y. absurd (omega arith)) (subst (λ (x : ℕ). Leads lanes (set next j (getD first from 0)) a x (suc j)) next-is old))
+          (link (omega arith) l (e ∙ sym same) (λ m x y. absurd (omega arith))
+          (subst (λ (x : ℕ). Leads lanes (set next j (getD first from 0)) a x (suc j)) next-is old))
       go false q =
           let n : (a ≡ from → ⊥) = eqb-false a from q in
           subst (λ (x : ℕ). Leads lanes (set next j (getD first from 0)) a x j) (sym (getD-set-other first from a (suc j) 0 n))

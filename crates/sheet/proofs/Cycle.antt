@@ -70,9 +70,12 @@ module _ (inner : Bool) (k : Joint) (level : ℕ) (s : List ℕ) (at n left : �
 
   pub first-turn : (block : List ℕ) (r : Part) → Turns block r block r
   first-turn block r before long h =
-      subst (λ g. Chain (leafNodes inner) (leafFlat inner) (flat-size inner) (jointByte k) (jointOp k) (joint k) (flat-joint inner k) (links inner k level) s n left before g r block)
+      subst
+      (λ g. Chain (leafNodes inner) (leafFlat inner) (flat-size inner) (jointByte k) (jointOp k) (joint k) (flat-joint inner k)
+      (links inner k level) s n left before g r block)
       (sym (whole-is inner k level left (drop at s)))
-      (begun (leafNodes inner) (leafFlat inner) (flat-size inner) (jointByte k) (jointOp k) (joint k) (flat-joint inner k) (links inner k level) s n left before r block (drop at s) h)
+      (begun (leafNodes inner) (leafFlat inner) (flat-size inner) (jointByte k) (jointOp k) (joint k) (flat-joint inner k)
+      (links inner k level) s n left before r block (drop at s) h)
 
   module _ (before : List ℕ) (r : Part) (block : List ℕ) (w : Turn before r block) where
     pub turn-room : r .fault ≡ 0 → Room n left r
@@ -84,22 +87,27 @@ module _ (inner : Bool) (k : Joint) (level : ℕ) (s : List ℕ) (at n left : �
     module _ (i : ℕ) (op : OperatorAt s r (jointByte k) i) where
       pub turn-ended : length s ≤ i → PartIs (leafNodes inner) (leafFlat inner) s n left before r block (whole inner k level left (drop at s))
       turn-ended out =
-          ended (leafNodes inner) (leafFlat inner) (flat-size inner) (jointByte k) (jointOp k) (joint k) (flat-joint inner k) (links inner k level) s n left before
+          ended (leafNodes inner) (leafFlat inner) (flat-size inner) (jointByte k) (jointOp k) (joint k) (flat-joint inner k)
+          (links inner k level) s n left before
           (whole inner k level left (drop at s)) r block w i op out
 
       pub turn-spent : i < length s → r .left ≡ 0 → whole inner k level left (drop at s) ≡ no 14 (drop i s)
       turn-spent l z =
-          spent (leafNodes inner) (leafFlat inner) (flat-size inner) (jointByte k) (jointOp k) (joint k) (flat-joint inner k) (links inner k level) s n left before
+          spent (leafNodes inner) (leafFlat inner) (flat-size inner) (jointByte k) (jointOp k) (joint k) (flat-joint inner k)
+          (links inner k level) s n left before
           (whole inner k level left (drop at s)) r block w i op l z
 
       pub turn-on : i < length s → (0 < r .left) → length before ≡ 512 → n + left ≤ 128 → (p : Part) (late : List ℕ)
           → PartIs (leafNodes inner) (leafFlat inner) s (r .n) (r .left - 1) block p late (links inner k level (r .left - 1) (drop (i + 1) s))
-          → (q : Part) (after : List ℕ) → WithNode late p (twoByte (jointOp k) ∷ (r .n - 1) ∷ (p .n - 1) ∷ 0 ∷ []) q after → Turn before q after × (q .left < r .left)
+          → (q : Part) (after : List ℕ) → WithNode late p (twoByte (jointOp k) ∷ (r .n - 1) ∷ (p .n - 1) ∷ 0 ∷ []) q after → Turn before q after
+          × (q .left < r .left)
       turn-on l some long few p late next q after put =
           let e : i + 1 ≡ suc i = omega arith in
-          onward (leafNodes inner) (leafFlat inner) (flat-size inner) (jointByte k) (jointOp k) (joint k) (flat-joint inner k) (links inner k level) s n left before
+          onward (leafNodes inner) (leafFlat inner) (flat-size inner) (jointByte k) (jointOp k) (joint k) (flat-joint inner k)
+          (links inner k level) s n left before
           (whole inner k level left (drop at s)) r block w i op l (r .left - 1) (omega arith) long few p late
-          (subst (λ (j : ℕ). PartIs (leafNodes inner) (leafFlat inner) s (r .n) (r .left - 1) block p late (links inner k level (r .left - 1) (drop j s))) e next) q after put
+          (subst (λ (j : ℕ). PartIs (leafNodes inner) (leafFlat inner) s (r .n) (r .left - 1) block p late
+          (links inner k level (r .left - 1) (drop j s))) e next) q after put
 
   -- another part behind an operator: the block's length, and the nodes
   pub next-part : (r : Part) (block : List ℕ) (i : ℕ) (p : Part) (late : List ℕ)

@@ -27,7 +27,8 @@ bind-bind (no w t) f k = refl
 module _ {L : Type 0} (leafNodes : L → ℕ) (leafFlat : L → ℕ → List Node) (fl : (a : Form L) (b : ℕ) → length (flat leafNodes leafFlat a b) ≡ nodes leafNodes a)
     (c : ℕ) (o : Op₂) (mk : Form L → Form L → Form L)
     (flat-mk : (a d : Form L) (b : ℕ) → flat leafNodes leafFlat (mk a d) b
-    ≡ (flat leafNodes leafFlat a b ++ flat leafNodes leafFlat d (b + nodes leafNodes a)) ++ (twoN o ((b + nodes leafNodes a) - 1) (((b + nodes leafNodes a) + nodes leafNodes d) - 1) ∷ []))
+    ≡ (flat leafNodes leafFlat a b ++ flat leafNodes leafFlat d (b + nodes leafNodes a)) ++
+    (twoN o ((b + nodes leafNodes a) - 1) (((b + nodes leafNodes a) + nodes leafNodes d) - 1) ∷ []))
     (sub : Reader (Form L)) (s : List ℕ) where
   -- the parts so far, and that the rest of the chain gives the answer
   pub record Chain (n left : ℕ) (before : List ℕ) (g : Got (Form L)) (r : Part) (block : List ℕ) : Type 0 where
@@ -46,13 +47,15 @@ module _ {L : Type 0} (leafNodes : L → ℕ) (leafFlat : L → ℕ → List Nod
       go (got a m u) h = record { fuel = m; so-far = got a m u; part = h; same = refl; enough = omega (arith, h .allowed) }
       go (no w u) h = record { fuel = 0; so-far = no w u; part = h; same = refl; enough = omega (arith, h .none) }
 
-  module _ (n left : ℕ) (before : List ℕ) (g : Got (Form L)) (r : Part) (block : List ℕ) (w : Chain n left before g r block) (i : ℕ) (op : OperatorAt s r c i) where
+  module _ (n left : ℕ) (before : List ℕ) (g : Got (Form L)) (r : Part) (block : List ℕ) (w : Chain n left before g r block) (i : ℕ)
+      (op : OperatorAt s r c i) where
     -- no operator: the chain is what was read
     pub ended : length s ≤ i → PartIs leafNodes leafFlat s n left before r block g
     unfolding bind chainMore chainAt
     ended out = go (w .so-far) (w .part) (w .same)
       where
-        stop : (f : ℕ) (a : Form L) (m : ℕ) (t : List ℕ) → ((u : List ℕ) → skip t ≡ c ∷ u → ⊥) → (v : List ℕ) → skip t ≡ v → chainMore c mk sub f a m t ≡ got a m t
+        stop : (f : ℕ) (a : Form L) (m : ℕ) (t : List ℕ) → ((u : List ℕ) → skip t ≡ c ∷ u → ⊥) → (v : List ℕ) → skip t ≡ v
+            → chainMore c mk sub f a m t ≡ got a m t
         stop zero a m t none [] e = ap (chainAt c mk a m t _) e
         stop (suc f) a m t none [] e = ap (chainAt c mk a m t _) e
         stop f a m t none (b ∷ u) e = by (eqb b c) refl
@@ -73,18 +76,21 @@ module _ {L : Type 0} (leafNodes : L → ℕ) (leafFlat : L → ℕ → List Nod
     unfolding bind
     spent at zero-left = go (w .so-far) (w .part) (w .same)
       where
-        go : (x : Got (Form L)) → PartIs leafNodes leafFlat s n left before r block x → g ≡ bind x (λ a m t. chainMore c mk sub (w .fuel) a m t) → g ≡ no 14 (drop i s)
+        go : (x : Got (Form L)) → PartIs leafNodes leafFlat s n left before r block x → g ≡ bind x (λ a m t. chainMore c mk sub (w .fuel) a m t)
+            → g ≡ no 14 (drop i s)
         go (no v t) h e = absurd (h .some (op .read at))
         go (got a m t) h e =
             let z : m ≡ 0 = sym (h .allowed) ∙ zero-left in
-            e ∙ ap (λ (k : ℕ). chainMore c mk sub (w .fuel) a k t) z ∙ more-out c mk sub a t (w .fuel) (drop (suc i) s) (ap skip (sym (h .behind)) ∙ op .there at)
+            e ∙ ap (λ (k : ℕ). chainMore c mk sub (w .fuel) a k t) z
+            ∙ more-out c mk sub a t (w .fuel) (drop (suc i) s) (ap skip (sym (h .behind)) ∙ op .there at)
             ∙ ap (no 14) (sym (op .here at))
 
     -- the operator, another part and the operator's node
     module _ (at : i < length s) (k : ℕ) (some : r .left ≡ suc k) (long : length before ≡ 512) (few : n + left ≤ 128) (p : Part) (late : List ℕ)
         (next : PartIs leafNodes leafFlat s (r .n) k block p late (sub k (drop (suc i) s))) (q : Part) (after : List ℕ)
         (put : WithNode late p (twoByte o ∷ (r .n - 1) ∷ (p .n - 1) ∷ 0 ∷ []) q after) where
-      joined-left : (x : Got (Form L)) → PartIs leafNodes leafFlat s (r .n) k block p late x → (a : Form L) → PartIs leafNodes leafFlat s n left before q after (bind x (λ d m₂ t₂. got (mk a d) m₂ t₂)) → q .left ≤ k
+      joined-left : (x : Got (Form L)) → PartIs leafNodes leafFlat s (r .n) k block p late x → (a : Form L)
+          → PartIs leafNodes leafFlat s n left before q after (bind x (λ d m₂ t₂. got (mk a d) m₂ t₂)) → q .left ≤ k
       unfolding bind
       joined-left (no v t) h a z = omega (arith, z .none)
       joined-left (got d m t) h a z = omega (arith, z .allowed, h .allowed, h .kept, h .slots)
@@ -104,11 +110,17 @@ module _ {L : Type 0} (leafNodes : L → ℕ) (leafFlat : L → ℕ → List Nod
               step : (f : ℕ) → w .fuel ≡ f → Chain n left before g q after × (q .left < r .left)
               step zero z = absurd (omega (arith, w .enough))
               step (suc f) z =
-                  let here : Held leafNodes leafFlat s n left before r block a (suc k) t = subst (λ (j : ℕ). Held leafNodes leafFlat s n left before r block a j t) m-is h in
+                  let here : Held leafNodes leafFlat s n left before r block a (suc k) t =
+                  subst (λ (j : ℕ). Held leafNodes leafFlat s n left before r block a j t) m-is h in
                   let x = sub k (drop (suc i) s) in
                   let part = two-parts leafNodes leafFlat fl s o mk flat-mk n left before r block a k t here long few p late x next q after put in
                   let low = joined-left x next a part in
                   let same : g ≡ bind (bind x (λ d m₂ t₂. got (mk a d) m₂ t₂)) (λ a m t. chainMore c mk sub f a m t) =
                   e ∙ ap (λ (j : ℕ). chainMore c mk sub j a m t) z ∙ ap (λ (j : ℕ). chainMore c mk sub (suc f) a j t) m-is
-                  ∙ more-go c mk sub a t f k (drop (suc i) s) (ap skip (sym (h .behind)) ∙ op .there at) ∙ bind-bind x (mk a) (λ a m t. chainMore c mk sub f a m t) in
-                  (record { fuel = f; so-far = bind x (λ d m₂ t₂. got (mk a d) m₂ t₂); part = part; same = same; enough = omega (arith, low, w .enough) }, omega (arith, low))
+                  ∙ more-go c mk sub a t f k (drop (suc i) s) (ap skip (sym (h .behind)) ∙ op .there at)
+                  ∙ bind-bind x (mk a) (λ a m t. chainMore c mk sub f a m t) in (
+                    record
+                        { fuel = f; so-far = bind x (λ d m₂ t₂. got (mk a d) m₂ t₂); part = part; same = same; enough = omega (arith, low, w .enough) },
+                    omega
+                        (arith, low),
+                  )

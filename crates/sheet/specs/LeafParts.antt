@@ -35,17 +35,21 @@ module _ (s : List ℕ) (level left i : ℕ) (l : i < length s) where
   pub no-count : (getD s i 0 ≡ 91 → ⊥) → countLeaf ≡ no 13 (drop i s)
   unfolding countBy bind
   no-count n =
-      ap (λ (g : Got Threshold). bind g (λ x m t. got (Form.leaf x) m t)) (sees ∙ ap (λ (b : Bool). countBy level b left (getD s i 0) (drop (suc i) s)) (ne-eqb (getD s i 0) 91 n))
+      ap (λ (g : Got Threshold). bind g (λ x m t. got (Form.leaf x) m t))
+      (sees ∙ ap (λ (b : Bool). countBy level b left (getD s i 0) (drop (suc i) s)) (ne-eqb (getD s i 0) 91 n))
       ∙ ap (no 13) (sym (drop-cons s i 0 l))
 
   module _ (e : getD s i 0 ≡ 91) where
     begins : countLeaf ≡ bind (countBy level true left (getD s i 0) (drop (suc i) s)) (λ x m t. got (Form.leaf x) m t)
-    begins = ap (λ (g : Got Threshold). bind g (λ x m t. got (Form.leaf x) m t)) (sees ∙ ap (λ (b : Bool). countBy level b left (getD s i 0) (drop (suc i) s)) (eq-eqb (getD s i 0) 91 e))
+    begins =
+        ap (λ (g : Got Threshold). bind g (λ x m t. got (Form.leaf x) m t))
+        (sees ∙ ap (λ (b : Bool). countBy level b left (getD s i 0) (drop (suc i) s)) (eq-eqb (getD s i 0) 91 e))
 
     pub count-shut : level ≡ 0 → countLeaf ≡ no 14 (drop i s)
     unfolding countBy bind
     count-shut z =
-        begins ∙ ap (λ (d : ℕ). bind (countBy d true left (getD s i 0) (drop (suc i) s)) (λ x m t. got (Form.leaf x) m t)) z ∙ ap (no 14) (sym (drop-cons s i 0 l))
+        begins ∙ ap (λ (d : ℕ). bind (countBy d true left (getD s i 0) (drop (suc i) s)) (λ x m t. got (Form.leaf x) m t)) z
+        ∙ ap (no 14) (sym (drop-cons s i 0 l))
 
     module _ (d : ℕ) (deep : level ≡ suc d) where
       opened : countLeaf ≡ bind (countBy (suc d) true left (getD s i 0) (drop (suc i) s)) (λ x m t. got (Form.leaf x) m t)
@@ -54,7 +58,8 @@ module _ (s : List ℕ) (level left i : ℕ) (l : i < length s) where
       pub count-spent : left ≡ 0 → countLeaf ≡ no 14 (drop i s)
       unfolding countBy node bind
       count-spent z =
-          opened ∙ ap (λ (m : ℕ). bind (countBy (suc d) true m (getD s i 0) (drop (suc i) s)) (λ x m t. got (Form.leaf x) m t)) z ∙ ap (no 14) (sym (drop-cons s i 0 l))
+          opened ∙ ap (λ (m : ℕ). bind (countBy (suc d) true m (getD s i 0) (drop (suc i) s)) (λ x m t. got (Form.leaf x) m t)) z
+          ∙ ap (no 14) (sym (drop-cons s i 0 l))
 
       pub count-is : (m : ℕ) → left ≡ suc m → countLeaf ≡ countGot (ors (λ j. marks) d m (drop (suc i) s))
       unfolding countBy node inners

@@ -44,7 +44,8 @@ pub prefix-of : (b : ℕ) → (prefixKind b ≡ 0 → ⊥) → IsPrefix b
 unfolding prefixKind
 prefix-of b some = go (eqb b 33) (eqb b 88) (eqb b 70) (eqb b 71) refl refl refl refl refl
   where
-    go : (w x y z : Bool) → eqb b 33 ≡ w → eqb b 88 ≡ x → eqb b 70 ≡ y → eqb b 71 ≡ z → choose (eqb b 33) (eqb b 88) (eqb b 70) (eqb b 71) ≡ choose w x y z → IsPrefix b
+    go : (w x y z : Bool) → eqb b 33 ≡ w → eqb b 88 ≡ x → eqb b 70 ≡ y → eqb b 71 ≡ z
+        → choose (eqb b 33) (eqb b 88) (eqb b 70) (eqb b 71) ≡ choose w x y z → IsPrefix b
     go true x y z d e f g q = record { operator = not; byte = eqb-true b 33 d; node = q }
     go false true y z d e f g q = record { operator = next; byte = eqb-true b 88 e; node = q }
     go false false true z d e f g q = record { operator = finally; byte = eqb-true b 70 f; node = q }
@@ -59,7 +60,9 @@ other-byte b t p e =
     ∙ go (eqb b 33) (eqb b 88) (eqb b 70) (eqb b 71) e
   where
     rest : Kind
-    rest = pick (eqb b 33) (Kind.prefix not) (pick (eqb b 88) (Kind.prefix next) (pick (eqb b 70) (Kind.prefix finally) (pick (eqb b 71) (Kind.prefix globally) Kind.other)))
+    rest =
+        pick (eqb b 33) (Kind.prefix not)
+        (pick (eqb b 88) (Kind.prefix next) (pick (eqb b 70) (Kind.prefix finally) (pick (eqb b 71) (Kind.prefix globally) Kind.other)))
 
     go : (w x y z : Bool) → choose w x y z ≡ 0
         → pick w (Kind.prefix not) (pick x (Kind.prefix next) (pick y (Kind.prefix finally) (pick z (Kind.prefix globally) Kind.other))) ≡ Kind.other
@@ -114,9 +117,11 @@ module _ {L : Type 0} (leafNodes : L → ℕ) (leafFlat : L → ℕ → List Nod
 
     pub prefix-spent : (o : Prefix) → b ≡ prefixByte o → (d : ℕ) → l ≡ suc d → left ≡ 0 → smalls lf l left t ≡ no 14 (drop i s)
     unfolding node
-    prefix-spent o e d deep z = prefix-is o e d deep ∙ ap (λ (k : ℕ). node (drop i s) k (λ m. bind (smalls lf d m (drop (suc i) s)) (λ a m₁ r₁. got (prefixed o a) m₁ r₁))) z
+    prefix-spent o e d deep z =
+        prefix-is o e d deep ∙ ap (λ (k : ℕ). node (drop i s) k (λ m. bind (smalls lf d m (drop (suc i) s)) (λ a m₁ r₁. got (prefixed o a) m₁ r₁))) z
 
-    flat-prefixed : (o : Prefix) (a : Form L) (m : ℕ) → flat leafNodes leafFlat (prefixed o a) m ≡ flat leafNodes leafFlat a m ++ (oneN (prefixOp o) ((m + nodes leafNodes a) - 1) ∷ [])
+    flat-prefixed : (o : Prefix) (a : Form L) (m : ℕ)
+        → flat leafNodes leafFlat (prefixed o a) m ≡ flat leafNodes leafFlat a m ++ (oneN (prefixOp o) ((m + nodes leafNodes a) - 1) ∷ [])
     unfolding flat
     flat-prefixed not a m = refl
     flat-prefixed next a m = refl
@@ -128,21 +133,29 @@ module _ {L : Type 0} (leafNodes : L → ℕ) (leafFlat : L → ℕ → List Nod
         → (q : Part) (after : List ℕ) → WithNode mid r (oneByte (prefixOp o) ∷ (r .n - 1) ∷ 0 ∷ 0 ∷ []) q after → P q after (smalls lf l left t)
     unfolding node
     prefix-over o e d deep k some long few r mid h q after put =
-        let same = prefix-is o e d deep ∙ ap (λ (m : ℕ). node (drop i s) m (λ m. bind (smalls lf d m (drop (suc i) s)) (λ a m₁ r₁. got (prefixed o a) m₁ r₁))) some in
+        let same =
+        prefix-is o e d deep ∙ ap (λ (m : ℕ). node (drop i s) m (λ m. bind (smalls lf d m (drop (suc i) s)) (λ a m₁ r₁. got (prefixed o a) m₁ r₁))) some in
         subst (P q after) (sym same)
-        (subst (λ (m : ℕ). PartIs leafNodes leafFlat s n m before q after (bind (smalls lf d k (drop (suc i) s)) (λ a m₁ r₁. got (prefixed o a) m₁ r₁))) (sym some)
-        (one-part leafNodes leafFlat fl s (prefixOp o) (prefixed o) (flat-prefixed o) n k before r mid (smalls lf d k (drop (suc i) s)) q after h long (omega arith) put))
+        (subst
+        (λ (m : ℕ). PartIs leafNodes leafFlat s n m before q after (bind (smalls lf d k (drop (suc i) s)) (λ a m₁ r₁. got (prefixed o a) m₁ r₁)))
+        (sym some)
+        (one-part leafNodes leafFlat fl s (prefixOp o) (prefixed o) (flat-prefixed o) n k before r mid (smalls lf d k (drop (suc i) s)) q after h long
+        (omega arith) put))
 
     -- `true`
-    pub word-is : b ≡ 116 → (r : Part) (after : List ℕ) → LeafIs (λ (u : Unit {0}). topN) s n left before r after (wordGot s left i) → P r after (smalls lf l left t)
+    pub word-is : b ≡ 116 → (r : Part) (after : List ℕ) → LeafIs (λ (u : Unit {0}). topN) s n left before r after (wordGot s left i)
+        → P r after (smalls lf l left t)
     unfolding bind node flat
     word-is e r after h =
         let at : drop i s ≡ 116 ∷ drop (suc i) s = here ∙ ap (λ (x : ℕ). x ∷ drop (suc i) s) e in
         let same = small-true lf left t l (drop (suc i) s) (sym is ∙ at)
-        ∙ ap (λ (v : List ℕ). bind (literal {A = Unit {0}} (114 ∷ 117 ∷ 101 ∷ []) tt left (drop (suc i) s)) (λ u m r₁. node v m (λ m₁. got top m₁ r₁))) (sym at) in
+        ∙ ap
+        (λ (v : List ℕ). bind (literal {A = Unit {0}} (114 ∷ 117 ∷ 101 ∷ []) tt left (drop (suc i) s)) (λ u m r₁. node v m (λ m₁. got top m₁ r₁)))
+        (sym at) in
         subst (P r after) (sym same) (go (literal {A = Unit {0}} (114 ∷ 117 ∷ 101 ∷ []) tt left (drop (suc i) s)) h)
       where
-        noded : (m : ℕ) (u : List ℕ) → LeafIs (λ (u : Unit {0}). topN) s n left before r after (node (drop i s) m (λ m₁. got tt m₁ u)) → P r after (node (drop i s) m (λ m₁. got top m₁ u))
+        noded : (m : ℕ) (u : List ℕ) → LeafIs (λ (u : Unit {0}). topN) s n left before r after (node (drop i s) m (λ m₁. got tt m₁ u))
+            → P r after (node (drop i s) m (λ m₁. got top m₁ u))
         noded zero u k = k
         noded (suc m) u k = placed-part (λ (u : Unit {0}). topN) leafNodes leafFlat s n left before r after tt top m u refl k
 

@@ -48,7 +48,8 @@ module _ (s : List ℕ) (i : ℕ) (k : Num) (w : NumIs s k (number 0 (drop i s))
 
   module _ (e : k .ok ≡ true) (b : Bool) (p : ByteAt s (k .at) 37 b) where
     by : (P : Got (ℕ × Bool) → Type 0)
-        → ((v m : ℕ) → k .value ≡ min v 1000 → P (pick (leb v (most b)) (got (v, b) m (drop (cond b (k .at + 1) (k .at)) s)) (no 15 (drop i s)))) → P (limitGot s i)
+        → ((v m : ℕ) → k .value ≡ min v 1000 → P (pick (leb v (most b)) (got (v, b) m (drop (cond b (k .at + 1) (k .at)) s)) (no 15 (drop i s))))
+        → P (limitGot s i)
     unfolding bind
     by P f = go (number 0 (drop i s)) w
       where
@@ -62,16 +63,20 @@ module _ (s : List ℕ) (i : ℕ) (k : Num) (w : NumIs s k (number 0 (drop i s))
     limit-wide far r q =
         by (LimitIs s r)
         (λ v m z.
-        subst (λ (x : Bool). LimitIs s r (pick x (got (v, b) m (drop (cond b (k .at + 1) (k .at)) s)) (no 15 (drop i s)))) (sym (lt-leb v (most b) (omega arith)))
+        subst (λ (x : Bool). LimitIs s r (pick x (got (v, b) m (drop (cond b (k .at + 1) (k .at)) s)) (no 15 (drop i s))))
+        (sym (lt-leb v (most b) (omega arith)))
         (ap (λ (x : Limit). x .fault) q, ap (λ (x : Limit). drop (x .at) s) q, λ y. omega arith))
 
-    pub limit-read : k .value ≤ most b → (at : ℕ) → at ≡ cond b (k .at + 1) (k .at) → LimitIs s (record { fault = 0; at = at; value = k .value; percent = b }) (limitGot s i)
+    pub limit-read : k .value ≤ most b → (at : ℕ) → at ≡ cond b (k .at + 1) (k .at)
+        → LimitIs s (record { fault = 0; at = at; value = k .value; percent = b }) (limitGot s i)
     limit-read near at q =
         by (LimitIs s (record { fault = 0; at = at; value = k .value; percent = b }))
         (λ v m z.
         let f = few b in
         let same : k .value ≡ v = omega arith in
-        subst (λ (x : Bool). LimitIs s (record { fault = 0; at = at; value = k .value; percent = b }) (pick x (got (v, b) m (drop (cond b (k .at + 1) (k .at)) s)) (no 15 (drop i s))))
+        subst
+        (λ (x : Bool). LimitIs s (record { fault = 0; at = at; value = k .value; percent = b })
+        (pick x (got (v, b) m (drop (cond b (k .at + 1) (k .at)) s)) (no 15 (drop i s))))
         (sym (le-leb v (most b) (omega arith))) (refl, ap (λ (j : ℕ). drop j s) q, same, refl, omega arith))
 
 -- behind the number and its `%` is still in the text

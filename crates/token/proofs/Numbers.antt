@@ -15,12 +15,14 @@ use Rattle.token.specs.declared.Num.{Num}
 abbrev Good : List ℕ → ℕ → Num → Got ℕ → Type 0
 Good s from r g = NumIs s r g × (from ≤ length s → r .at ≤ length s)
 
-pub none : (s : List ℕ) (from at w : ℕ) (r : Num) (g : Got ℕ) → (from ≤ length s → at ≤ length s) → r ≡ record { value = 0; at = at; ok = false } → g ≡ no w (drop at s)
+pub none : (s : List ℕ) (from at w : ℕ) (r : Num) (g : Got ℕ) → (from ≤ length s → at ≤ length s) → r ≡ record { value = 0; at = at; ok = false }
+    → g ≡ no w (drop at s)
     → Good s from r g
 none s from at w r g l e q =
     subst (λ (x : Num). Good s from x g) (sym e) (subst (NumIs s (record { value = 0; at = at; ok = false })) (sym q) (refl, refl), l)
 
-pub some : (s : List ℕ) (from at k v n : ℕ) (r : Num) (g : Got ℕ) → (from ≤ length s → at ≤ length s) → r ≡ record { value = v; at = at; ok = true } → v ≡ min k 1000
+pub some : (s : List ℕ) (from at k v n : ℕ) (r : Num) (g : Got ℕ) → (from ≤ length s → at ≤ length s) → r ≡ record { value = v; at = at; ok = true }
+    → v ≡ min k 1000
     → g ≡ got k n (drop at s) → Good s from r g
 some s from at k v n r g l e m q =
     subst (λ (x : Num). Good s from x g) (sym e) (subst (NumIs s (record { value = v; at = at; ok = true })) (sym q) (refl, refl, m), l)

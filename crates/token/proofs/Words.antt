@@ -33,11 +33,14 @@ pub compared : (s : List ℕ) (j c : ℕ) → j < length s → ByteAt s j c (eqb
 compared s j c l = record {
   yes = λ e. drop-cons s j 0 l ∙ ap (λ (b : ℕ). b ∷ drop (suc j) s) (eqb-true (getD s j 0) c e);
   low = λ e. l;
-  no = λ e t q. let z : getD s j 0 ≡ c = heads (sym (drop-cons s j 0 l) ∙ q) in let y : true ≡ false = sym (eq-eqb (getD s j 0) c z) ∙ e in let x : _≡_ {A = ℕ} 0 1 = cc in omega arith;
+  no =
+      λ e t q. let z : getD s j 0 ≡ c = heads (sym (drop-cons s j 0 l) ∙ q) in let y : true ≡ false = sym (eq-eqb (getD s j 0) c z)
+      ∙ e in let x : _≡_ {A = ℕ} 0 1 = cc in omega arith;
 }
 
 -- a token refused at an offset
-pub refused-leaf : {A : Type 0} (node : A → Node) (s : List ℕ) (n left : ℕ) (before : List ℕ) (r : Part) (w i : ℕ) (g : Got A) → r ≡ record { fault = w; at = i; left = 0; n = 0 }
+pub refused-leaf : {A : Type 0} (node : A → Node) (s : List ℕ) (n left : ℕ) (before : List ℕ) (r : Part) (w i : ℕ) (g : Got A)
+    → r ≡ record { fault = w; at = i; left = 0; n = 0 }
     → (w ≡ 0 → ⊥) → i ≤ length s → g ≡ no w (drop i s) → LeafIs node s n left before r before g
 refused-leaf node s n left before r w i g e some l q =
     subst (LeafIs node s n left before r before) (sym q)
@@ -45,7 +48,8 @@ refused-leaf node s n left before r w i g e some l q =
 
 -- a token with its node
 pub placed-leaf : {A : Type 0} (node : A → Node) (s : List ℕ) (n left : ℕ) (before : List ℕ) (r : Part) (after : List ℕ) (x : A) (i : ℕ) (g : Got A)
-    → r ≡ record { fault = 0; at = i; left = left - 1; n = n + 1 } → 0 < left → i ≤ length s → after ≡ stored before (4 * n) (nodeBytes (node x)) → g ≡ got x (left - 1) (drop i s)
+    → r ≡ record { fault = 0; at = i; left = left - 1; n = n + 1 } → 0 < left → i ≤ length s → after ≡ stored before (4 * n) (nodeBytes (node x))
+    → g ≡ got x (left - 1) (drop i s)
     → LeafIs node s n left before r after g
 placed-leaf node s n left before r after x i g e some l b q =
     subst (LeafIs node s n left before r after) (sym q)
@@ -116,7 +120,8 @@ module _ (s : List ℕ) (left i : ℕ) where
 
         pub word-read : 0 < left → wordGot s left i ≡ got tt (left - 1) (drop (i + 4) s)
         unfolding node
-        word-read l = let q : left ≡ suc (left - 1) = omega arith in third ∙ ap (λ (m : ℕ). node {A = Unit {0}} (drop i s) m (λ m₁. got tt m₁ (drop (i + 4) s))) q
+        word-read l =
+            let q : left ≡ suc (left - 1) = omega arith in third ∙ ap (λ (m : ℕ). node {A = Unit {0}} (drop i s) m (λ m₁. got tt m₁ (drop (i + 4) s))) q
 
 -- a mark, by its number
 pub mark-off : (s : List ℕ) (left i : ℕ) → i < length s → (getD s i 0 ≡ 109 → ⊥) → marks left (drop i s) ≡ no 13 (drop i s)
@@ -149,7 +154,8 @@ module _ (s : List ℕ) (left i : ℕ) (l : i < length s) (is : getD s i 0 ≡ 1
 
   -- the number was read
   module _ (e : k .ok ≡ true) where
-    numbered : (P : Got ℕ → Type 0) → ((v : ℕ) → k .value ≡ min v 1000 → P (node (drop i s) left (λ m₁. pick (leb v 31) (got v m₁ (drop (k .at) s)) (no 15 (drop (i + 1) s)))))
+    numbered : (P : Got ℕ → Type 0)
+        → ((v : ℕ) → k .value ≡ min v 1000 → P (node (drop i s) left (λ m₁. pick (leb v 31) (got v m₁ (drop (k .at) s)) (no 15 (drop (i + 1) s)))))
         → P (marks left (drop i s))
     unfolding bind
     numbered P f = subst P (sym marked) (go (number 0 (drop (i + 1) s)) w)
@@ -161,7 +167,8 @@ module _ (s : List ℕ) (left i : ℕ) (l : i < length s) (is : getD s i 0 ≡ 1
     pub mark-spent : left ≡ 0 → marks left (drop i s) ≡ no 14 (drop i s)
     unfolding node
     mark-spent z =
-        numbered (λ g. g ≡ no 14 (drop i s)) (λ v q. ap (λ (m : ℕ). node (drop i s) m (λ m₁. pick (leb v 31) (got v m₁ (drop (k .at) s)) (no 15 (drop (i + 1) s)))) z)
+        numbered (λ g. g ≡ no 14 (drop i s))
+        (λ v q. ap (λ (m : ℕ). node (drop i s) m (λ m₁. pick (leb v 31) (got v m₁ (drop (k .at) s)) (no 15 (drop (i + 1) s)))) z)
 
     module _ (some : 0 < left) where
       one : left ≡ suc (left - 1)

@@ -36,7 +36,8 @@ module _ (a : Inner) (n : ℕ) (s : List ℕ) (i : ℕ) where
   abbrev limited : ℕ → Got Bool → Got (ℕ × Bool)
   limited k g = bind g (λ p m₁ r₁. pick (leb k (most p)) (got (k, p) m₁ r₁) (no 15 (drop i s)))
 
-  within : (k m : ℕ) (p : Bool) (r : List ℕ) → (x : Bool) → pick x (expect 93 (counted a k p) n r) (no 15 (drop i s)) ≡ thresholdBy a n (pick x (got (k, p) m r) (no 15 (drop i s)))
+  within : (k m : ℕ) (p : Bool) (r : List ℕ) → (x : Bool)
+      → pick x (expect 93 (counted a k p) n r) (no 15 (drop i s)) ≡ thresholdBy a n (pick x (got (k, p) m r) (no 15 (drop i s)))
   within k m p r true = refl
   within k m p r false = refl
 
@@ -70,7 +71,8 @@ module _ (s : List ℕ) (n left : ℕ) (before : List ℕ) (long : length before
   unfolding bind
   comma-missing some = go (bind g (λ a m₁ r₁. expect 44 a m₁ r₁)) comma
     where
-      go : (x : Got Inner) → PartIs markNodes flatMark s n left before p block x → C p block (bind (bind x (λ a m₁ r₁. threshold a m₁ (skip r₁))) (λ x m r₁. got (Form.leaf x) m r₁))
+      go : (x : Got Inner) → PartIs markNodes flatMark s n left before p block x
+          → C p block (bind (bind x (λ a m₁ r₁. threshold a m₁ (skip r₁))) (λ x m r₁. got (Form.leaf x) m r₁))
       go (no v t) k = k
       go (got a m t) k = absurd (some (k .fine))
 
@@ -81,7 +83,8 @@ module _ (s : List ℕ) (n left : ℕ) (before : List ℕ) (long : length before
     unfolding bind
     by P f = go (bind g (λ a m₁ r₁. expect 44 a m₁ r₁)) comma
       where
-        go : (x : Got Inner) → PartIs markNodes flatMark s n left before p block x → P (bind (bind x (λ a m₁ r₁. threshold a m₁ (skip r₁))) (λ x m r₁. got (Form.leaf x) m r₁))
+        go : (x : Got Inner) → PartIs markNodes flatMark s n left before p block x
+            → P (bind (bind x (λ a m₁ r₁. threshold a m₁ (skip r₁))) (λ x m r₁. got (Form.leaf x) m r₁))
         go (no v t) q = absurd (q .some fine)
         go (got a m t) q =
             let e : skip t ≡ drop i s = ap skip (sym (q .behind)) ∙ sym is in
@@ -105,7 +108,8 @@ module _ (s : List ℕ) (n left : ℕ) (before : List ℕ) (long : length before
     -- the number, the `]` and the count's node
     module _ (read : k .fault ≡ 0) (q : Part) (x : Expected s (record { fault = 0; at = k .at; left = p .left; n = p .n }) 93 q) (z : Part) (after : List ℕ)
         (put : WithNode block q (countByte (k .percent) ∷ (q .n - 1) ∷ k .value % 256 ∷ k .value / 256 ∷ []) z after) where
-      count-node : (a : Inner) (v : ℕ) (b : Bool) → flat countNodes flatCount (Form.leaf (counted a v b)) n ≡ flat markNodes flatMark a n ++ (countN ((n + nodes markNodes a) - 1) v b ∷ [])
+      count-node : (a : Inner) (v : ℕ) (b : Bool)
+          → flat countNodes flatCount (Form.leaf (counted a v b)) n ≡ flat markNodes flatMark a n ++ (countN ((n + nodes markNodes a) - 1) v b ∷ [])
       unfolding flat flatCount flatInner
       count-node a v b = refl
 
@@ -122,7 +126,8 @@ module _ (s : List ℕ) (n left : ℕ) (before : List ℕ) (long : length before
             block = size;
           }) refl put
 
-      closed : (a : Inner) (m : ℕ) (t : List ℕ) → Held markNodes flatMark s n left before p block a m t → (v : ℕ) (b : Bool) (u : List ℕ) → drop (k .at) s ≡ u → k .value ≡ v → k .percent ≡ b
+      closed : (a : Inner) (m : ℕ) (t : List ℕ) → Held markNodes flatMark s n left before p block a m t → (v : ℕ) (b : Bool) (u : List ℕ)
+          → drop (k .at) s ≡ u → k .value ≡ v → k .percent ≡ b
           → (r₁ : List ℕ) → skip u ≡ 93 ∷ r₁ → Held countNodes flatCount s n (suc left) before z after (Form.leaf (counted a v b)) m r₁
       closed a m t h′ v b u e ev eb r₁ y =
           let f = x .found refl r₁ (ap skip e ∙ y) in
@@ -132,8 +137,10 @@ module _ (s : List ℕ) (n left : ℕ) (before : List ℕ) (long : length before
           subst (λ (j : ℕ). WithNode block q (countByte b ∷ j ∷ v % 256 ∷ v / 256 ∷ []) z after) last
           (subst (λ (j : ℕ). WithNode block q (countByte b ∷ (q .n - 1) ∷ j % 256 ∷ j / 256 ∷ []) z after) ev
           (subst (λ (c : Bool). WithNode block q (countByte c ∷ (q .n - 1) ∷ k .value % 256 ∷ k .value / 256 ∷ []) z after) eb put)) in
-          put-behind countNodes flatCount clause-flat s n (suc left) before block q m r₁ (countN ((n + nodes markNodes a) - 1) v b) z after (flat markNodes flatMark a n)
-          (Form.leaf (counted a v b)) (count-node a v b) (f .0) (f .1) (x .inside) (f .2 ∙ h′ .allowed) (f .3 ∙ h′ .slots) (omega (arith, f .2, f .3, h′ .kept)) (h′ .block) long few node
+          put-behind countNodes flatCount clause-flat s n (suc left) before block q m r₁ (countN ((n + nodes markNodes a) - 1) v b) z after
+          (flat markNodes flatMark a n)
+          (Form.leaf (counted a v b)) (count-node a v b) (f .0) (f .1) (x .inside) (f .2 ∙ h′ .allowed) (f .3 ∙ h′ .slots)
+          (omega (arith, f .2, f .3, h′ .kept)) (h′ .block) long few node
 
       pub count-read : C z after (countGot g)
       unfolding bind expect expectAt
@@ -145,7 +152,9 @@ module _ (s : List ℕ) (n left : ℕ) (before : List ℕ) (long : length before
           go a m t h′ (got (v, b) m₁ u) y = at (skip u) refl
             where
               at : (o : List ℕ) → skip u ≡ o → C z after (bind (expectAt 93 (counted a v b) m o) (λ x m r₁. got (Form.leaf x) m r₁))
-              at [] e = subst (Refused s before z after 13) e (unclosed u (y .1) (λ t′ f. let c : [] ≡ 93 ∷ t′ = sym e ∙ f in let d : 0 ≡ suc (length t′) = ap length c in omega arith))
+              at [] e =
+                  subst (Refused s before z after 13) e
+                  (unclosed u (y .1) (λ t′ f. let c : [] ≡ 93 ∷ t′ = sym e ∙ f in let d : 0 ≡ suc (length t′) = ap length c in omega arith))
               at (c ∷ o) e = pick-byte (eqb c 93) refl
                 where
                   pick-byte : (x : Bool) → eqb c 93 ≡ x → C z after (bind (pick x (got (counted a v b) m o) (no 13 (c ∷ o))) (λ x m r₁. got (Form.leaf x) m r₁))

@@ -26,7 +26,8 @@ unfolding number
 number-any n [] = refl
 number-any n (b ∷ u) = go (eqb b 48) (isDigit b)
   where
-    go : (x y : Bool) → pick x (got 0 n u) (pick y (digits (b - 48) n u) (no 13 (b ∷ u))) ≡ relabel n (pick x (got 0 0 u) (pick y (digits (b - 48) 0 u) (no 13 (b ∷ u))))
+    go : (x y : Bool)
+        → pick x (got 0 n u) (pick y (digits (b - 48) n u) (no 13 (b ∷ u))) ≡ relabel n (pick x (got 0 0 u) (pick y (digits (b - 48) 0 u) (no 13 (b ∷ u))))
     go true y = refl
     go false true = digits-any (b - 48) n u
     go false false = refl

@@ -14,7 +14,8 @@ use Rattle.token.specs.Leaves.{Refused, Expected}
 use Rattle.token.specs.Parts.{Held, PartIs}
 use Rattle.token.specs.declared.Part.{Part}
 
-module _ {L : Type 0} (leafNodes : L → ℕ) (leafFlat : L → ℕ → List Node) (s : List ℕ) (n left : ℕ) (before : List ℕ) (r : Part) (block : List ℕ) (c : ℕ) (q : Part) (w : Expected s r c q) where
+module _ {L : Type 0} (leafNodes : L → ℕ) (leafFlat : L → ℕ → List Node) (s : List ℕ) (n left : ℕ) (before : List ℕ) (r : Part) (block : List ℕ)
+    (c : ℕ) (q : Part) (w : Expected s r c q) where
   -- the byte is not there
   absent : (a : Form L) (m : ℕ) (t u : List ℕ) → Held leafNodes leafFlat s n left before r block a m t → length block ≡ length before
       → skip t ≡ u → ((v : List ℕ) → skip t ≡ c ∷ v → ⊥) → Refused s before q block 13 u

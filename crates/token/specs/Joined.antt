@@ -62,7 +62,8 @@ stay s before mid early r node q after w t k long g =
       block = ap length b ∙ k .block ∙ long;
     }
 
-module _ {L : Type 0} (leafNodes : L → ℕ) (leafFlat : L → ℕ → List Node) (fl : (a : Form L) (b : ℕ) → length (flat leafNodes leafFlat a b) ≡ nodes leafNodes a) (s : List ℕ) where
+module _ {L : Type 0} (leafNodes : L → ℕ) (leafFlat : L → ℕ → List Node)
+    (fl : (a : Form L) (b : ℕ) → length (flat leafNodes leafFlat a b) ≡ nodes leafNodes a) (s : List ℕ) where
   abbrev N : Form L → ℕ
   N a = nodes leafNodes a
 
@@ -77,7 +78,8 @@ module _ {L : Type 0} (leafNodes : L → ℕ) (leafFlat : L → ℕ → List Nod
     pub put-behind : Held leafNodes leafFlat s n left before q after b m t
     put-behind =
         let e : q ≡ moreOne r = g .part ∙ ap (λ (b : Bool). cond b (moreOne r) r) (eq-eqb _ _ fine) in
-        let o : after ≡ stored mid (4 * r .n) (nodeBytes x) = g .block ∙ ap (λ (b : Bool). cond b (stored mid (4 * r .n) (nodeBytes x)) mid) (eq-eqb _ _ fine) in
+        let o : after ≡ stored mid (4 * r .n) (nodeBytes x) =
+        g .block ∙ ap (λ (b : Bool). cond b (stored mid (4 * r .n) (nodeBytes x)) mid) (eq-eqb _ _ fine) in
         let nq : q .n ≡ r .n + 1 = ap (λ (p : Part). p .n) e in
         let lq : q .left ≡ r .left = ap (λ (p : Part). p .left) e in
         let size = ap length is ∙ length-append ns (x ∷ []) in
@@ -98,7 +100,8 @@ module _ {L : Type 0} (leafNodes : L → ℕ) (leafFlat : L → ℕ → List Nod
   module _ (o : Op₁) (mk : Form L → Form L) (flat-mk : (a : Form L) (b : ℕ) → Fl (mk a) b ≡ Fl a b ++ (oneN o ((b + N a) - 1) ∷ [])) where
     pub one-part : (n left : ℕ) (before : List ℕ) (r : Part) (mid : List ℕ) (g : Got (Form L)) (q : Part) (after : List ℕ)
         → PartIs leafNodes leafFlat s n left before r mid g → length before ≡ 512 → n + suc left ≤ 128
-        → WithNode mid r (oneByte o ∷ (r .n - 1) ∷ 0 ∷ 0 ∷ []) q after → PartIs leafNodes leafFlat s n (suc left) before q after (bind g (λ a m t. got (mk a) m t))
+        → WithNode mid r (oneByte o ∷ (r .n - 1) ∷ 0 ∷ 0 ∷ []) q after
+        → PartIs leafNodes leafFlat s n (suc left) before q after (bind g (λ a m t. got (mk a) m t))
     unfolding bind
     one-part n left before r mid (no w t) q after h long few g = stay s before before mid r _ q after w t h refl g
     one-part n left before r mid (got a m t) q after h long few g =
@@ -109,13 +112,15 @@ module _ {L : Type 0} (leafNodes : L → ℕ) (leafFlat : L → ℕ → List Nod
   -- an operator over two
   module _ (o : Op₂) (mk : Form L → Form L → Form L)
       (flat-mk : (a c : Form L) (b : ℕ) → Fl (mk a c) b ≡ (Fl a b ++ Fl c (b + N a)) ++ (twoN o ((b + N a) - 1) (((b + N a) + N c) - 1) ∷ [])) where
-    pub two-parts : (n left : ℕ) (before : List ℕ) (r : Part) (mid : List ℕ) (a : Form L) (m : ℕ) (t : List ℕ) → Held leafNodes leafFlat s n left before r mid a (suc m) t
+    pub two-parts : (n left : ℕ) (before : List ℕ) (r : Part) (mid : List ℕ) (a : Form L) (m : ℕ) (t : List ℕ)
+        → Held leafNodes leafFlat s n left before r mid a (suc m) t
         → length before ≡ 512 → n + left ≤ 128 → (p : Part) (late : List ℕ) (g : Got (Form L)) → PartIs leafNodes leafFlat s (r .n) m mid p late g
         → (q : Part) (after : List ℕ) → WithNode late p (twoByte o ∷ (r .n - 1) ∷ (p .n - 1) ∷ 0 ∷ []) q after
         → PartIs leafNodes leafFlat s n left before q after (bind g (λ c m₂ t₂. got (mk a c) m₂ t₂))
     unfolding bind
     two-parts n left before r mid a m t h long few p late (no w t₂) k q after g =
-        stay s before mid late p _ q after w t₂ k (ap length (h .block) ∙ length-stored before (4 * n) (nodesBytes (Fl a n)) (omega (arith, length-nodes (Fl a n), h .slots, h .kept))) g
+        stay s before mid late p _ q after w t₂ k
+        (ap length (h .block) ∙ length-stored before (4 * n) (nodesBytes (Fl a n)) (omega (arith, length-nodes (Fl a n), h .slots, h .kept))) g
     two-parts n left before r mid a m t h long few p late (got c m₂ t₂) k q after g =
         let na = fl a n in
         let nc = fl c (r .n) in
@@ -130,9 +135,11 @@ module _ {L : Type 0} (leafNodes : L → ℕ) (leafFlat : L → ℕ → List Nod
         k .block ∙ ap₂ (λ (l : List ℕ) (i : ℕ). stored l (4 * i) (nodesBytes (Fl c (r .n)))) (h .block) (h .slots)
         ∙ ap (λ (l : List Node). stored (stored before (4 * n) (nodesBytes (Fl a n))) (4 * (n + length (Fl a n))) (nodesBytes l)) same
         ∙ stored-nodes before n (Fl a n) (Fl c (n + N a)) (omega (arith, h .slots, h .kept)) in
-        put-behind n left before late p m₂ t₂ (twoN o ((n + N a) - 1) (((n + N a) + N c) - 1)) q after ns (mk a c) (flat-mk a c n) (k .fine) (k .behind) (k .inside) (k .allowed)
+        put-behind n left before late p m₂ t₂ (twoN o ((n + N a) - 1) (((n + N a) + N c) - 1)) q after ns (mk a c) (flat-mk a c n) (k .fine)
+        (k .behind) (k .inside) (k .allowed)
         (omega (arith, k .slots)) (omega (arith, k .kept, h .kept, h .allowed)) both long few
-        (subst (λ (j : ℕ). WithNode late p (twoByte o ∷ ((n + N a) - 1) ∷ j ∷ 0 ∷ []) q after) last (subst (λ (i : ℕ). WithNode late p (twoByte o ∷ i ∷ (p .n - 1) ∷ 0 ∷ []) q after) first g))
+        (subst (λ (j : ℕ). WithNode late p (twoByte o ∷ ((n + N a) - 1) ∷ j ∷ 0 ∷ []) q after) last
+        (subst (λ (i : ℕ). WithNode late p (twoByte o ∷ i ∷ (p .n - 1) ∷ 0 ∷ []) q after) first g))
 
   -- the block keeps its length
   pub part-length : (n left : ℕ) (before : List ℕ) (r : Part) (block : List ℕ) (g : Got (Form L)) → PartIs leafNodes leafFlat s n left before r block g

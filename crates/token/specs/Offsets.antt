@@ -22,7 +22,8 @@ module _ (s : List ℕ) (i : ℕ) where
   skip-stop h n = let e = drop-cons s i 0 h in ap skip e ∙ skip-at (getD s i 0) (drop (suc i) s) n ∙ sym e
 
   pub skip-on : i < length s → getD s i 0 ≡ 32 → skip (drop (i + 1) s) ≡ skip (drop i s)
-  skip-on h e = ap (λ (j : ℕ). skip (drop j s)) (add-one i) ∙ sym (ap skip (drop-cons s i 0 h ∙ ap (λ (b : ℕ). b ∷ drop (suc i) s) e) ∙ skip-space (drop (suc i) s))
+  skip-on h e =
+      ap (λ (j : ℕ). skip (drop j s)) (add-one i) ∙ sym (ap skip (drop-cons s i 0 h ∙ ap (λ (b : ℕ). b ∷ drop (suc i) s) e) ∙ skip-space (drop (suc i) s))
 
 module _ (s : List ℕ) (i : ℕ) where
   pub digits-end-at : (v : ℕ) → length s ≤ i → digits v 0 (drop i s) ≡ got v 0 (drop i s)
@@ -34,14 +35,17 @@ module _ (s : List ℕ) (i : ℕ) where
 
   pub digits-on-at : (v : ℕ) → i < length s → isDigit (getD s i 0) ≡ true → digits v 0 (drop i s) ≡ digits (v * 10 + (getD s i 0 - 48)) 0 (drop (i + 1) s)
   digits-on-at v h n =
-      ap (digits v 0) (drop-cons s i 0 h) ∙ digits-on v 0 (getD s i 0) (drop (suc i) s) n ∙ sym (ap (λ (j : ℕ). digits (v * 10 + (getD s i 0 - 48)) 0 (drop j s)) (add-one i))
+      ap (digits v 0) (drop-cons s i 0 h) ∙ digits-on v 0 (getD s i 0) (drop (suc i) s) n
+      ∙ sym (ap (λ (j : ℕ). digits (v * 10 + (getD s i 0 - 48)) 0 (drop j s)) (add-one i))
 
   pub number-end-at : length s ≤ i → number 0 (drop i s) ≡ no 13 (drop i s)
   unfolding number
   number-end-at h = let e = drop-of-length-le s h in ap (number 0) e ∙ sym (ap (no 13) e)
 
   pub number-nought-at : i < length s → getD s i 0 ≡ 48 → number 0 (drop i s) ≡ got 0 0 (drop (i + 1) s)
-  number-nought-at h e = ap (number 0) (drop-cons s i 0 h ∙ ap (λ (b : ℕ). b ∷ drop (suc i) s) e) ∙ number-nought 0 (drop (suc i) s) ∙ sym (ap (λ (j : ℕ). got 0 0 (drop j s)) (add-one i))
+  number-nought-at h e =
+      ap (number 0) (drop-cons s i 0 h ∙ ap (λ (b : ℕ). b ∷ drop (suc i) s) e) ∙ number-nought 0 (drop (suc i) s)
+      ∙ sym (ap (λ (j : ℕ). got 0 0 (drop j s)) (add-one i))
 
   pub number-off-at : i < length s → isDigit (getD s i 0) ≡ false → number 0 (drop i s) ≡ no 13 (drop i s)
   number-off-at h n = let e = drop-cons s i 0 h in ap (number 0) e ∙ number-off 0 (getD s i 0) (drop (suc i) s) n ∙ sym (ap (no 13) e)

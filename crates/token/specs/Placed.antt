@@ -23,8 +23,10 @@ refused-at s before r block w i e some l b = record {
   block = b;
 }
 
-pub placed-part : {A L : Type 0} (node : A → Node) (leafNodes : L → ℕ) (leafFlat : L → ℕ → List Node) (s : List ℕ) (n left : ℕ) (before : List ℕ) (r : Part) (after : List ℕ)
-    (x : A) (a : Form L) (m : ℕ) (t : List ℕ) → flat leafNodes leafFlat a n ≡ node x ∷ [] → Placed node s n left before r after x m t → Held leafNodes leafFlat s n left before r after a m t
+pub placed-part : {A L : Type 0} (node : A → Node) (leafNodes : L → ℕ) (leafFlat : L → ℕ → List Node) (s : List ℕ) (n left : ℕ) (before : List ℕ)
+    (r : Part) (after : List ℕ)
+    (x : A) (a : Form L) (m : ℕ) (t : List ℕ) → flat leafNodes leafFlat a n ≡ node x ∷ [] → Placed node s n left before r after x m t
+    → Held leafNodes leafFlat s n left before r after a m t
 placed-part node leafNodes leafFlat s n left before r after x a m t e h = record {
   fine = h .fine;
   behind = h .behind;

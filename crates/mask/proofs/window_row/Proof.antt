@@ -34,8 +34,11 @@ loop-again c =
     let a = c .before .before .before .args in
     let v = c .before .before .loop in
     let n = c .next-row in
-    let one-more : suc (a .d - v .left) ≡ a .d - (v .left - 1) = omega arith in
-    (omega arith, subst (λ (i : ℕ). Staying (a .h) (a .l) (a .a) i (n .result) (bitAnd (n .result) (v .all))) one-more (again (a .h) (a .l) (omega arith) (a .a) (a .d - v .left) (v .here) (v .all) (n .result) (v .inv .1) (n .ensures)))
+    let one-more : suc (a .d - v .left) ≡ a .d - (v .left - 1) = omega arith in (
+      omega arith,
+      subst (λ (i : ℕ). Staying (a .h) (a .l) (a .a) i (n .result) (bitAnd (n .result) (v .all))) one-more
+          (again (a .h) (a .l) (omega arith) (a .a) (a .d - v .left) (v .here) (v .all) (n .result) (v .inv .1) (n .ensures)),
+    )
 
 returns : tie.Need-returns Inv-loop μ-loop
 returns c =

@@ -18,7 +18,9 @@ use Rattle.plan.proofs.read.Reads as read-reads
 use Rattle.refusal.proofs.accepts.Reads as accepts-reads
 
 -- the plan is accepted, by the test of its verdict
-read-it : (c : tie.Else1) → Accepts (c .before .before .before .before .before .args .floor .now) (c .before .before .before .before .before .args .plan .now) (c .before .before .read .result)
+read-it : (c : tie.Else1)
+    → Accepts (c .before .before .before .before .before .args .floor .now) (c .before .before .before .before .before .args .plan .now)
+    (c .before .before .read .result)
 read-it c = accepts-if _ _ _ (c .before .before .read .ensures) (sym (c .before .accepts .ensures) ∙ not-is _ false (c .if1 .left))
 
 -- src/lib.rt:93:9
@@ -32,7 +34,10 @@ accepts-requires c κs = search needs
 -- src/lib.rt:96:9
 returns : tie.Need-returns
 unfolding checkedMoves
-returns c = promise _ _ _ (sym (after-refused (λ v. v) (movesVerdict (c .before .before .before .before .before .args .floor .now)) _ _ _ (c .before .before .read .ensures .answer) (sym (c .before .accepts .ensures) ∙ not-is _ true (c .if1 .taken))))
+returns c =
+    promise _ _ _
+    (sym (after-refused (λ v. v) (movesVerdict (c .before .before .before .before .before .args .floor .now)) _ _ _
+    (c .before .before .read .ensures .answer) (sym (c .before .accepts .ensures) ∙ not-is _ true (c .if1 .taken))))
 
 -- src/lib.rt:100:40
 slice-aggregate-judge-plan : tie.Need-slice-aggregate-judge-plan
@@ -52,7 +57,10 @@ unfolding checkedMoves
 returns-2 c =
     let w = read-it (c .before .before .before .before) in
     let floor = c .before .before .before .before .before .before .before .before .before .args .floor .now in
-    promise _ _ _ (c .judge-plan .ensures ∙ ap (λ (n : Numbers). judgedCarts floor n (c .before .before .before .before .before .before .read .result .floor .carts) 0) (held-numbers _ _ _ w) ∙ sym (after-accepted (λ v. v) (movesVerdict floor) _ _ _ w))
+    promise _ _ _
+    (c .judge-plan .ensures ∙ ap
+    (λ (n : Numbers). judgedCarts floor n (c .before .before .before .before .before .before .read .result .floor .carts) 0)
+    (held-numbers _ _ _ w) ∙ sym (after-accepted (λ v. v) (movesVerdict floor) _ _ _ w))
 
 pub check-spec : {M : Type 1} → statement M
 check-spec =

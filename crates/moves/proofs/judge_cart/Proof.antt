@@ -45,14 +45,30 @@ shared-slice-read-judge-moves-2 c =
 judge-moves-requires : tie.Need-judge-moves-requires
 judge-moves-requires c κs =
     let p = c .before .before .before .before .before .before .pre in
-    let a = c .before .before .before .before .before .before .args in
-    (p .0, (p .1 .0, (subst (λ (x : ℕ). x < 8) (class-at (a .s .now) (a .f) (p .0) (a .c) (p .1 .1 .0) _ (omega arith)) (class-low (a .s .now) (a .f) (p .0) (a .c) (p .1 .1 .0)), p .1 .1 .1)))
+    let a = c .before .before .before .before .before .before .args in (
+      p .0,
+      (
+        p .1 .0,
+        (
+          subst (λ (x : ℕ). x < 8) (class-at (a .s .now) (a .f) (p .0) (a .c) (p .1 .1 .0) _ (omega arith))
+              (class-low (a .s .now) (a .f) (p .0) (a .c) (p .1 .1 .0)),
+          p .1 .1 .1,
+        ),
+      ),
+    )
 
 verdict-of-requires : tie.Need-verdict-of-requires
 verdict-of-requires c κs =
     let p = c .before .before .before .before .before .before .before .pre in
-    let a = c .before .before .before .before .before .before .before .args in
-    (omega (arith, p .1 .1 .0, p .0 .valid .few-carts), λ s e. omega (arith, refused-step (lanesIn (a .s .now)) _ (a .row .now) (length (a .row .now)) (a .stem) _ s (sym (c .judge-moves .ensures) ∙ e) .1 .below, p .1 .1 .2))
+    let a = c .before .before .before .before .before .before .before .args in (
+      omega (arith, p .1 .1 .0, p .0 .valid .few-carts),
+      λ s e. omega (
+        arith,
+        refused-step (lanesIn (a .s .now)) _ (a .row .now) (length (a .row .now))
+            (a .stem) _ s (sym (c .judge-moves .ensures) ∙ e) .1 .below,
+        p .1 .1 .2,
+      ),
+    )
 
 returns : tie.Need-returns
 returns c =
@@ -61,7 +77,9 @@ returns c =
     let at = a .f .places * 8 + a .f .lanes * 7 + a .c * 6 + 4 in
     let k = class-at (a .s .now) (a .f) (p .0) (a .c) (p .1 .1 .0) at refl in
     let s = start-at (a .s .now) (a .f) (p .0) (a .c) (p .1 .1 .0) at refl in
-    c .verdict-of .ensures ∙ ap (verdictOf (a .c)) (c .before .judge-moves .ensures ∙ sym (ap₂ (λ (x y : ℕ). judgedMoves (lanesIn (a .s .now)) x y (a .row .now) (length (a .row .now)) (a .stem)) k s))
+    c .verdict-of .ensures
+    ∙ ap (verdictOf (a .c))
+    (c .before .judge-moves .ensures ∙ sym (ap₂ (λ (x y : ℕ). judgedMoves (lanesIn (a .s .now)) x y (a .row .now) (length (a .row .now)) (a .stem)) k s))
 
 pub judge-cart-spec : {M : Type 1} → statement M
 judge-cart-spec =

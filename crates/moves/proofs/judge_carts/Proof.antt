@@ -24,22 +24,29 @@ mul-from : tie.Need-mul-from Inv-loop μ-loop
 mul-from c = omega (arith, c .if1 .taken, c .before .before .before .before .before .pre .0 .valid .few-carts)
 
 add-end : tie.Need-add-end Inv-loop μ-loop
-add-end c = omega (arith, c .if1 .taken, c .before .before .before .before .before .pre .0 .valid .few-carts, c .before .before .before .before .before .pre .1 .1 .1)
+add-end c =
+    omega (arith, c .if1 .taken, c .before .before .before .before .before .pre .0 .valid .few-carts, c .before .before .before .before .before .pre .1 .1 .1)
 
 sub-judge-cart : tie.Need-sub-judge-cart Inv-loop μ-loop
 sub-judge-cart c = omega arith
 
 part-judge-cart-start : tie.Need-part-judge-cart-start Inv-loop μ-loop
-part-judge-cart-start c = omega (arith, c .if1 .taken, c .before .before .before .before .before .pre .0 .valid .few-carts, c .before .before .before .before .before .pre .1 .1 .1, c .before .before .before .before .before .pre .1 .1 .2)
+part-judge-cart-start c =
+    omega
+    (arith, c .if1 .taken, c .before .before .before .before .before .pre .0 .valid .few-carts, c .before .before .before .before .before .pre .1 .1 .1, c .before .before .before .before .before .pre .1 .1 .2)
 
 part-judge-cart-end : tie.Need-part-judge-cart-end Inv-loop μ-loop
-part-judge-cart-end c = omega (arith, c .if1 .taken, c .before .before .before .before .before .pre .0 .valid .few-carts, c .before .before .before .before .before .pre .1 .1 .1, c .before .before .before .before .before .pre .1 .1 .2)
+part-judge-cart-end c =
+    omega
+    (arith, c .if1 .taken, c .before .before .before .before .before .pre .0 .valid .few-carts, c .before .before .before .before .before .pre .1 .1 .1, c .before .before .before .before .before .pre .1 .1 .2)
 
 judge-cart-requires : tie.Need-judge-cart-requires Inv-loop μ-loop
 judge-cart-requires c κs =
     let p = c .before .before .before .before .before .before .pre in
     let a = c .before .before .before .before .before .before .args in
-    let e = part-length (a .h .steps) (a .block .now) (c .before .before .before .loop .c) (omega (arith, c .before .if1 .taken, p .0 .valid .few-carts)) (p .1 .1 .1) (p .1 .1 .2) in
+    let e =
+    part-length (a .h .steps) (a .block .now) (c .before .before .before .loop .c) (omega (arith, c .before .if1 .taken, p .0 .valid .few-carts))
+    (p .1 .1 .1) (p .1 .1 .2) in
     (p .0, (p .1 .0, (omega (arith, c .before .if1 .taken), omega (arith, p .1 .1 .0, e), omega (arith, p .1 .1 .1, e))))
 
 accepts-requires : tie.Need-accepts-requires Inv-loop μ-loop
@@ -49,7 +56,9 @@ returns : tie.Need-returns Inv-loop μ-loop
 returns c =
     let p = c .before .before .before .before .before .before .before .before .before .pre in
     let a = c .before .before .before .before .before .before .before .before .before .args in
-    refused (a .f .carts) (a .h) (a .block .now) (c .before .before .before .before .before .before .loop .c) (p .0 .valid .few-carts) (omega (arith, c .before .before .before .before .if1 .taken)) (p .1 .1 .1) (p .1 .1 .2) (a .s .now) (c .before .before .before .before .before .before .loop .inv)
+    refused (a .f .carts) (a .h) (a .block .now) (c .before .before .before .before .before .before .loop .c) (p .0 .valid .few-carts)
+    (omega (arith, c .before .before .before .before .if1 .taken)) (p .1 .1 .1) (p .1 .1 .2) (a .s .now)
+    (c .before .before .before .before .before .before .loop .inv)
     (c .before .before .judge-cart .result) (c .before .before .judge-cart .ensures) (c .before .accepts .result) (c .before .accepts .ensures) (c .if2 .taken)
 
 add-c : tie.Need-add-c Inv-loop μ-loop
@@ -62,14 +71,18 @@ loop-again : tie.Need-loop-again Inv-loop μ-loop
 loop-again c =
     let p = c .before .before .before .before .before .before .before .before .before .pre in
     let a = c .before .before .before .before .before .before .before .before .before .args in
-    onward (a .f .carts) (a .h) (a .block .now) (c .before .before .before .before .before .before .loop .c) (p .0 .valid .few-carts) (omega (arith, c .before .before .before .before .if1 .taken)) (p .1 .1 .1) (p .1 .1 .2) (a .s .now) (c .before .before .before .before .before .before .loop .inv)
+    onward (a .f .carts) (a .h) (a .block .now) (c .before .before .before .before .before .before .loop .c) (p .0 .valid .few-carts)
+    (omega (arith, c .before .before .before .before .if1 .taken)) (p .1 .1 .1) (p .1 .1 .2) (a .s .now)
+    (c .before .before .before .before .before .before .loop .inv)
     (c .before .before .judge-cart .result) (c .before .before .judge-cart .ensures) (c .before .accepts .result) (c .before .accepts .ensures) (c .if2 .left)
 
 returns-2 : tie.Need-returns-2 Inv-loop μ-loop
 returns-2 c =
     let a = c .before .before .before .before .before .args in
     let w = c .before .before .loop .inv in
-    sym (w .same ∙ carts-passed (a .s .now) (heldNumbers (a .f .carts) (a .h) (a .block .now)) (a .f .carts) (c .before .before .loop .c) (omega (arith, c .if1 .left)))
+    sym
+    (w .same ∙ carts-passed (a .s .now) (heldNumbers (a .f .carts) (a .h) (a .block .now)) (a .f .carts) (c .before .before .loop .c)
+    (omega (arith, c .if1 .left)))
 
 pub judge-carts-spec : {M : Type 1} → statement M
 judge-carts-spec =

@@ -25,7 +25,8 @@ same-length c = search needs
 returns : tie.Need-returns
 returns c =
     let a = c .before .before .before .before .before .before .args in
-    ap (λ (x : List ℕ). take (a .at) (a .out .now) ++ (x ++ drop (length (a .out .now) - a .at) (drop (a .at) (a .out .now)))) (c .before .before .copy .ensures .1)
+    ap (λ (x : List ℕ). take (a .at) (a .out .now) ++ (x ++ drop (length (a .out .now) - a .at) (drop (a .at) (a .out .now))))
+    (c .before .before .copy .ensures .1)
     ∙ stored-part (a .out .now) (a .at) (a .src .now) (c .before .before .before .before .before .before .pre)
 
 pub copy-at-spec : {M : Type 1} → statement M

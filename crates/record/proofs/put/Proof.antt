@@ -59,11 +59,17 @@ same-length c = search needs
 returns : tie.Need-returns
 returns c =
     let a = c .before .before .before .before .before .before .before .before .before .before .before .before .before .args in
-    let h : a .at + 4 ≤ length (a .out .now) = omega (arith, c .before .before .before .before .before .before .before .before .before .before .before .before .before .pre) in
+    let h : a .at + 4 ≤ length (a .out .now) =
+    omega (arith, c .before .before .before .before .before .before .before .before .before .before .before .before .before .pre) in
     c .before .before .copy-at2 .ensures
     ∙ ap (λ (x : List ℕ). stored x (a .at + 4) (a .body .now)) (c .before .before .before .before .before .before .copy-at .ensures)
-    ∙ stored-more (a .out .now) (a .at) (header (c .before .before .before .before .before .before .before .before .before .before .bytes16 .result) (c .before .before .before .before .before .before .before .before .before .bytes162 .result)) (a .body .now) h
-    ∙ ap (stored (a .out .now) (a .at)) (whole (a .kind) (a .body .now) _ _ (c .before .before .before .before .before .before .before .before .before .before .bytes16 .ensures) (c .before .before .before .before .before .before .before .before .before .bytes162 .ensures))
+    ∙ stored-more (a .out .now) (a .at)
+    (header (c .before .before .before .before .before .before .before .before .before .before .bytes16 .result)
+    (c .before .before .before .before .before .before .before .before .before .bytes162 .result))
+    (a .body .now) h
+    ∙ ap (stored (a .out .now) (a .at))
+    (whole (a .kind) (a .body .now) _ _ (c .before .before .before .before .before .before .before .before .before .before .bytes16 .ensures)
+    (c .before .before .before .before .before .before .before .before .before .bytes162 .ensures))
 
 pub put-spec : {M : Type 1} → statement M
 put-spec =

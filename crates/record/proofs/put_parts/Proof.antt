@@ -14,8 +14,13 @@ abbrev μ-loop : tie.MeasureT-loop
 μ-loop out₀ at kind size bodies next₀ i₀ out next i = length bodies - i
 
 -- the part that a turn writes
-there : (c : tie.After-part-end Inv-loop μ-loop) → PartAt (c .before .before .before .before .before .args .size) (c .before .before .before .before .before .args .bodies .now) (c .before .before .loop .i) (c .part-end .result)
-there c = part-at (c .before .before .before .before .before .args .size) (c .before .before .before .before .before .args .bodies .now) (c .before .before .loop .i) (c .part-end .result) (c .before .before .before .before .before .pre .0) (c .before .loop-test .taken) (c .part-end .ensures)
+there : (c : tie.After-part-end Inv-loop μ-loop)
+    → PartAt (c .before .before .before .before .before .args .size) (c .before .before .before .before .before .args .bodies .now)
+    (c .before .before .loop .i) (c .part-end .result)
+there c =
+    part-at (c .before .before .before .before .before .args .size) (c .before .before .before .before .before .args .bodies .now)
+    (c .before .before .loop .i) (c .part-end .result) (c .before .before .before .before .before .pre .0) (c .before .loop-test .taken)
+    (c .part-end .ensures)
 
 loop-holds : tie.Need-loop-holds Inv-loop μ-loop
 loop-holds c =
@@ -44,13 +49,22 @@ put-requires : tie.Need-put-requires Inv-loop μ-loop
 put-requires c κs =
     let a = c .before .before .before .before .before .before .before .args in
     let p = there (c .before .before) in
-    let f = fits (a .out .now) (a .at) (a .kind) (a .size) (a .bodies .now) (c .before .before .before .before .before .before .before .pre .2) _ _ _ _ (c .before .before .before .before .loop .inv .1) p in
+    let f =
+    fits (a .out .now) (a .at) (a .kind) (a .size) (a .bodies .now) (c .before .before .before .before .before .before .before .pre .2) _ _ _ _
+    (c .before .before .before .before .loop .inv .1) p in
     (omega arith, f)
 
 add-next : tie.Need-add-next Inv-loop μ-loop
 add-next c =
     let a = c .before .before .before .before .before .before .before .before .before .before .args in
-    omega (arith, fits (a .out .now) (a .at) (a .kind) (a .size) (a .bodies .now) (c .before .before .before .before .before .before .before .before .before .before .pre .2) _ _ _ _ (c .before .before .before .before .before .before .before .loop .inv .1) (there (c .before .before .before .before .before)), c .before .before .before .before .before .before .before .loop .inv .0)
+    omega (
+      arith,
+      fits (a .out .now) (a .at) (a .kind) (a .size) (a .bodies .now)
+          (c .before .before .before .before .before .before .before .before .before .before .pre .2) _ _ _ _
+          (c .before .before .before .before .before .before .before .loop .inv .1)
+          (there (c .before .before .before .before .before)),
+      c .before .before .before .before .before .before .before .loop .inv .0,
+    )
 
 sub-next : tie.Need-sub-next Inv-loop μ-loop
 sub-next c =
@@ -61,7 +75,13 @@ add-next-2 : tie.Need-add-next-2 Inv-loop μ-loop
 add-next-2 c =
     let a = c .before .before .before .before .before .before .before .before .before .before .args in
     let p = there (c .before .before .before .before .before) in
-    omega (arith, fits (a .out .now) (a .at) (a .kind) (a .size) (a .bodies .now) (c .before .before .before .before .before .before .before .before .before .before .pre .2) _ _ _ _ (c .before .before .before .before .before .before .before .loop .inv .1) p, c .before .before .before .before .before .before .before .loop .inv .0)
+    omega (
+      arith,
+      fits (a .out .now) (a .at) (a .kind) (a .size) (a .bodies .now)
+          (c .before .before .before .before .before .before .before .before .before .before .pre .2) _ _ _ _
+          (c .before .before .before .before .before .before .before .loop .inv .1) p,
+      c .before .before .before .before .before .before .before .loop .inv .0,
+    )
 
 loop-less : tie.Need-loop-less Inv-loop μ-loop
 loop-less c =
@@ -72,7 +92,10 @@ loop-again : tie.Need-loop-again Inv-loop μ-loop
 loop-again c =
     let a = c .before .before .before .before .before .before .before .before .before .before .args in (
       c .before .before .put .kept .0 ∙ c .before .before .before .before .before .before .before .loop .inv .0,
-      again (a .out .now) (a .at) (a .kind) (a .size) (a .bodies .now) (c .before .before .before .before .before .before .before .before .before .before .pre .2) _ _ _ _ (c .before .before .before .before .before .before .before .loop .inv .1) (there (c .before .before .before .before .before)) _ (c .before .before .put .ensures),
+      again (a .out .now) (a .at) (a .kind) (a .size) (a .bodies .now)
+          (c .before .before .before .before .before .before .before .before .before .before .pre .2) _ _ _ _
+          (c .before .before .before .before .before .before .before .loop .inv .1) (there (c .before .before .before .before .before)) _
+          (c .before .before .put .ensures),
     )
 
 same-length : tie.Need-same-length Inv-loop μ-loop
@@ -81,7 +104,8 @@ same-length c = c .before .loop .inv .0
 returns : tie.Need-returns Inv-loop μ-loop
 returns c =
     let a = c .before .before .before .before .args in
-    finish (a .out .now) (a .at) (a .kind) (a .size) (a .bodies .now) (c .before .before .before .before .pre .2) _ _ _ (c .before .loop .inv .1) (c .loop-test .left)
+    finish (a .out .now) (a .at) (a .kind) (a .size) (a .bodies .now) (c .before .before .before .before .pre .2) _ _ _ (c .before .loop .inv .1)
+    (c .loop-test .left)
 
 pub put-parts-spec : {M : Type 1} → statement M
 put-parts-spec =

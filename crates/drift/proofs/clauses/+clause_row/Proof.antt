@@ -36,7 +36,8 @@ clause-row-below t =
     and 2 clause-row-kinds.ps (falls 2 clause-row-kinds.ps _<_ μ-clause-row t) clause-row.Pre
 
 abbrev clause-row-calls : ℕ → clause-row-lts.Claims
-clause-row-calls t = (kind-at-reads.Asked, kind-at-reads.Learnt, leaf-row-reads.Asked, leaf-row-reads.Learnt, constant-reads.Asked, constant-reads.Learnt, first-at-reads.Asked, first-at-reads.Learnt, under-reads.Asked, under-reads.Learnt, clause-row-below t, clause-row.Post, one-row-reads.Asked, one-row-reads.Learnt, second-at-reads.Asked, second-at-reads.Learnt, two-row-reads.Asked, two-row-reads.Learnt)
+clause-row-calls t =
+    (kind-at-reads.Asked, kind-at-reads.Learnt, leaf-row-reads.Asked, leaf-row-reads.Learnt, constant-reads.Asked, constant-reads.Learnt, first-at-reads.Asked, first-at-reads.Learnt, under-reads.Asked, under-reads.Learnt, clause-row-below t, clause-row.Post, one-row-reads.Asked, one-row-reads.Learnt, second-at-reads.Asked, second-at-reads.Learnt, two-row-reads.Asked, two-row-reads.Learnt)
 
 clause-row-kind-at-requires : (t : ℕ) → clause-row-lts.Need-kind-at-requires (clause-row-calls t) (clause-row-at t) clause-row.Post
 clause-row-kind-at-requires t c κs = c .before .before .pre .1 .1 .0
@@ -56,7 +57,8 @@ clause-row-constant-requires t c κs = (omega arith, omega arith)
 clause-row-returns-2 : (t : ℕ) → clause-row-lts.Need-returns-2 (clause-row-calls t) (clause-row-at t) clause-row.Post
 clause-row-returns-2 t c =
     let s = c .before .before .before .before .before .before in
-    clause-top (s .args .nodes .now) (s .args .table .now) (s .args .g .carts) (s .args .g .h) (s .args .g .l) (s .args .g .d) (s .pre .1 .0 .0) (s .args .p) (s .args .k) _ _ _ (c .before .before .before .kind-at .ensures) refl (c .before .if2 .taken) (c .constant .ensures)
+    clause-top (s .args .nodes .now) (s .args .table .now) (s .args .g .carts) (s .args .g .h) (s .args .g .l) (s .args .g .d) (s .pre .1 .0 .0)
+    (s .args .p) (s .args .k) _ _ _ (c .before .before .before .kind-at .ensures) refl (c .before .if2 .taken) (c .constant .ensures)
 
 clause-row-first-at-requires : (t : ℕ) → clause-row-lts.Need-first-at-requires (clause-row-calls t) (clause-row-at t) clause-row.Post
 clause-row-first-at-requires t c κs = c .before .before .before .before .before .pre .1 .1 .0
@@ -81,9 +83,13 @@ clause-row-one-row-requires t c κs =
 clause-row-returns-3 : (t : ℕ) → clause-row-lts.Need-returns-3 (clause-row-calls t) (clause-row-at t) clause-row.Post
 clause-row-returns-3 t c =
     let s = c .before .before .before .before .before .before .before .before .before .before in
-    let a : ClauseRow (s .args .nodes .now) (s .args .table .now) (s .args .g .carts) (s .args .g .h) (s .args .g .l) (s .args .g .d) (under (oneOf (c .before .before .before .before .before .before .before .kind-at .result)) (s .args .p)) (c .before .before .before .before .first-at .result) (c .before .before .clause-row .result) =
+    let a : ClauseRow (s .args .nodes .now) (s .args .table .now) (s .args .g .carts) (s .args .g .h) (s .args .g .l) (s .args .g .d) (under
+    (oneOf (c .before .before .before .before .before .before .before .kind-at .result)) (s .args .p))
+    (c .before .before .before .before .first-at .result) (c .before .before .clause-row .result) =
     (rw (c .before .before .before .under .ensures) at (c .before .before .clause-row .ensures)) in
-    clause-one (s .args .nodes .now) (s .args .table .now) (s .args .g .carts) (s .args .g .h) (s .args .g .l) (s .args .g .d) (s .pre .1 .0 .0) (s .args .p) (s .args .k) _ _ _ (c .before .before .before .before .before .before .before .kind-at .ensures) (c .before .before .before .before .first-at .ensures) _ (s .pre .1 .1 .0) a (omega arith) (omega arith) (c .one-row .ensures)
+    clause-one (s .args .nodes .now) (s .args .table .now) (s .args .g .carts) (s .args .g .h) (s .args .g .l) (s .args .g .d) (s .pre .1 .0 .0)
+    (s .args .p) (s .args .k) _ _ _ (c .before .before .before .before .before .before .before .kind-at .ensures)
+    (c .before .before .before .before .first-at .ensures) _ (s .pre .1 .1 .0) a (omega arith) (omega arith) (c .one-row .ensures)
 
 clause-row-second-at-requires : (t : ℕ) → clause-row-lts.Need-second-at-requires (clause-row-calls t) (clause-row-at t) clause-row.Post
 clause-row-second-at-requires t c κs = c .before .before .before .before .before .before .before .before .before .pre .1 .1 .0
@@ -106,9 +112,14 @@ clause-row-two-row-requires t c κs =
 clause-row-returns-4 : (t : ℕ) → clause-row-lts.Need-returns-4 (clause-row-calls t) (clause-row-at t) clause-row.Post
 clause-row-returns-4 t c =
     let s = c .before .before .before .before .before .before .before .before .before .before .before .before in
-    let a : ClauseRow (s .args .nodes .now) (s .args .table .now) (s .args .g .carts) (s .args .g .h) (s .args .g .l) (s .args .g .d) (under (oneOf (c .before .before .before .before .before .before .before .before .before .kind-at .result)) (s .args .p)) (c .before .before .before .before .before .before .first-at .result) (c .before .before .before .before .clause-row .result) =
+    let a : ClauseRow (s .args .nodes .now) (s .args .table .now) (s .args .g .carts) (s .args .g .h) (s .args .g .l) (s .args .g .d) (under
+    (oneOf (c .before .before .before .before .before .before .before .before .before .kind-at .result)) (s .args .p))
+    (c .before .before .before .before .before .before .first-at .result) (c .before .before .before .before .clause-row .result) =
     (rw (c .before .before .before .before .before .under .ensures) at (c .before .before .before .before .clause-row .ensures)) in
-    clause-two (s .args .nodes .now) (s .args .table .now) (s .args .g .carts) (s .args .g .h) (s .args .g .l) (s .args .g .d) (s .pre .1 .0 .0) (s .args .p) (s .args .k) _ _ _ (c .before .before .before .before .before .before .before .before .before .kind-at .ensures) (c .before .before .before .before .before .before .first-at .ensures) _ (s .pre .1 .1 .0) a _ _ (c .before .before .second-at .ensures) (omega arith) (omega arith) (c .before .clause-row2 .ensures) (c .two-row .ensures)
+    clause-two (s .args .nodes .now) (s .args .table .now) (s .args .g .carts) (s .args .g .h) (s .args .g .l) (s .args .g .d) (s .pre .1 .0 .0)
+    (s .args .p) (s .args .k) _ _ _ (c .before .before .before .before .before .before .before .before .before .kind-at .ensures)
+    (c .before .before .before .before .before .before .first-at .ensures) _ (s .pre .1 .1 .0) a _ _ (c .before .before .second-at .ensures)
+    (omega arith) (omega arith) (c .before .clause-row2 .ensures) (c .two-row .ensures)
 
 pub +clause-row-spec : {M : Type 1} → statement M
 +clause-row-spec = close μ-clause-row λ t. clause-row-lts.spec (clause-row-calls t)

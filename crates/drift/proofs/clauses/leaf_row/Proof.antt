@@ -50,8 +50,11 @@ returns c =
     let k = c .before .before .before .before .before .kind-at .ensures in
     let low = s .pre .1 .1 .1 in
     let e = c .before .before .quota .ensures ∙ ap (λ (m : ℕ). quota (s .args .p) m (g .carts)) (c .before .before .before .threshold .ensures) in
-    clause-count (s .args .nodes .now) (s .args .table .now) (g .carts) (g .h) (g .l) (g .d) (s .pre .0 .0) (s .args .p) (s .args .k) _ _ _ k (c .before .first-at .ensures) _ (c .before .before .before .before .number-at .ensures .0) (omega arith)
-    (subst (λ (m : ℕ). Row (g .h) (c .count-row .result) (quorum (g .h) (g .l) (g .carts) (g .d) m (λ i. inner (rowsIn (s .args .table .now) (g .carts) (g .h) (g .l)) i (s .args .p) (innerTree (s .args .nodes .now) (length (s .args .nodes .now)) (c .before .first-at .result))))) e (c .count-row .ensures))
+    clause-count (s .args .nodes .now) (s .args .table .now) (g .carts) (g .h) (g .l) (g .d) (s .pre .0 .0) (s .args .p) (s .args .k) _ _ _ k
+    (c .before .first-at .ensures) _ (c .before .before .before .before .number-at .ensures .0) (omega arith)
+    (subst (λ (m : ℕ). Row (g .h) (c .count-row .result) (quorum (g .h) (g .l) (g .carts) (g .d) m (λ i. inner
+    (rowsIn (s .args .table .now) (g .carts) (g .h) (g .l)) i (s .args .p)
+    (innerTree (s .args .nodes .now) (length (s .args .nodes .now)) (c .before .first-at .result))))) e (c .count-row .ensures))
 
 pub leaf-row-spec : {M : Type 1} → statement M
 leaf-row-spec =

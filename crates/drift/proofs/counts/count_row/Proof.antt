@@ -41,7 +41,9 @@ full-requires c κs = (omega arith, omega arith)
 loop-holds : tie.Need-loop-holds Inv-loop μ-loop
 loop-holds c =
     let s = c .before .before .before .before .before .before in
-    let e = subst (λ (n : ℕ). Each (s .args .g .h) (64 - n) (c .before .start-planes .last .0)) (c .before .before .capped .ensures) (c .before .start-planes .ensures .1) in
+    let e =
+    subst (λ (n : ℕ). Each (s .args .g .h) (64 - n) (c .before .start-planes .last .0)) (c .before .before .capped .ensures)
+    (c .before .start-planes .ensures .1) in
     (omega arith, c .before .start-planes .ensures .0, none-counted (s .args .g .h) (s .args .g .l) (s .args .g .d) (s .args .m) _ _ _ e (c .full .ensures))
 
 -- src/counts.rt:60:13
@@ -81,8 +83,12 @@ loop-again c =
     let v = c .before .before .before .before .before .before .before .loop in
     let o = s .pre .1 .0 .room in
     let a = c .before .before .before .before .inner-row .ensures (s .args .g .carts) (length (s .args .nodes .now)) (omega arith) in
-    let all = c .before .before .before .join-row .ensures (s .args .g .h) (a .low) (v .inv .2 .each .low) in
-    (omega arith, c .add-row .ensures .0, cart-counted (s .args .g .h) (s .args .g .l) (s .args .g .d) (s .args .m) _ (s .pre .0 .0) (v .i) _ _ _ _ _ _ (omega arith) (v .inv .2) a (c .before .window-row .ensures) (c .add-row .ensures .1) all)
+    let all = c .before .before .before .join-row .ensures (s .args .g .h) (a .low) (v .inv .2 .each .low) in (
+      omega arith,
+      c .add-row .ensures .0,
+      cart-counted (s .args .g .h) (s .args .g .l) (s .args .g .d) (s .args .m) _ (s .pre .0 .0)
+          (v .i) _ _ _ _ _ _ (omega arith) (v .inv .2) a (c .before .window-row .ensures) (c .add-row .ensures .1) all,
+    )
 
 -- src/counts.rt:65:9
 reached-requires : tie.Need-reached-requires Inv-loop μ-loop
@@ -98,9 +104,15 @@ returns c =
     let s = c .before .before .before .before .before .before .before .before .before .before .before .before .before in
     let v = c .before .before .before .before .before .before .loop in
     let e : v .i ≡ s .args .g .carts = omega arith in
-    let k = subst (λ (i : ℕ). Counted (s .args .g .h) (s .args .g .l) (s .args .g .d) (s .args .m) (text (s .args .nodes .now) (s .args .table .now) (s .args .g .carts) (s .args .g .h) (s .args .g .l) (s .args .p) (s .args .x)) i (v .planes) (v .all)) e (v .inv .2) in
+    let k =
+    subst
+    (λ (i : ℕ). Counted (s .args .g .h) (s .args .g .l) (s .args .g .d) (s .args .m)
+    (text (s .args .nodes .now) (s .args .table .now) (s .args .g .carts) (s .args .g .h) (s .args .g .l) (s .args .p) (s .args .x)) i
+    (v .planes) (v .all)) e
+    (v .inv .2) in
     let r = c .before .before .reached .ensures (s .args .g .h) (k .low) in
-    one-quorum (s .args .g .h) (s .args .g .l) (s .args .g .d) (s .args .m) _ (s .args .g .carts) (omega arith) _ _ _ k r _ (c .before .if2 .taken) (c .join-row2 .ensures (s .args .g .h) (r .low) (k .each .low))
+    one-quorum (s .args .g .h) (s .args .g .l) (s .args .g .d) (s .args .m) _ (s .args .g .carts) (omega arith) _ _ _ k r _ (c .before .if2 .taken)
+    (c .join-row2 .ensures (s .args .g .h) (r .low) (k .each .low))
 
 -- src/counts.rt:39:1
 returns-2 : tie.Need-returns-2 Inv-loop μ-loop
@@ -108,7 +120,12 @@ returns-2 c =
     let s = c .before .before .before .before .before .before .before .before .before .before .before .before in
     let v = c .before .before .before .before .before .loop in
     let e : v .i ≡ s .args .g .carts = omega arith in
-    let k = subst (λ (i : ℕ). Counted (s .args .g .h) (s .args .g .l) (s .args .g .d) (s .args .m) (text (s .args .nodes .now) (s .args .table .now) (s .args .g .carts) (s .args .g .h) (s .args .g .l) (s .args .p) (s .args .x)) i (v .planes) (v .all)) e (v .inv .2) in
+    let k =
+    subst
+    (λ (i : ℕ). Counted (s .args .g .h) (s .args .g .l) (s .args .g .d) (s .args .m)
+    (text (s .args .nodes .now) (s .args .table .now) (s .args .g .carts) (s .args .g .h) (s .args .g .l) (s .args .p) (s .args .x)) i
+    (v .planes) (v .all)) e
+    (v .inv .2) in
     let r = c .before .reached .ensures (s .args .g .h) (k .low) in
     more-quorum (s .args .g .h) (s .args .g .l) (s .args .g .d) (s .args .m) _ (s .args .g .carts) (omega arith) _ _ _ k r (c .if2 .left)
 

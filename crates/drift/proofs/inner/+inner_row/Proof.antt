@@ -35,7 +35,8 @@ inner-row-below t =
     and 2 inner-row-kinds.ps (falls 2 inner-row-kinds.ps _<_ μ-inner-row t) inner-row.Pre
 
 abbrev inner-row-calls : ℕ → inner-row-lts.Claims
-inner-row-calls t = (kind-at-reads.Asked, kind-at-reads.Learnt, first-at-reads.Asked, first-at-reads.Learnt, mark-row-reads.Asked, mark-row-reads.Learnt, constant-reads.Asked, constant-reads.Learnt, under-reads.Asked, under-reads.Learnt, inner-row-below t, inner-row.Post, one-row-reads.Asked, one-row-reads.Learnt, second-at-reads.Asked, second-at-reads.Learnt, two-row-reads.Asked, two-row-reads.Learnt)
+inner-row-calls t =
+    (kind-at-reads.Asked, kind-at-reads.Learnt, first-at-reads.Asked, first-at-reads.Learnt, mark-row-reads.Asked, mark-row-reads.Learnt, constant-reads.Asked, constant-reads.Learnt, under-reads.Asked, under-reads.Learnt, inner-row-below t, inner-row.Post, one-row-reads.Asked, one-row-reads.Learnt, second-at-reads.Asked, second-at-reads.Learnt, two-row-reads.Asked, two-row-reads.Learnt)
 
 inner-row-kind-at-requires : (t : ℕ) → inner-row-lts.Need-kind-at-requires (inner-row-calls t) (inner-row-at t) inner-row.Post
 inner-row-kind-at-requires t c κs = c .before .before .pre .1 .1 .0
@@ -54,7 +55,8 @@ inner-row-mark-row-requires t c κs =
 inner-row-returns : (t : ℕ) → inner-row-lts.Need-returns (inner-row-calls t) (inner-row-at t) inner-row.Post
 inner-row-returns t c =
     let s = c .before .before .before .before .before .before in
-    inner-mark (s .args .nodes .now) (s .args .table .now) (s .args .h) (s .args .l) (s .args .i) (s .pre .1 .0 .0) (s .args .p) (s .args .k) _ _ _ (c .before .before .before .kind-at .ensures) (c .before .before .first-at .ensures) (c .before .if1 .taken) (c .mark-row .ensures)
+    inner-mark (s .args .nodes .now) (s .args .table .now) (s .args .h) (s .args .l) (s .args .i) (s .pre .1 .0 .0) (s .args .p) (s .args .k) _ _ _
+    (c .before .before .before .kind-at .ensures) (c .before .before .first-at .ensures) (c .before .if1 .taken) (c .mark-row .ensures)
 
 inner-row-constant-requires : (t : ℕ) → inner-row-lts.Need-constant-requires (inner-row-calls t) (inner-row-at t) inner-row.Post
 inner-row-constant-requires t c κs = (omega arith, omega arith)
@@ -62,7 +64,9 @@ inner-row-constant-requires t c κs = (omega arith, omega arith)
 inner-row-returns-2 : (t : ℕ) → inner-row-lts.Need-returns-2 (inner-row-calls t) (inner-row-at t) inner-row.Post
 inner-row-returns-2 t c =
     let s = c .before .before .before .before .before .before .before in
-    inner-top (s .args .nodes .now) (s .args .table .now) (s .args .h) (s .args .l) (s .args .i) (s .pre .1 .0 .0) (s .args .p) (s .args .k) _ _ _ (c .before .before .before .before .kind-at .ensures) (c .before .before .before .first-at .ensures) (c .before .if2 .taken) (c .constant .ensures)
+    inner-top (s .args .nodes .now) (s .args .table .now) (s .args .h) (s .args .l) (s .args .i) (s .pre .1 .0 .0) (s .args .p) (s .args .k) _ _ _
+    (c .before .before .before .before .kind-at .ensures) (c .before .before .before .first-at .ensures) (c .before .if2 .taken)
+    (c .constant .ensures)
 
 inner-row-constant-requires-2 : (t : ℕ) → inner-row-lts.Need-constant-requires-2 (inner-row-calls t) (inner-row-at t) inner-row.Post
 inner-row-constant-requires-2 t c κs = (omega arith, omega arith)
@@ -70,7 +74,9 @@ inner-row-constant-requires-2 t c κs = (omega arith, omega arith)
 inner-row-returns-3 : (t : ℕ) → inner-row-lts.Need-returns-3 (inner-row-calls t) (inner-row-at t) inner-row.Post
 inner-row-returns-3 t c =
     let s = c .before .before .before .before .before .before .before .before in
-    inner-count (s .args .nodes .now) (s .args .table .now) (s .args .h) (s .args .l) (s .args .i) (s .pre .1 .0 .0) (s .args .p) (s .args .k) _ _ _ (c .before .before .before .before .before .kind-at .ensures) (c .before .before .before .before .first-at .ensures) (omega arith) (c .constant2 .ensures)
+    inner-count (s .args .nodes .now) (s .args .table .now) (s .args .h) (s .args .l) (s .args .i) (s .pre .1 .0 .0) (s .args .p) (s .args .k) _ _ _
+    (c .before .before .before .before .before .kind-at .ensures) (c .before .before .before .before .first-at .ensures) (omega arith)
+    (c .constant2 .ensures)
 
 inner-row-under-requires : (t : ℕ) → inner-row-lts.Need-under-requires (inner-row-calls t) (inner-row-at t) inner-row.Post
 inner-row-under-requires t c κs = tt
@@ -94,9 +100,14 @@ inner-row-returns-4 : (t : ℕ) → inner-row-lts.Need-returns-4 (inner-row-call
 inner-row-returns-4 t c =
     let s = c .before .before .before .before .before .before .before .before .before .before .before in
     let two = two-or-more _ (c .before .before .before .before .before .if2 .left) (c .before .before .before .before .before .before .if1 .left) in
-    let a : InnerRow (s .args .nodes .now) (s .args .table .now) (s .args .h) (s .args .l) (s .args .i) (under (oneOf (c .before .before .before .before .before .before .before .before .kind-at .result)) (s .args .p)) (c .before .before .before .before .before .before .before .first-at .result) (c .before .before .inner-row .result) =
+    let a : InnerRow (s .args .nodes .now) (s .args .table .now) (s .args .h) (s .args .l) (s .args .i) (under
+    (oneOf (c .before .before .before .before .before .before .before .before .kind-at .result)) (s .args .p))
+    (c .before .before .before .before .before .before .before .first-at .result) (c .before .before .inner-row .result) =
     (rw (c .before .before .before .under .ensures) at (c .before .before .inner-row .ensures)) in
-    inner-one (s .args .nodes .now) (s .args .table .now) (s .args .h) (s .args .l) (s .args .i) (s .pre .1 .0 .0) (s .args .p) (s .args .k) _ _ _ (c .before .before .before .before .before .before .before .before .kind-at .ensures) (c .before .before .before .before .before .before .before .first-at .ensures) _ (s .pre .1 .1 .0) a (omega arith) (omega arith) (c .one-row .ensures)
+    inner-one (s .args .nodes .now) (s .args .table .now) (s .args .h) (s .args .l) (s .args .i) (s .pre .1 .0 .0) (s .args .p) (s .args .k) _ _ _
+    (c .before .before .before .before .before .before .before .before .kind-at .ensures)
+    (c .before .before .before .before .before .before .before .first-at .ensures) _ (s .pre .1 .1 .0) a (omega arith) (omega arith)
+    (c .one-row .ensures)
 
 inner-row-second-at-requires : (t : ℕ) → inner-row-lts.Need-second-at-requires (inner-row-calls t) (inner-row-at t) inner-row.Post
 inner-row-second-at-requires t c κs = c .before .before .before .before .before .before .before .before .before .before .pre .1 .1 .0
@@ -119,9 +130,15 @@ inner-row-two-row-requires t c κs =
 inner-row-returns-5 : (t : ℕ) → inner-row-lts.Need-returns-5 (inner-row-calls t) (inner-row-at t) inner-row.Post
 inner-row-returns-5 t c =
     let s = c .before .before .before .before .before .before .before .before .before .before .before .before .before in
-    let a : InnerRow (s .args .nodes .now) (s .args .table .now) (s .args .h) (s .args .l) (s .args .i) (under (oneOf (c .before .before .before .before .before .before .before .before .before .before .kind-at .result)) (s .args .p)) (c .before .before .before .before .before .before .before .before .before .first-at .result) (c .before .before .before .before .inner-row .result) =
+    let a : InnerRow (s .args .nodes .now) (s .args .table .now) (s .args .h) (s .args .l) (s .args .i) (under
+    (oneOf (c .before .before .before .before .before .before .before .before .before .before .kind-at .result)) (s .args .p))
+    (c .before .before .before .before .before .before .before .before .before .first-at .result)
+    (c .before .before .before .before .inner-row .result) =
     (rw (c .before .before .before .before .before .under .ensures) at (c .before .before .before .before .inner-row .ensures)) in
-    inner-two (s .args .nodes .now) (s .args .table .now) (s .args .h) (s .args .l) (s .args .i) (s .pre .1 .0 .0) (s .args .p) (s .args .k) _ _ _ (c .before .before .before .before .before .before .before .before .before .before .kind-at .ensures) (c .before .before .before .before .before .before .before .before .before .first-at .ensures) _ (s .pre .1 .1 .0) a _ _ (c .before .before .second-at .ensures) (omega arith) (omega arith) (c .before .inner-row2 .ensures) (c .two-row .ensures)
+    inner-two (s .args .nodes .now) (s .args .table .now) (s .args .h) (s .args .l) (s .args .i) (s .pre .1 .0 .0) (s .args .p) (s .args .k) _ _ _
+    (c .before .before .before .before .before .before .before .before .before .before .kind-at .ensures)
+    (c .before .before .before .before .before .before .before .before .before .first-at .ensures) _ (s .pre .1 .1 .0) a _ _
+    (c .before .before .second-at .ensures) (omega arith) (omega arith) (c .before .inner-row2 .ensures) (c .two-row .ensures)
 
 pub +inner-row-spec : {M : Type 1} → statement M
 +inner-row-spec = close μ-inner-row λ t. inner-row-lts.spec (inner-row-calls t)

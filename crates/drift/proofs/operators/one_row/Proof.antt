@@ -17,7 +17,8 @@ next-row-requires c κs = search needs
 returns-2 : tie.Need-returns-2
 returns-2 c =
     let s = c .before .before .before in
-    later-row (s .args .h) (s .args .l) (s .pre .0) (s .args .kind) (s .args .p) (s .args .a) _ (c .before .before .if1 .left) (c .before .if2 .taken) (c .next-row .ensures)
+    later-row (s .args .h) (s .args .l) (s .pre .0) (s .args .kind) (s .args .p) (s .args .a) _ (c .before .before .if1 .left) (c .before .if2 .taken)
+    (c .next-row .ensures)
 
 -- src/operators.rt:28:22
 constant-requires : tie.Need-constant-requires
@@ -31,7 +32,8 @@ fix-row-requires c κs = search needs
 returns-3 : tie.Need-returns-3
 returns-3 c =
     let s = c .before .before .before .before in
-    ever-row (s .args .h) (s .args .l) (s .pre .0) (s .args .kind) (s .args .p) (s .args .a) _ (c .before .before .before .if1 .left) (c .before .before .if2 .left) _ (c .before .constant .ensures) (c .fix-row .ensures)
+    ever-row (s .args .h) (s .args .l) (s .pre .0) (s .args .kind) (s .args .p) (s .args .a) _ (c .before .before .before .if1 .left)
+    (c .before .before .if2 .left) _ (c .before .constant .ensures) (c .fix-row .ensures)
 
 pub one-row-spec : {M : Type 1} → statement M
 one-row-spec =

@@ -11,7 +11,8 @@ join-row-requires c κs = search needs
 returns : tie.Need-returns
 returns c =
     let s = c .before .before in
-    both-row (s .args .h) (s .args .l) (s .pre .0) (s .args .kind) (s .args .p) (s .args .a) _ (s .args .b) (c .before .if1 .taken) (c .join-row .ensures (s .args .h) (s .pre .2) (s .pre .3))
+    both-row (s .args .h) (s .args .l) (s .pre .0) (s .args .kind) (s .args .p) (s .args .a) _ (s .args .b) (c .before .if1 .taken)
+    (c .join-row .ensures (s .args .h) (s .pre .2) (s .pre .3))
 
 -- src/operators.rt:40:9
 join-row-requires-2 : tie.Need-join-row-requires-2
@@ -21,7 +22,8 @@ join-row-requires-2 c κs = search needs
 returns-2 : tie.Need-returns-2
 returns-2 c =
     let s = c .before .before .before in
-    either-row (s .args .h) (s .args .l) (s .pre .0) (s .args .kind) (s .args .p) (s .args .a) _ (s .args .b) (c .before .before .if1 .left) (c .before .if2 .taken) (c .join-row2 .ensures (s .args .h) (s .pre .2) (s .pre .3))
+    either-row (s .args .h) (s .args .l) (s .pre .0) (s .args .kind) (s .args .p) (s .args .a) _ (s .args .b) (c .before .before .if1 .left)
+    (c .before .if2 .taken) (c .join-row2 .ensures (s .args .h) (s .pre .2) (s .pre .3))
 
 -- src/operators.rt:42:5
 fix-row-requires : tie.Need-fix-row-requires
@@ -31,7 +33,8 @@ fix-row-requires c κs = search needs
 returns-3 : tie.Need-returns-3
 returns-3 c =
     let s = c .before .before .before in
-    reach-row (s .args .h) (s .args .l) (s .pre .0) (s .args .kind) (s .args .p) (s .args .a) _ (s .args .b) (c .before .before .if1 .left) (c .before .if2 .left) (c .fix-row .ensures)
+    reach-row (s .args .h) (s .args .l) (s .pre .0) (s .args .kind) (s .args .p) (s .args .a) _ (s .args .b) (c .before .before .if1 .left)
+    (c .before .if2 .left) (c .fix-row .ensures)
 
 pub two-row-spec : {M : Type 1} → statement M
 two-row-spec =

@@ -28,7 +28,8 @@ has-next-below t =
     and 1 has-next-kinds.ps (falls 1 has-next-kinds.ps _<_ μ-has-next t) has-next.Pre
 
 abbrev has-next-calls : ℕ → has-next-lts.Claims
-has-next-calls t = (kind-at-reads.Asked, kind-at-reads.Learnt, first-at-reads.Asked, first-at-reads.Learnt, has-next-below t, has-next.Post, second-at-reads.Asked, second-at-reads.Learnt)
+has-next-calls t =
+    (kind-at-reads.Asked, kind-at-reads.Learnt, first-at-reads.Asked, first-at-reads.Learnt, has-next-below t, has-next.Post, second-at-reads.Asked, second-at-reads.Learnt)
 
 has-next-kind-at-requires : (t : ℕ) → has-next-lts.Need-kind-at-requires (has-next-calls t) (has-next-at t) has-next.Post
 has-next-kind-at-requires t c κs = c .before .pre .1
@@ -65,8 +66,11 @@ has-next-returns-4 : (t : ℕ) → has-next-lts.Need-returns-4 (has-next-calls t
 has-next-returns-4 t c =
     let s = c .before .before .before .before .before .before .before .before in
     let k = c .before .before .before .before .before .before .kind-at .ensures in
-    let a = subst (λ (x : ℕ). (n : ℕ) → x < n → c .before .has-next .result ≡ hasNext (clauseTree (s .args .nodes .now) n x)) (c .before .before .first-at .ensures) (c .before .has-next .ensures) in
-    one-tells (s .args .nodes .now) (s .args .k) (s .pre .1) (c .before .has-next .result) a (omega arith) (omega arith) (λ e. c .before .before .before .before .before .if1 .left (k ∙ e))
+    let a =
+    subst (λ (x : ℕ). (n : ℕ) → x < n → c .before .has-next .result ≡ hasNext (clauseTree (s .args .nodes .now) n x))
+    (c .before .before .first-at .ensures) (c .before .has-next .ensures) in
+    one-tells (s .args .nodes .now) (s .args .k) (s .pre .1) (c .before .has-next .result) a (omega arith) (omega arith)
+    (λ e. c .before .before .before .before .before .if1 .left (k ∙ e))
 
 has-next-second-at-requires : (t : ℕ) → has-next-lts.Need-second-at-requires (has-next-calls t) (has-next-at t) has-next.Post
 has-next-second-at-requires t c κs = c .before .before .before .before .before .before .before .before .pre .1
@@ -83,9 +87,14 @@ has-next-returns-5 : (t : ℕ) → has-next-lts.Need-returns-5 (has-next-calls t
 has-next-returns-5 t c =
     let s = c .before .before .before .before .before .before .before .before .before .before in
     let k = c .before .before .before .before .before .before .before .before .kind-at .ensures in
-    let a = subst (λ (x : ℕ). (n : ℕ) → x < n → c .before .before .before .has-next .result ≡ hasNext (clauseTree (s .args .nodes .now) n x)) (c .before .before .before .before .first-at .ensures) (c .before .before .before .has-next .ensures) in
-    let b = subst (λ (x : ℕ). (n : ℕ) → x < n → c .has-next2 .result ≡ hasNext (clauseTree (s .args .nodes .now) n x)) (c .before .second-at .ensures) (c .has-next2 .ensures) in
-    two-tells (s .args .nodes .now) (s .args .k) (s .pre .1) (c .before .before .before .has-next .result) a (c .has-next2 .result) b (omega arith) (omega arith)
+    let a =
+    subst (λ (x : ℕ). (n : ℕ) → x < n → c .before .before .before .has-next .result ≡ hasNext (clauseTree (s .args .nodes .now) n x))
+    (c .before .before .before .before .first-at .ensures) (c .before .before .before .has-next .ensures) in
+    let b =
+    subst (λ (x : ℕ). (n : ℕ) → x < n → c .has-next2 .result ≡ hasNext (clauseTree (s .args .nodes .now) n x)) (c .before .second-at .ensures)
+    (c .has-next2 .ensures) in
+    two-tells (s .args .nodes .now) (s .args .k) (s .pre .1) (c .before .before .before .has-next .result) a (c .has-next2 .result) b (omega arith)
+    (omega arith)
 
 pub +has-next-spec : {M : Type 1} → statement M
 +has-next-spec = close μ-has-next λ t. has-next-lts.spec (has-next-calls t)

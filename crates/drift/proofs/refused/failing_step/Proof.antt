@@ -40,7 +40,8 @@ returns c =
     let s = c .before .before .before .before .before .before .before in
     let g = s .args .g in
     let e = sym (c .before .before .before .before .kind-at .ensures) ∙ c .before .before .before .if1 .taken in (
-      globally-step (rowsIn (s .args .table .now) (g .carts) (g .h) (g .l)) (g .d) (s .args .nodes .now) (s .args .k) (s .pre .1 .0) e (c .lowest-off .result) (c .before .before .first-at .result) (c .before .before .first-at .ensures)
+      globally-step (rowsIn (s .args .table .now) (g .carts) (g .h) (g .l)) (g .d) (s .args .nodes .now) (s .args .k) (s .pre .1 .0) e
+          (c .lowest-off .result) (c .before .before .first-at .result) (c .before .before .first-at .ensures)
           (λ n q. c .lowest-off .ensures .0 ∙ lowest-agrees _ _ (g .h) 0 (g .h) (c .before .clause-row .ensures n q .at) (omega arith)),
       omega arith,
     )
@@ -49,8 +50,11 @@ returns c =
 returns-2 : tie.Need-returns-2
 returns-2 c =
     let s = c .before .before .before .before in
-    let g = s .args .g in
-    (other-step (rowsIn (s .args .table .now) (g .carts) (g .h) (g .l)) (g .d) (s .args .nodes .now) (s .args .k) (λ e. c .if1 .left (c .before .kind-at .ensures ∙ e)), omega arith)
+    let g = s .args .g in (
+      other-step (rowsIn (s .args .table .now) (g .carts) (g .h) (g .l)) (g .d) (s .args .nodes .now) (s .args .k)
+          (λ e. c .if1 .left (c .before .kind-at .ensures ∙ e)),
+      omega arith,
+    )
 
 pub failing-step-spec : {M : Type 1} → statement M
 failing-step-spec =

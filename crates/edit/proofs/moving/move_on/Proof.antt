@@ -19,7 +19,9 @@ use Rattle.edit.proofs.moving.move_on.Statement.{statement}
 use Rattle.edit.proofs.moving.move_on.Tie as tie
 
 -- the plan is accepted, by the test of its verdict
-read-it : (c : tie.Else1) → Accepts (c .before .before .before .before .before .before .args .floor .now) (c .before .before .before .before .before .before .args .plan .now) (c .before .before .read .result)
+read-it : (c : tie.Else1)
+    → Accepts (c .before .before .before .before .before .before .args .floor .now)
+    (c .before .before .before .before .before .before .args .plan .now) (c .before .before .read .result)
 read-it c = accepts-if _ _ _ (c .before .before .read .ensures) (sym (c .before .accepts .ensures) ∙ not-is _ false (c .if1 .left))
 
 -- what is done with its numbers
@@ -36,8 +38,11 @@ returns : tie.Need-returns
 unfolding moveOn
 returns c =
     let a = c .before .before .before .before .before .before .args in
-    let e = after-refused (λ v. unchanged v (a .out .now)) (go (a .out .now) (a .s)) (a .floor .now) (a .plan .now) _ (c .before .before .read .ensures .answer) (sym (c .before .accepts .ensures) ∙ not-is _ true (c .if1 .taken)) in
-    promise _ _ (λ i. omega (arith, c .before .before .before .before .before .shared-slice-known .given i)) _ _ _ _ (subst (λ (o : Outcome). Gives o (c .before .before .read .result .verdict) (a .out .now)) (sym e) (record { answer = refl; out = refl }))
+    let e =
+    after-refused (λ v. unchanged v (a .out .now)) (go (a .out .now) (a .s)) (a .floor .now) (a .plan .now) _
+    (c .before .before .read .ensures .answer) (sym (c .before .accepts .ensures) ∙ not-is _ true (c .if1 .taken)) in
+    promise _ _ (λ i. omega (arith, c .before .before .before .before .before .shared-slice-known .given i)) _ _ _ _
+    (subst (λ (o : Outcome). Gives o (c .before .before .read .result .verdict) (a .out .now)) (sym e) (record { answer = refl; out = refl }))
 
 slice-aggregate-put-moved : tie.Need-slice-aggregate-put-moved
 slice-aggregate-put-moved c = search needs
@@ -45,7 +50,10 @@ slice-aggregate-put-moved c = search needs
 put-moved-requires : tie.Need-put-moved-requires
 put-moved-requires c κs =
     let w = read-it (c .before .before .before .before .before) in
-    let f = accepts _ _ (λ i. omega (arith, c .before .before .before .before .before .before .before .before .before .before .shared-slice-known .given i)) (w .floor-read) in
+    let f =
+    accepts _ _
+    (λ i. omega (arith, c .before .before .before .before .before .before .before .before .before .before .shared-slice-known .given i))
+    (w .floor-read) in
     (held-range _ _ _ w, (f .valid .few-carts, held-length _ _ _ w (f .valid .few-carts)))
 
 same-length : tie.Need-same-length
@@ -56,8 +64,15 @@ unfolding moveOn
 returns-2 c =
     let a = c .before .before .before .before .before .before .before .before .before .before .before .before .before .before .args in
     let w = read-it (c .before .before .before .before .before .before .before .before) in
-    let e = ap (go (a .out .now) (a .s) (c .before .before .before .before .before .before .before .before .before .before .read .result .floor)) (held-numbers _ _ _ w) ∙ sym (after-accepted (λ v. unchanged v (a .out .now)) (go (a .out .now) (a .s)) (a .floor .now) (a .plan .now) _ w) in
-    promise _ _ (λ i. omega (arith, c .before .before .before .before .before .before .before .before .before .before .before .before .before .shared-slice-known .given i)) _ _ _ _ (subst (λ (o : Outcome). Gives o (c .before .before .put-moved .result) (c .before .before .put-moved .last .1 .1 .1 .1 .0)) e (c .before .before .put-moved .ensures))
+    let e =
+    ap (go (a .out .now) (a .s) (c .before .before .before .before .before .before .before .before .before .before .read .result .floor))
+    (held-numbers _ _ _ w)
+    ∙ sym (after-accepted (λ v. unchanged v (a .out .now)) (go (a .out .now) (a .s)) (a .floor .now) (a .plan .now) _ w) in
+    promise _ _
+    (λ i. omega
+    (arith, c .before .before .before .before .before .before .before .before .before .before .before .before .before .shared-slice-known .given i)) _ _ _ _
+    (subst (λ (o : Outcome). Gives o (c .before .before .put-moved .result) (c .before .before .put-moved .last .1 .1 .1 .1 .0)) e
+    (c .before .before .put-moved .ensures))
 
 pub move-on-spec : {M : Type 1} → statement M
 move-on-spec =

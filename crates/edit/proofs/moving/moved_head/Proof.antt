@@ -9,7 +9,8 @@ sub-t5 : tie.Need-sub-t5
 sub-t5 c = search needs
 
 returns : tie.Need-returns
-returns c = sym (head-early (c .before .before .before .before .args .s) (c .before .before .before .before .args .h) (omega (arith, c .before .before .if1 .taken)))
+returns c =
+    sym (head-early (c .before .before .before .before .args .s) (c .before .before .before .before .args .h) (omega (arith, c .before .before .if1 .taken)))
 
 sub-t7 : tie.Need-sub-t7
 sub-t7 c = search needs

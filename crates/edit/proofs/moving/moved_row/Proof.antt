@@ -30,7 +30,8 @@ same-length c = search needs
 returns : tie.Need-returns
 returns c =
     let a = c .before .before .before .before .before .before .before .before .args in
-    c .before .before .copy-at .ensures ∙ ap (stored (a .out .now) (a .at)) (early (a .row .now) (a .stem) (a .s) (omega (arith, c .before .before .before .before .before .if1 .taken)))
+    c .before .before .copy-at .ensures
+    ∙ ap (stored (a .out .now) (a .at)) (early (a .row .now) (a .stem) (a .s) (omega (arith, c .before .before .before .before .before .if1 .taken)))
 
 sub-k : tie.Need-sub-k
 sub-k c = search needs
@@ -64,7 +65,8 @@ same-length-2 c = search needs
 returns-2 : tie.Need-returns-2
 returns-2 c =
     let a = c .before .before .before .before .before .before .before .before .args in
-    c .before .before .put-turned .ensures ∙ ap (stored (a .out .now) (a .at)) (late (a .row .now) (a .stem) (a .s) (omega (arith, c .before .before .before .before .before .if1 .left)))
+    c .before .before .put-turned .ensures
+    ∙ ap (stored (a .out .now) (a .at)) (late (a .row .now) (a .stem) (a .s) (omega (arith, c .before .before .before .before .before .if1 .left)))
 
 pub moved-row-spec : {M : Type 1} → statement M
 moved-row-spec =

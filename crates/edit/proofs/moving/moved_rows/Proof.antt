@@ -33,16 +33,20 @@ sub-moved-row : tie.Need-sub-moved-row Inv-loop μ-loop
 sub-moved-row c = omega arith
 
 part-moved-row-start : tie.Need-part-moved-row-start Inv-loop μ-loop
-part-moved-row-start c = omega (arith, c .loop-test .taken, c .before .before .before .pre .1 .0, c .before .before .before .pre .0 .steps, c .before .before .before .pre .1 .1)
+part-moved-row-start c =
+    omega (arith, c .loop-test .taken, c .before .before .before .pre .1 .0, c .before .before .before .pre .0 .steps, c .before .before .before .pre .1 .1)
 
 part-moved-row-end : tie.Need-part-moved-row-end Inv-loop μ-loop
-part-moved-row-end c = omega (arith, c .loop-test .taken, c .before .before .before .pre .1 .0, c .before .before .before .pre .0 .steps, c .before .before .before .pre .1 .1)
+part-moved-row-end c =
+    omega (arith, c .loop-test .taken, c .before .before .before .pre .1 .0, c .before .before .before .pre .0 .steps, c .before .before .before .pre .1 .1)
 
 slice-aggregate-moved-row : tie.Need-slice-aggregate-moved-row Inv-loop μ-loop
 slice-aggregate-moved-row c =
     let a = c .before .before .before .before .before .args in
     let p = c .before .before .before .before .before .pre in
-    sym (length-rows (a .h) (a .s) (a .block .now) (p .0) (p .1 .1) (c .before .before .before .loop .c) (a .size) (low (c .before .before)) (p .1 .2) (a .carts) (c .before .before .loop-test .taken) (c .before .before .before .loop .rows) (c .before .before .before .loop .inv))
+    sym
+    (length-rows (a .h) (a .s) (a .block .now) (p .0) (p .1 .1) (c .before .before .before .loop .c) (a .size) (low (c .before .before)) (p .1 .2)
+    (a .carts) (c .before .before .loop-test .taken) (c .before .before .before .loop .rows) (c .before .before .before .loop .inv))
 
 mul-moved-row : tie.Need-mul-moved-row Inv-loop μ-loop
 mul-moved-row c =
@@ -58,7 +62,9 @@ moved-row-requires c κs =
     let n = part-length (a .h .steps) (a .block .now) k (low (c .before .before)) (p .0 .steps) (p .1 .1) in
     let o = one-row (a .h) (a .s) (a .block .now) (p .0) (p .1 .1) k (a .size) (low (c .before .before)) (p .1 .2) in
     let r = room (a .h) (a .s) (a .block .now) (p .0) (p .1 .1) k (a .size) (low (c .before .before)) (p .1 .2) in
-    let q = length-rows (a .h) (a .s) (a .block .now) (p .0) (p .1 .1) k (a .size) (low (c .before .before)) (p .1 .2) (a .carts) (c .before .before .loop-test .taken) (c .before .before .before .loop .rows) (c .before .before .before .loop .inv) in
+    let q =
+    length-rows (a .h) (a .s) (a .block .now) (p .0) (p .1 .1) k (a .size) (low (c .before .before)) (p .1 .2) (a .carts)
+    (c .before .before .loop-test .taken) (c .before .before .before .loop .rows) (c .before .before .before .loop .inv) in
     (omega (arith, p .0 .stem, n), omega (arith, o, r, q))
 
 add-c : tie.Need-add-c Inv-loop μ-loop
@@ -71,15 +77,19 @@ loop-again : tie.Need-loop-again Inv-loop μ-loop
 loop-again c =
     let a = c .before .before .before .before .before .before .before .args in
     let p = c .before .before .before .before .before .before .before .pre in
-    subst (λ (x : List ℕ). Moving (a .h) (a .s) (a .block .now) (a .carts) (a .size) x (c .before .before .before .before .before .loop .c + 1)) (sym (c .before .moved-row .ensures))
-    (onward (a .h) (a .s) (a .block .now) (p .0) (p .1 .1) (c .before .before .before .before .before .loop .c) (a .size) (low (c .before .before .before .before)) (p .1 .2) (a .carts) (c .before .before .before .before .loop-test .taken) (c .before .before .before .before .before .loop .rows) (c .before .before .before .before .before .loop .inv))
+    subst (λ (x : List ℕ). Moving (a .h) (a .s) (a .block .now) (a .carts) (a .size) x (c .before .before .before .before .before .loop .c + 1))
+    (sym (c .before .moved-row .ensures))
+    (onward (a .h) (a .s) (a .block .now) (p .0) (p .1 .1) (c .before .before .before .before .before .loop .c) (a .size)
+    (low (c .before .before .before .before)) (p .1 .2) (a .carts) (c .before .before .before .before .loop-test .taken)
+    (c .before .before .before .before .before .loop .rows) (c .before .before .before .before .before .loop .inv))
 
 returns : tie.Need-returns Inv-loop μ-loop
 returns c =
     let a = c .before .before .before .args in
     let w = c .before .loop .inv in
     let e : c .before .loop .c ≡ a .carts = omega (arith, c .loop-test .left, w .within) in
-    subst (λ (n : ℕ). take (n * a .size) (c .before .loop .rows) ≡ movedIn (a .h) (a .s) (a .block .now) n) e (front (a .h) (a .s) (a .block .now) (a .carts) (a .size) (c .before .loop .rows) (c .before .loop .c) w)
+    subst (λ (n : ℕ). take (n * a .size) (c .before .loop .rows) ≡ movedIn (a .h) (a .s) (a .block .now) n) e
+    (front (a .h) (a .s) (a .block .now) (a .carts) (a .size) (c .before .loop .rows) (c .before .loop .c) w)
 
 pub moved-rows-spec : {M : Type 1} → statement M
 moved-rows-spec =

@@ -15,7 +15,9 @@ use Rattle.edit.proofs.moving.put_moved.Tie as tie
 
 -- the moved head is in range
 ranged : (c : tie.After-moved-head) → InRange (c .moved-head .result)
-ranged c = subst InRange (sym (c .moved-head .ensures)) (head-moved (c .before .before .before .args .s) (c .before .before .before .args .h) (c .before .before .before .pre .0))
+ranged c =
+    subst InRange (sym (c .moved-head .ensures))
+    (head-moved (c .before .before .before .args .s) (c .before .before .before .args .h) (c .before .before .before .pre .0))
 
 moved-head-requires : tie.Need-moved-head-requires
 moved-head-requires c κs = search needs
@@ -50,14 +52,25 @@ part-put-numbers-end : tie.Need-part-put-numbers-end
 part-put-numbers-end c =
     let p = c .before .before .before .before .before .before .before .pre in
     let a = c .before .before .before .before .before .before .before .args in
-    omega (arith, rows-fit (a .h) (a .s) (a .block .now) (p .0) (p .1 .1) (a .carts) (p .1 .0) (c .before .before .before .before .moved-head .result) (c .before .before .before .before .moved-head .ensures))
+    omega (
+      arith,
+      rows-fit (a .h) (a .s) (a .block .now) (p .0) (p .1 .1) (a .carts) (p .1 .0) (c .before .before .before .before .moved-head .result)
+          (c .before .before .before .before .moved-head .ensures),
+    )
 
 put-numbers-requires : tie.Need-put-numbers-requires
 put-numbers-requires c κs =
     let p = c .before .before .before .before .before .before .before .before .before .pre in
     let a = c .before .before .before .before .before .before .before .before .before .args in
-    let e = same-file (a .h) (a .s) (a .block .now) (p .0) (p .1 .1) (a .carts) (p .1 .0) (c .before .before .before .before .before .before .moved-head .result) (c .before .before .before .before .before .before .moved-head .ensures) (c .before .before .before .before .before .moved-rows .result) (c .before .before .before .before .before .moved-rows .ensures) in
-    (ranged (c .before .before .before .before .before .before) .some, omega (arith, ap length e, file-fits (a .h) (a .s) (a .block .now) (p .0) (p .1 .1) (a .carts) (p .1 .0)))
+    let e =
+    same-file (a .h) (a .s) (a .block .now) (p .0) (p .1 .1) (a .carts) (p .1 .0)
+    (c .before .before .before .before .before .before .moved-head .result)
+    (c .before .before .before .before .before .before .moved-head .ensures) (c .before .before .before .before .before .moved-rows .result)
+    (c .before .before .before .before .before .moved-rows .ensures) in (
+      ranged (c .before .before .before .before .before .before) .some,
+      omega
+          (arith, ap length e, file-fits (a .h) (a .s) (a .block .now) (p .0) (p .1 .1) (a .carts) (p .1 .0)),
+    )
 
 same-length : tie.Need-same-length
 same-length c = search needs
@@ -66,8 +79,15 @@ returns : tie.Need-returns
 returns c =
     let p = c .before .before .before .before .before .before .before .before .before .before .before .before .pre in
     let a = c .before .before .before .before .before .before .before .before .before .before .before .before .args in
-    let e = same-file (a .h) (a .s) (a .block .now) (p .0) (p .1 .1) (a .carts) (p .1 .0) (c .before .before .before .before .before .before .before .before .before .moved-head .result) (c .before .before .before .before .before .before .before .before .before .moved-head .ensures) (c .before .before .before .before .before .before .before .before .moved-rows .result) (c .before .before .before .before .before .before .before .before .moved-rows .ensures) in
-    subst (λ (x : List ℕ). Gives (written AboutPlan x (a .out .now)) (c .before .before .put-numbers .result) (c .before .before .put-numbers .last .1 .1 .1 .1 .0)) e (c .before .before .put-numbers .ensures)
+    let e =
+    same-file (a .h) (a .s) (a .block .now) (p .0) (p .1 .1) (a .carts) (p .1 .0)
+    (c .before .before .before .before .before .before .before .before .before .moved-head .result)
+    (c .before .before .before .before .before .before .before .before .before .moved-head .ensures)
+    (c .before .before .before .before .before .before .before .before .moved-rows .result)
+    (c .before .before .before .before .before .before .before .before .moved-rows .ensures) in
+    subst
+    (λ (x : List ℕ). Gives (written AboutPlan x (a .out .now)) (c .before .before .put-numbers .result) (c .before .before .put-numbers .last .1 .1 .1 .1 .0)) e
+    (c .before .before .put-numbers .ensures)
 
 pub put-moved-spec : {M : Type 1} → statement M
 put-moved-spec =

@@ -32,14 +32,19 @@ add-copy-at c = search needs
 slice-aggregate-copy-at : tie.Need-slice-aggregate-copy-at
 slice-aggregate-copy-at c =
     let p = c .before .before .before .before .before .before .before .before .before .pre in
-    sym (length-take-le (c .before .before .before .before .before .before .before .before .before .args .k) (c .before .before .before .before .before .before .before .before .before .args .lap .now) (omega (arith, p .0)))
+    sym
+    (length-take-le (c .before .before .before .before .before .before .before .before .before .args .k)
+    (c .before .before .before .before .before .before .before .before .before .args .lap .now) (omega (arith, p .0)))
 
 copy-at-requires-2 : tie.Need-copy-at-requires-2
 copy-at-requires-2 c κs =
     let p = c .before .before .before .before .before .before .before .before .before .pre in
     let a = c .before .before .before .before .before .before .before .before .before .args in
-    let e : length (take (length (a .lap .now) - a .k) (drop (a .k) (a .lap .now))) ≡ length (a .lap .now) - a .k = ap length (rest (a .lap .now) (a .k)) ∙ length-drop (a .k) (a .lap .now) in
-    let n : length (c .before .before .before .before .copy-at .last .0) ≡ length (a .out .now) = ap length (c .before .before .before .before .copy-at .ensures) ∙ length-stored (a .out .now) (a .at) (take (length (a .lap .now) - a .k) (drop (a .k) (a .lap .now))) (omega (arith, p .1)) in
+    let e : length (take (length (a .lap .now) - a .k) (drop (a .k) (a .lap .now))) ≡ length (a .lap .now) - a .k =
+    ap length (rest (a .lap .now) (a .k)) ∙ length-drop (a .k) (a .lap .now) in
+    let n : length (c .before .before .before .before .copy-at .last .0) ≡ length (a .out .now) =
+    ap length (c .before .before .before .before .copy-at .ensures)
+    ∙ length-stored (a .out .now) (a .at) (take (length (a .lap .now) - a .k) (drop (a .k) (a .lap .now))) (omega (arith, p .1)) in
     omega (arith, p .0, p .1, length-take-le (a .k) (a .lap .now) (omega (arith, p .0)))
 
 same-length : tie.Need-same-length
@@ -48,8 +53,11 @@ same-length c = search needs
 returns : tie.Need-returns
 returns c =
     let a = c .before .before .before .before .before .before .before .before .before .before .before .before .args in
-    c .before .before .copy-at2 .ensures ∙ ap (λ (x : List ℕ). stored x (a .at + (length (a .lap .now) - a .k)) (take (a .k) (a .lap .now))) (c .before .before .before .before .before .before .before .copy-at .ensures)
-    ∙ turned-stored (a .lap .now) (a .out .now) (a .k) (a .at) (c .before .before .before .before .before .before .before .before .before .before .before .before .pre .1)
+    c .before .before .copy-at2 .ensures
+    ∙ ap (λ (x : List ℕ). stored x (a .at + (length (a .lap .now) - a .k)) (take (a .k) (a .lap .now)))
+    (c .before .before .before .before .before .before .before .copy-at .ensures)
+    ∙ turned-stored (a .lap .now) (a .out .now) (a .k) (a .at)
+    (c .before .before .before .before .before .before .before .before .before .before .before .before .pre .1)
 
 pub put-turned-spec : {M : Type 1} → statement M
 put-turned-spec =

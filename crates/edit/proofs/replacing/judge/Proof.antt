@@ -13,14 +13,20 @@ use Rattle.edit.proofs.replacing.judge.Statement.{statement}
 use Rattle.edit.proofs.replacing.judge.Tie as tie
 
 -- the plan is accepted, by the test of its verdict
-read-it : (c : tie.Else1) → Accepts (c .before .before .before .before .before .before .args .floor .now) (c .before .before .before .before .before .before .args .plan .now) (c .before .before .read .result)
+read-it : (c : tie.Else1)
+    → Accepts (c .before .before .before .before .before .before .args .floor .now)
+    (c .before .before .before .before .before .before .args .plan .now) (c .before .before .read .result)
 read-it c = accepts-if _ _ _ (c .before .before .read .ensures) (sym (c .before .accepts .ensures) ∙ not-is _ false (c .if1 .left))
 
 -- the offset is small
-reach : (c : tie.After-judge-after) → c .before .before .before .before .before .before .before .before .before .before .before .args .cart * (4 + c .before .before .before .before .before .before .before .read .result .plan .head .steps) ≤ 4294967296 * 68
+reach : (c : tie.After-judge-after)
+    → c .before .before .before .before .before .before .before .before .before .before .before .args .cart *
+    (4 + c .before .before .before .before .before .before .before .read .result .plan .head .steps) ≤ 4294967296 * 68
 reach c =
-    let few : 4 + c .before .before .before .before .before .before .before .read .result .plan .head .steps ≤ 68 = omega (arith, held-range _ _ _ (read-it (c .before .before .before .before .before)) .steps) in
-    mul-le-mul {n₁ = c .before .before .before .before .before .before .before .before .before .before .before .args .cart} {n₂ = 4294967296} (omega (arith, c .before .before .before .before .before .before .before .before .before .before .before .fits .cart)) few
+    let few : 4 + c .before .before .before .before .before .before .before .read .result .plan .head .steps ≤ 68 =
+    omega (arith, held-range _ _ _ (read-it (c .before .before .before .before .before)) .steps) in
+    mul-le-mul {n₁ = c .before .before .before .before .before .before .before .before .before .before .before .args .cart} {n₂ = 4294967296}
+    (omega (arith, c .before .before .before .before .before .before .before .before .before .before .before .fits .cart)) few
 
 read-requires : tie.Need-read-requires
 read-requires c κs = search needs
@@ -29,7 +35,9 @@ accepts-requires : tie.Need-accepts-requires
 accepts-requires c κs = search needs
 
 returns : tie.Need-returns
-returns c = refused _ _ _ _ (c .before .before .read .result) (c .before .before .read .ensures .answer) (sym (c .before .accepts .ensures) ∙ not-is _ true (c .if1 .taken))
+returns c =
+    refused _ _ _ _ (c .before .before .read .result) (c .before .before .read .ensures .answer)
+    (sym (c .before .accepts .ensures) ∙ not-is _ true (c .if1 .taken))
 
 slice-aggregate-judge-after : tie.Need-slice-aggregate-judge-after
 slice-aggregate-judge-after c = search needs
@@ -37,7 +45,9 @@ slice-aggregate-judge-after c = search needs
 judge-after-requires : tie.Need-judge-after-requires
 judge-after-requires c κs =
     let w = read-it (c .before .before .before .before) in
-    let f = accepts _ _ (λ i. omega (arith, c .before .before .before .before .before .before .before .before .before .shared-slice-known .given i)) (w .floor-read) in
+    let f =
+    accepts _ _ (λ i. omega (arith, c .before .before .before .before .before .before .before .before .before .shared-slice-known .given i))
+    (w .floor-read) in
     (f, (held-range _ _ _ w, held-length _ _ _ w (f .valid .few-carts)))
 
 add-t16 : tie.Need-add-t16
@@ -53,7 +63,9 @@ add-t19 : tie.Need-add-t19
 add-t19 c = omega (arith, reach (c .before))
 
 returns-2 : tie.Need-returns-2
-returns-2 c = judged _ _ _ _ (c .before .before .before .before .before .before .before .before .read .result) (read-it (c .before .before .before .before .before .before)) (c .before .judge-after .result) (c .before .judge-after .ensures) _ (omega arith)
+returns-2 c =
+    judged _ _ _ _ (c .before .before .before .before .before .before .before .before .read .result)
+    (read-it (c .before .before .before .before .before .before)) (c .before .judge-after .result) (c .before .judge-after .ensures) _ (omega arith)
 
 pub judge-spec : {M : Type 1} → statement M
 judge-spec =

@@ -21,16 +21,36 @@ abbrev numbers : tie.After-judge-carts → Numbers
 numbers c = let a = c .before .before .before .before .before .before .before .before .before .args in heldNumbers (a .f .carts) (a .h) (a .block .now)
 
 abbrev moved : tie.After-judge-carts → Verdict
-moved c = movesVerdict (c .before .before .before .before .before .before .before .before .before .args .s .now) (c .before .before .before .before .before .before .before .before .before .args .f) (numbers c)
+moved c =
+    movesVerdict (c .before .before .before .before .before .before .before .before .before .args .s .now)
+    (c .before .before .before .before .before .before .before .before .before .args .f) (numbers c)
 
 -- what follows, for the row
 abbrev next : tie.After-judge-carts → Verdict
-next c = cartRowVerdict (c .before .before .before .before .before .before .before .before .before .args .s .now) (c .before .before .before .before .before .before .before .before .before .args .f) (numbers c) (c .before .before .before .before .before .before .before .before .before .args .cart) (c .before .before .before .before .before .before .before .before .before .args .row .now)
+next c =
+    cartRowVerdict (c .before .before .before .before .before .before .before .before .before .args .s .now)
+    (c .before .before .before .before .before .before .before .before .before .args .f) (numbers c)
+    (c .before .before .before .before .before .before .before .before .before .args .cart)
+    (c .before .before .before .before .before .before .before .before .before .args .row .now)
 
 -- by whether the cart is there
-by-cart : (c : tie.After-judge-carts) (b : Bool) → leb (c .before .before .before .before .before .before .before .before .before .args .f .carts) (c .before .before .before .before .before .before .before .before .before .args .cart) ≡ b
-    → next c ≡ cond b (AboutPlan (refused 19 (c .before .before .before .before .before .before .before .before .before .args .cart) 0)) (newRowVerdict (c .before .before .before .before .before .before .before .before .before .args .s .now) (c .before .before .before .before .before .before .before .before .before .args .f) (c .before .before .before .before .before .before .before .before .before .args .h) (c .before .before .before .before .before .before .before .before .before .args .cart) (c .before .before .before .before .before .before .before .before .before .args .row .now))
-by-cart c b e = ap (λ (t : Bool). cond t (AboutPlan (refused 19 (c .before .before .before .before .before .before .before .before .before .args .cart) 0)) (newRowVerdict (c .before .before .before .before .before .before .before .before .before .args .s .now) (c .before .before .before .before .before .before .before .before .before .args .f) (c .before .before .before .before .before .before .before .before .before .args .h) (c .before .before .before .before .before .before .before .before .before .args .cart) (c .before .before .before .before .before .before .before .before .before .args .row .now))) e
+by-cart : (c : tie.After-judge-carts) (b : Bool)
+    → leb (c .before .before .before .before .before .before .before .before .before .args .f .carts)
+    (c .before .before .before .before .before .before .before .before .before .args .cart) ≡ b
+    → next c ≡ cond b (AboutPlan (refused 19 (c .before .before .before .before .before .before .before .before .before .args .cart) 0))
+    (newRowVerdict (c .before .before .before .before .before .before .before .before .before .args .s .now)
+    (c .before .before .before .before .before .before .before .before .before .args .f)
+    (c .before .before .before .before .before .before .before .before .before .args .h)
+    (c .before .before .before .before .before .before .before .before .before .args .cart)
+    (c .before .before .before .before .before .before .before .before .before .args .row .now))
+by-cart c b e =
+    ap
+    (λ (t : Bool). cond t (AboutPlan (refused 19 (c .before .before .before .before .before .before .before .before .before .args .cart) 0))
+    (newRowVerdict (c .before .before .before .before .before .before .before .before .before .args .s .now)
+    (c .before .before .before .before .before .before .before .before .before .args .f)
+    (c .before .before .before .before .before .before .before .before .before .args .h)
+    (c .before .before .before .before .before .before .before .before .before .args .cart)
+    (c .before .before .before .before .before .before .before .before .before .args .row .now))) e
 
 passed : (c : tie.Else1) → isAccepted (moved (c .before .before)) ≡ true
 passed c = ap isAccepted (sym (c .before .before .judge-carts .ensures)) ∙ sym (c .before .accepts .ensures) ∙ not-is _ false (c .if1 .left)
@@ -47,21 +67,44 @@ accepts-requires : tie.Need-accepts-requires
 accepts-requires c κs = search needs
 
 returns : tie.Need-returns
-returns c = c .before .before .judge-carts .ensures ∙ sym (stops (moved (c .before .before)) (next (c .before .before)) (ap isAccepted (sym (c .before .before .judge-carts .ensures)) ∙ sym (c .before .accepts .ensures) ∙ not-is _ true (c .if1 .taken)))
+returns c =
+    c .before .before .judge-carts .ensures
+    ∙ sym
+    (stops (moved (c .before .before)) (next (c .before .before))
+    (ap isAccepted (sym (c .before .before .judge-carts .ensures)) ∙ sym (c .before .accepts .ensures) ∙ not-is _ true (c .if1 .taken)))
 
 refuse-requires : tie.Need-refuse-requires
 refuse-requires c κs = search needs
 
 returns-2 : tie.Need-returns-2
-returns-2 c = ap AboutPlan (c .refuse .ensures) ∙ sym (goes-on (moved (c .before .before .before .before .before)) (next (c .before .before .before .before .before)) (passed (c .before .before .before)) ∙ by-cart (c .before .before .before .before .before) true (le-leb (c .before .before .before .before .before .before .before .before .before .before .before .before .before .before .args .f .carts) (c .before .before .before .before .before .before .before .before .before .before .before .before .before .before .args .cart) (omega (arith, c .before .if2 .taken))))
+returns-2 c =
+    ap AboutPlan (c .refuse .ensures)
+    ∙ sym
+    (goes-on (moved (c .before .before .before .before .before)) (next (c .before .before .before .before .before)) (passed
+    (c .before .before .before)) ∙ by-cart (c .before .before .before .before .before) true (le-leb
+    (c .before .before .before .before .before .before .before .before .before .before .before .before .before .before .args .f .carts)
+    (c .before .before .before .before .before .before .before .before .before .before .before .before .before .before .args .cart)
+    (omega (arith, c .before .if2 .taken))))
 
 judge-fit-requires : tie.Need-judge-fit-requires
 judge-fit-requires c κs =
-    let p = c .before .before .before .before .before .before .before .before .before .before .before .before .before .before .before .pre in
-    (p .0, (c .before .before .before .before .before .before .before .before .before .before .before .linked .ensures, (p .1 .0, omega (arith, c .before .before .if2 .left))))
+    let p = c .before .before .before .before .before .before .before .before .before .before .before .before .before .before .before .pre in (
+      p .0,
+      (
+        c .before .before .before .before .before .before .before .before .before .before .before .linked .ensures,
+        (p .1 .0, omega (arith, c .before .before .if2 .left)),
+      ),
+    )
 
 returns-3 : tie.Need-returns-3
-returns-3 c = c .judge-fit .ensures ∙ sym (goes-on (moved (c .before .before .before .before .before .before .before)) (next (c .before .before .before .before .before .before .before)) (passed (c .before .before .before .before .before)) ∙ by-cart (c .before .before .before .before .before .before .before) false (lt-leb (c .before .before .before .before .before .before .before .before .before .before .before .before .before .before .before .before .args .f .carts) (c .before .before .before .before .before .before .before .before .before .before .before .before .before .before .before .before .args .cart) (omega (arith, c .before .before .before .if2 .left))))
+returns-3 c =
+    c .judge-fit .ensures
+    ∙ sym
+    (goes-on (moved (c .before .before .before .before .before .before .before)) (next (c .before .before .before .before .before .before .before))
+    (passed (c .before .before .before .before .before)) ∙ by-cart (c .before .before .before .before .before .before .before) false (lt-leb
+    (c .before .before .before .before .before .before .before .before .before .before .before .before .before .before .before .before .args .f .carts)
+    (c .before .before .before .before .before .before .before .before .before .before .before .before .before .before .before .before .args .cart)
+    (omega (arith, c .before .before .before .if2 .left))))
 
 pub judge-after-spec : {M : Type 1} → statement M
 judge-after-spec =

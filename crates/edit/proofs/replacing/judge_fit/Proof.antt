@@ -17,7 +17,10 @@ use Rattle.edit.proofs.replacing.judge_fit.Tie as tie
 
 -- the row judged
 abbrev judged : tie.After-verdict-of → Verdict
-judged c = placesVerdict (c .before .before .before .before .args .c) (judgedRow (c .before .before .before .before .args .row .now) (c .before .before .before .before .args .h .steps) (c .before .before .before .before .args .f .places))
+judged c =
+    placesVerdict (c .before .before .before .before .args .c)
+    (judgedRow (c .before .before .before .before .args .row .now) (c .before .before .before .before .args .h .steps)
+    (c .before .before .before .before .args .f .places))
 
 is : (c : tie.After-verdict-of) → c .verdict-of .result ≡ judged c
 is c = c .verdict-of .ensures ∙ ap (placesVerdict (c .before .before .before .before .args .c)) (c .before .judge-row .ensures)
@@ -26,7 +29,9 @@ is c = c .verdict-of .ensures ∙ ap (placesVerdict (c .before .before .before .
 passed : (c : tie.Else1) → isAccepted (judged (c .before .before)) ≡ true
 passed c = ap isAccepted (sym (is (c .before .before))) ∙ sym (c .before .accepts .ensures) ∙ not-is _ false (c .if1 .left)
 
-fits : (c : tie.Else1) → RowFits (c .before .before .before .before .before .before .args .h .steps) (c .before .before .before .before .before .before .args .f .places) (c .before .before .before .before .before .before .args .row .now)
+fits : (c : tie.Else1)
+    → RowFits (c .before .before .before .before .before .before .args .h .steps) (c .before .before .before .before .before .before .args .f .places)
+    (c .before .before .before .before .before .before .args .row .now)
 fits c = fits-if (c .before .before .before .before .before .before .args .c) _ _ _ (passed c)
 
 judge-row-requires : tie.Need-judge-row-requires
@@ -41,7 +46,10 @@ accepts-requires : tie.Need-accepts-requires
 accepts-requires c κs = search needs
 
 returns : tie.Need-returns
-returns c = is (c .before .before) ∙ sym (stops (judged (c .before .before)) _ (ap isAccepted (sym (is (c .before .before))) ∙ sym (c .before .accepts .ensures) ∙ not-is _ true (c .if1 .taken)))
+returns c =
+    is (c .before .before)
+    ∙ sym
+    (stops (judged (c .before .before)) _ (ap isAccepted (sym (is (c .before .before))) ∙ sym (c .before .accepts .ensures) ∙ not-is _ true (c .if1 .taken)))
 
 judge-cart-requires : tie.Need-judge-cart-requires
 judge-cart-requires c κs =
@@ -52,7 +60,8 @@ judge-cart-requires c κs =
 returns-2 : tie.Need-returns-2
 returns-2 c =
     let a = c .before .before .before .before .before .before .before .args in
-    c .judge-cart .ensures ∙ ap (λ (n : ℕ). cartVerdict (a .s .now) (a .c) (a .row .now) n (a .h .stem)) (fits (c .before) .size) ∙ sym (goes-on (judged (c .before .before .before)) _ (passed (c .before)))
+    c .judge-cart .ensures ∙ ap (λ (n : ℕ). cartVerdict (a .s .now) (a .c) (a .row .now) n (a .h .stem)) (fits (c .before) .size)
+    ∙ sym (goes-on (judged (c .before .before .before)) _ (passed (c .before)))
 
 pub judge-fit-spec : {M : Type 1} → statement M
 judge-fit-spec =

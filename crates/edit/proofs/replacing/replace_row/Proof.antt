@@ -29,7 +29,9 @@ returns c =
     let e = c .before .before .before .before .before .accepts .ensures in
     let t = c .before .before .before .before .if1 .taken in
     let yes : isAccepted (c .before .before .before .before .before .before .judge .result .verdict) ≡ true = cc in
-    promise _ _ _ _ _ _ (record { answer = j .answer; out = c .before .before .copy-at .ensures ∙ sym (j .changed yes) }) (λ i. omega (arith, c .before .before .before .before .before .before .before .before .before .before .shared-slice-known .given i)) (λ i. omega (arith, c .before .before .before .before .before .before .before .before .before .slice-known .given i))
+    promise _ _ _ _ _ _ (record { answer = j .answer; out = c .before .before .copy-at .ensures ∙ sym (j .changed yes) })
+    (λ i. omega (arith, c .before .before .before .before .before .before .before .before .before .before .shared-slice-known .given i))
+    (λ i. omega (arith, c .before .before .before .before .before .before .before .before .before .slice-known .given i))
 
 same-length-2 : tie.Need-same-length-2
 same-length-2 c = search needs
@@ -40,7 +42,9 @@ returns-2 c =
     let e = c .before .accepts .ensures in
     let t = c .if1 .left in
     let no : isAccepted (c .before .before .judge .result .verdict) ≡ false = cc in
-    promise _ _ _ _ _ _ (record { answer = j .answer; out = sym (j .kept no) }) (λ i. omega (arith, c .before .before .before .before .before .before .shared-slice-known .given i)) (λ i. omega (arith, c .before .before .before .before .before .slice-known .given i))
+    promise _ _ _ _ _ _ (record { answer = j .answer; out = sym (j .kept no) })
+    (λ i. omega (arith, c .before .before .before .before .before .before .shared-slice-known .given i))
+    (λ i. omega (arith, c .before .before .before .before .before .slice-known .given i))
 
 pub replace-row-spec : {M : Type 1} → statement M
 replace-row-spec =

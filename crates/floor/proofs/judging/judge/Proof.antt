@@ -21,7 +21,9 @@ judge-cart-requires : tie.Need-judge-cart-requires
 judge-cart-requires c κs = search needs
 
 returns-3 : tie.Need-returns-3
-returns-3 c = c .judge-cart .ensures ∙ simp (ne-eqb _ _ (c .before .before .before .if1 .left), ne-eqb _ _ (c .before .before .if2 .left), eq-eqb _ _ (c .before .if3 .taken))
+returns-3 c =
+    c .judge-cart .ensures
+    ∙ simp (ne-eqb _ _ (c .before .before .before .if1 .left), ne-eqb _ _ (c .before .before .if2 .left), eq-eqb _ _ (c .before .if3 .taken))
 
 returns-4 : tie.Need-returns-4
 unfolding judged

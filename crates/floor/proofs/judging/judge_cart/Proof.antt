@@ -23,7 +23,12 @@ returns-3 : tie.Need-returns-3
 unfolding judged
 returns-3 c =
     let a = c .before .before .before .before .before .before .args in
-    simp (eq-eqb _ _ (c .before .before .before .before .if1 .left), lt-leb 32 (a .f .carts) (omega (arith, c .before .before .if2 .left)), lt-ltb 7 (getD (a .body .now) 0 0) (omega (arith, c .if3 .taken)))
+    simp (
+      eq-eqb _ _ (c .before .before .before .before .if1 .left),
+      lt-leb 32 (a .f .carts) (omega (arith, c .before .before .if2 .left)),
+      lt-ltb 7
+          (getD (a .body .now) 0 0) (omega (arith, c .if3 .taken)),
+    )
 
 shared-slice-read-wide : tie.Need-shared-slice-read-wide
 shared-slice-read-wide c = search needs
@@ -35,7 +40,14 @@ returns-4 : tie.Need-returns-4
 unfolding judged
 returns-4 c =
     let a = c .before .before .before .before .before .before .before .before .before .before .args in
-    simp (eq-eqb _ _ (c .before .before .before .before .before .before .before .before .if1 .left), lt-leb 32 (a .f .carts) (omega (arith, c .before .before .before .before .before .before .if2 .left)), le-ltb 7 (getD (a .body .now) 0 0) (omega (arith, c .before .before .before .before .if3 .left)), le-leb (a .f .places) (getD (a .body .now) 1 0) (omega arith))
+    simp (
+      eq-eqb _ _ (c .before .before .before .before .before .before .before .before .if1 .left),
+      lt-leb 32 (a .f .carts)
+          (omega (arith, c .before .before .before .before .before .before .if2 .left)),
+      le-ltb 7 (getD (a .body .now) 0 0)
+          (omega (arith, c .before .before .before .before .if3 .left)),
+      le-leb (a .f .places) (getD (a .body .now) 1 0) (omega arith),
+    )
 
 add-t3 : tie.Need-add-t3
 add-t3 c = search needs
@@ -44,7 +56,14 @@ returns-5 : tie.Need-returns-5
 unfolding judged
 returns-5 c =
     let a = c .before .before .before .before .before .before .before .before .before .before .before .args in
-    simp (eq-eqb _ _ (c .before .before .before .before .before .before .before .before .before .if1 .left), lt-leb 32 (a .f .carts) (omega (arith, c .before .before .before .before .before .before .before .if2 .left)), le-ltb 7 (getD (a .body .now) 0 0) (omega (arith, c .before .before .before .before .before .if3 .left)), lt-leb (a .f .places) (getD (a .body .now) 1 0) (omega arith))
+    simp (
+      eq-eqb _ _ (c .before .before .before .before .before .before .before .before .before .if1 .left),
+      lt-leb 32 (a .f .carts)
+          (omega (arith, c .before .before .before .before .before .before .before .if2 .left)),
+      le-ltb 7 (getD (a .body .now) 0 0)
+          (omega (arith, c .before .before .before .before .before .if3 .left)),
+      lt-leb (a .f .places) (getD (a .body .now) 1 0) (omega arith),
+    )
 
 pub judge-cart-spec : {M : Type 1} → statement M
 judge-cart-spec =

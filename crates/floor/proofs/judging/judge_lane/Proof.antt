@@ -28,7 +28,14 @@ returns-4 : tie.Need-returns-4
 unfolding judged
 returns-4 c =
     let a = c .before .before .before .before .before .before .before .before .before .before .args in
-    simp (le-ltb _ _ (c .before .before .before .before .before .before .before .if1 .left), eq-eqb _ _ (c .before .before .before .before .before .before .if2 .left), lt-leb _ _ (c .before .before .before .before .if3 .left), le-leb (a .f .places) (getD (a .body .now) 0 0) (omega arith))
+    simp (
+      le-ltb _ _ (c .before .before .before .before .before .before .before .if1 .left),
+      eq-eqb _ _
+          (c .before .before .before .before .before .before .if2 .left),
+      lt-leb _ _ (c .before .before .before .before .if3 .left),
+      le-leb
+          (a .f .places) (getD (a .body .now) 0 0) (omega arith),
+    )
 
 shared-slice-read-wide-2 : tie.Need-shared-slice-read-wide-2
 shared-slice-read-wide-2 c = search needs

@@ -18,14 +18,28 @@ returns-3 c = simp (le-ltb _ _ (c .before .before .before .if1 .left), le-ltb _ 
 
 returns-4 : tie.Need-returns-4
 unfolding judged
-returns-4 c = simp (le-ltb _ _ (c .before .before .before .before .before .if1 .left), le-ltb _ _ (c .before .before .before .if2 .left), eq-eqb _ _ (c .before .before .if3 .left), le-leb _ _ (c .if4 .taken))
+returns-4 c =
+    simp (
+      le-ltb _ _ (c .before .before .before .before .before .if1 .left),
+      le-ltb _ _ (c .before .before .before .if2 .left),
+      eq-eqb _ _
+          (c .before .before .if3 .left),
+      le-leb _ _ (c .if4 .taken),
+    )
 
 add-t4 : tie.Need-add-t4
 add-t4 c = search needs
 
 returns-5 : tie.Need-returns-5
 unfolding judged
-returns-5 c = simp (le-ltb _ _ (c .before .before .before .before .before .before .if1 .left), le-ltb _ _ (c .before .before .before .before .if2 .left), eq-eqb _ _ (c .before .before .before .if3 .left), lt-leb _ _ (c .before .if4 .left))
+returns-5 c =
+    simp (
+      le-ltb _ _ (c .before .before .before .before .before .before .if1 .left),
+      le-ltb _ _ (c .before .before .before .before .if2 .left),
+      eq-eqb _ _
+          (c .before .before .before .if3 .left),
+      lt-leb _ _ (c .before .if4 .left),
+    )
 
 pub judge-place-spec : {M : Type 1} → statement M
 judge-place-spec = tie.close (tie.spec returns returns-2 returns-3 returns-4 add-t4 returns-5)

@@ -30,11 +30,13 @@ promise : (s : List ℕ) (r : FloorAnswer) → Bytes s → r ≡ readFloor s →
 promise s r b e = record { answer = e; accepted = λ f q. accepts s f b (sym e ∙ q) }
 
 found : (c : tie.After-known-told Inv-loop μ-loop)
-    → foundAt (c .before .before .before .before .before .before .before .args .s .now) (c .before .before .before .before .loop .at) ≡ Whole (c .before .kind .given .0 .0) (c .before .kind .given .0 .1 .0) (c .before .kind .given .0 .1 .1 .0)
+    → foundAt (c .before .before .before .before .before .before .before .args .s .now) (c .before .before .before .before .loop .at) ≡ Whole
+    (c .before .kind .given .0 .0) (c .before .kind .given .0 .1 .0) (c .before .kind .given .0 .1 .1 .0)
 found c = sym (c .before .before .before .find .ensures) ∙ c .before .kind .given .1
 
 opens : (c : tie.After-known-told Inv-loop μ-loop)
-    → Opened (c .before .before .before .before .before .before .before .args .s .now) (c .before .before .before .before .loop .at) (c .before .kind .given .0 .0) (c .before .kind .given .0 .1 .0) (c .before .kind .given .0 .1 .1 .0)
+    → Opened (c .before .before .before .before .before .before .before .args .s .now) (c .before .before .before .before .loop .at)
+    (c .before .kind .given .0 .0) (c .before .kind .given .0 .1 .0) (c .before .kind .given .0 .1 .1 .0)
 opens c = opened (c .before .before .before .before .before .before .before .args .s .now) (c .before .before .before .before .loop .at) _ _ _ (found c)
 
 at-offset-requires : tie.Need-at-offset-requires Inv-loop μ-loop
@@ -61,7 +63,8 @@ returns-2 : tie.Need-returns-2 Inv-loop μ-loop
 returns-2 c =
     let s = c .before .before .before .before .before .before .before .args .s .now in
     promise _ _ (λ i. omega (arith, c .before .before .before .before .before .before .shared-slice-known .given i))
-    (c .at-end .ensures ∙ sym (at-end s (c .before .before .before .before .loop .f) (c .before .before .before .before .loop .at) (sym (c .before .before .before .find .ensures) ∙ c .before .enum-told .given .1)) ∙ c .before .before .before .before .loop .inv .2)
+    (c .at-end .ensures ∙ sym (at-end s (c .before .before .before .before .loop .f) (c .before .before .before .before .loop .at)
+    (sym (c .before .before .before .find .ensures) ∙ c .before .enum-told .given .1)) ∙ c .before .before .before .before .loop .inv .2)
 
 enum-told-2 : tie.Need-enum-told-2 Inv-loop μ-loop
 enum-told-2 c = search needs
@@ -76,7 +79,8 @@ returns-3 : tie.Need-returns-3 Inv-loop μ-loop
 returns-3 c =
     let s = c .before .before .before .before .before .before .before .args .s .now in
     promise _ _ (λ i. omega (arith, c .before .before .before .before .before .before .shared-slice-known .given i))
-    (ap Refused (c .at-offset2 .ensures) ∙ sym (at-cut s (c .before .before .before .before .loop .f) (c .before .before .before .before .loop .at) (sym (c .before .before .before .find .ensures) ∙ c .before .enum-told2 .given .1)) ∙ c .before .before .before .before .loop .inv .2)
+    (ap Refused (c .at-offset2 .ensures) ∙ sym (at-cut s (c .before .before .before .before .loop .f) (c .before .before .before .before .loop .at)
+    (sym (c .before .before .before .find .ensures) ∙ c .before .enum-told2 .given .1)) ∙ c .before .before .before .before .loop .inv .2)
 
 enum-known-kind : tie.Need-enum-known-kind Inv-loop μ-loop
 enum-known-kind c = search needs
@@ -110,7 +114,11 @@ loop-again c =
     let s = c .before .before .before .before .before .before .before .before .before .before .before .before .args .s .now in (
       opens (c .before .before .before .before .before) .within,
       c .before .before .before .before .before .before .before .before .before .loop .inv .1,
-      sym (at-good s (c .before .before .before .before .before .before .before .before .before .loop .f) (c .before .before .before .before .before .before .before .before .before .loop .at) _ _ _ (found (c .before .before .before .before .before)) _ (sym (c .before .before .before .judge .ensures) ∙ c .before .g .given .1)) ∙ c .before .before .before .before .before .before .before .before .before .loop .inv .2,
+      sym
+          (at-good s (c .before .before .before .before .before .before .before .before .before .loop .f)
+          (c .before .before .before .before .before .before .before .before .before .loop .at) _ _ _
+          (found (c .before .before .before .before .before)) _ (sym (c .before .before .before .judge .ensures) ∙ c .before .g .given .1))
+          ∙ c .before .before .before .before .before .before .before .before .before .loop .inv .2,
     )
 
 enum-known-n : tie.Need-enum-known-n Inv-loop μ-loop
@@ -125,9 +133,15 @@ at-offset-requires-3 c κs = search needs
 returns-4 : tie.Need-returns-4 Inv-loop μ-loop
 returns-4 c =
     let s = c .before .before .before .before .before .before .before .before .before .before .before .before .before .args .s .now in
-    promise _ _ (λ i. omega (arith, c .before .before .before .before .before .before .before .before .before .before .before .before .shared-slice-known .given i))
+    promise _ _
+    (λ i. omega (arith, c .before .before .before .before .before .before .before .before .before .before .before .before .shared-slice-known .given i))
     (ap Refused (c .at-offset3 .ensures)
-    ∙ sym (at-fault s (c .before .before .before .before .before .before .before .before .before .before .loop .f) (c .before .before .before .before .before .before .before .before .before .before .loop .at) _ _ _ (found (c .before .before .before .before .before .before)) _ (sym (c .before .before .before .before .judge .ensures) ∙ c .before .before .n .given .1)) ∙ c .before .before .before .before .before .before .before .before .before .before .loop .inv .2)
+    ∙ sym
+    (at-fault s (c .before .before .before .before .before .before .before .before .before .before .loop .f)
+    (c .before .before .before .before .before .before .before .before .before .before .loop .at) _ _ _
+    (found (c .before .before .before .before .before .before)) _
+    (sym (c .before .before .before .before .judge .ensures) ∙ c .before .before .n .given .1))
+    ∙ c .before .before .before .before .before .before .before .before .before .before .loop .inv .2)
 
 pub read-spec : {M : Type 1} → statement M
 read-spec =

@@ -16,7 +16,9 @@ use Rattle.floor.proofs.writing.judge_numbers.Statement.{statement}
 use Rattle.floor.proofs.writing.judge_numbers.Tie as tie
 
 abbrev held : (c : tie.Else1) → Numbers
-held c = numbers (c .before .before .before .before .before .args .places .now) (c .before .before .before .before .before .args .lanes .now) (c .before .before .before .before .before .args .carts .now)
+held c =
+    numbers (c .before .before .before .before .before .args .places .now) (c .before .before .before .before .before .args .lanes .now)
+    (c .before .before .before .before .before .args .carts .now)
 
 -- behind the first test the numbers fit a file
 short : (c : tie.Else1) → length (floorBytes (held c)) ≤ 65536
@@ -51,14 +53,18 @@ walk-on-requires-2 c κs =
 answer-requires : tie.Need-answer-requires
 answer-requires c κs =
     let n = held (c .before .before .before) in
-    subst (λ (w : Walked). UpTo 65536 w 0) (sym (c .walk-on2 .ensures ∙ ap (λ (w : Walked). walkOn w (cartRecords n)) (c .before .walk-on .ensures ∙ ap (λ (w : Walked). walkOn w (laneRecords n)) (c .before .before .walk-places .ensures))))
+    subst (λ (w : Walked). UpTo 65536 w 0)
+    (sym (c .walk-on2 .ensures ∙ ap (λ (w : Walked). walkOn w (cartRecords n))
+    (c .before .walk-on .ensures ∙ ap (λ (w : Walked). walkOn w (laneRecords n)) (c .before .before .walk-places .ensures))))
     (up-to-end n (short (c .before .before .before)))
 
 returns-2 : tie.Need-returns-2
 returns-2 c =
     let n = held (c .before .before .before .before) in
     c .answer .ensures
-    ∙ ap (λ (w : Walked). atEnd w false) (c .before .walk-on2 .ensures ∙ ap (λ (w : Walked). walkOn w (cartRecords n)) (c .before .before .walk-on .ensures ∙ ap (λ (w : Walked). walkOn w (laneRecords n)) (c .before .before .before .walk-places .ensures)))
+    ∙ ap (λ (w : Walked). atEnd w false)
+    (c .before .walk-on2 .ensures ∙ ap (λ (w : Walked). walkOn w (cartRecords n))
+    (c .before .before .walk-on .ensures ∙ ap (λ (w : Walked). walkOn w (laneRecords n)) (c .before .before .before .walk-places .ensures)))
     ∙ sym (read-numbers n (short (c .before .before .before .before)))
 
 pub judge-numbers-spec : {M : Type 1} → statement M

@@ -32,7 +32,8 @@ returns : tie.Need-returns
 returns c =
     let n = held (c .before .before .before .before .before .before .before) in
     let s = size (c .before .before) in
-    gives-short AboutFloor (floorBytes n) (c .before .before .before .before .before .before .before .args .out .now) _ (omega arith) (ap AboutFloor (c .refuse .ensures ∙ ap (λ (k : ℕ). refused 18 k 0) s))
+    gives-short AboutFloor (floorBytes n) (c .before .before .before .before .before .before .before .args .out .now) _ (omega arith)
+    (ap AboutFloor (c .refuse .ensures ∙ ap (λ (k : ℕ). refused 18 k 0) s))
 
 put-places-requires : tie.Need-put-places-requires
 put-places-requires c κs =
@@ -42,8 +43,12 @@ put-places-requires c κs =
 put-parts-requires : tie.Need-put-parts-requires
 put-parts-requires c κs =
     let n = held (c .before .before .before .before .before .before .before .before .before .before .before) in
-    let k = c .before .before .before .put-places .ensures .0 in
-    (omega arith, omega arith, omega (arith, size (c .before .before .before .before .before .before), length-three n, c .before .before .before .put-places .kept .0))
+    let k = c .before .before .before .put-places .ensures .0 in (
+      omega arith,
+      omega arith,
+      omega
+          (arith, size (c .before .before .before .before .before .before), length-three n, c .before .before .before .put-places .kept .0),
+    )
 
 put-parts-requires-2 : tie.Need-put-parts-requires-2
 put-parts-requires-2 c κs =
@@ -60,11 +65,18 @@ same-length c = search needs
 
 returns-2 : tie.Need-returns-2
 returns-2 c =
-    let n = held (c .before .before .before .before .before .before .before .before .before .before .before .before .before .before .before .before .before .before) in
-    let out = c .before .before .before .before .before .before .before .before .before .before .before .before .before .before .before .before .before .before .args .out .now in
+    let n =
+    held
+    (c .before .before .before .before .before .before .before .before .before .before .before .before .before .before .before .before .before .before) in
+    let out =
+    c .before .before .before .before .before .before .before .before .before .before .before .before .before .before .before .before .before .before .args .out .now in
     let s = size (c .before .before .before .before .before .before .before .before .before .before .before .before .before) in
     gives-written AboutFloor (floorBytes n) out _ _ (omega arith) (ap Written s)
-    (floor-stored n out (omega arith) _ _ _ _ _ (c .before .before .before .before .before .before .before .before .before .before .put-places .ensures .0) (c .before .before .before .before .before .before .put-parts .ensures .0) (c .before .before .before .before .before .before .before .before .before .before .put-places .ensures .1) (c .before .before .before .before .before .before .put-parts .ensures .1) (c .before .before .put-parts2 .ensures .1))
+    (floor-stored n out (omega arith) _ _ _ _ _
+    (c .before .before .before .before .before .before .before .before .before .before .put-places .ensures .0)
+    (c .before .before .before .before .before .before .put-parts .ensures .0)
+    (c .before .before .before .before .before .before .before .before .before .before .put-places .ensures .1)
+    (c .before .before .before .before .before .before .put-parts .ensures .1) (c .before .before .put-parts2 .ensures .1))
 
 pub put-numbers-spec : {M : Type 1} → statement M
 put-numbers-spec =

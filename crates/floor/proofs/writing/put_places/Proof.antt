@@ -47,8 +47,11 @@ slice-aggregate-put c = search needs
 put-requires : tie.Need-put-requires Inv-loop μ-loop
 put-requires c κs =
     let a = c .before .before .before .before .before .before .before .before .args in
-    let n = ap length (c .before .bytes32 .ensures) ∙ length-bytes 4 (getD (a .places .now) (c .before .before .before .before .before .loop .i) 0) in
-    (omega arith, omega (arith, room (c .before .before .before .before .before .before .before .before), c .before .before .before .before .before .loop .inv .1))
+    let n = ap length (c .before .bytes32 .ensures) ∙ length-bytes 4 (getD (a .places .now) (c .before .before .before .before .before .loop .i) 0) in (
+      omega arith,
+      omega
+          (arith, room (c .before .before .before .before .before .before .before .before), c .before .before .before .before .before .loop .inv .1),
+    )
 
 add-i : tie.Need-add-i Inv-loop μ-loop
 add-i c = omega arith
@@ -64,7 +67,8 @@ loop-again c =
       c .before .before .put .kept .0 ∙ v .inv .1,
       c .before .before .put .ensures
           ∙ ap (λ (b : List ℕ). stored (v .out) (v .i * 8) (encoded (ofKind 1 b))) (c .before .before .before .before .bytes32 .ensures)
-          ∙ place-stored (a .out .now) (v .out) (a .places .now) (v .i) (c .before .before .before .before .before .before .before .loop-test .taken) (room (c .before .before .before .before .before .before .before .before .before .before .before)) (v .inv .2),
+          ∙ place-stored (a .out .now) (v .out) (a .places .now) (v .i) (c .before .before .before .before .before .before .before .loop-test .taken)
+          (room (c .before .before .before .before .before .before .before .before .before .before .before)) (v .inv .2),
     )
 
 mul-result : tie.Need-mul-result Inv-loop μ-loop
@@ -78,7 +82,8 @@ returns c =
     let a = c .before .before .before .before .args in
     let v = c .before .loop in
     let n : v .i ≡ length (a .places .now) = omega arith in
-    let e : first (a .places .now) (v .i) ≡ layout (map placeRecord (a .places .now)) = ap (first (a .places .now)) n ∙ ap (λ (l : List ℕ). layout (map placeRecord l)) (take-length (a .places .now)) in
+    let e : first (a .places .now) (v .i) ≡ layout (map placeRecord (a .places .now)) =
+    ap (first (a .places .now)) n ∙ ap (λ (l : List ℕ). layout (map placeRecord l)) (take-length (a .places .now)) in
     (omega (arith, length-places (a .places .now)), v .inv .2 ∙ ap (stored (a .out .now) 0) e)
 
 pub put-places-spec : {M : Type 1} → statement M

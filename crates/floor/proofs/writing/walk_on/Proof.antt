@@ -13,8 +13,11 @@ enum-known-w c = search needs
 
 walk-parts-requires : tie.Need-walk-parts-requires
 walk-parts-requires c κs =
-    let a = c .before .before .before .before .args in
-    (c .before .before .before .before .pre .0, subst (λ (w : Walked). UpTo 65536 w (length (laid (a .kind) (a .size) (a .bodies .now)))) (c .before .w .given .1) (c .before .before .before .before .pre .1))
+    let a = c .before .before .before .before .args in (
+      c .before .before .before .before .pre .0,
+      subst (λ (w : Walked). UpTo 65536 w (length (laid (a .kind) (a .size) (a .bodies .now))))
+          (c .before .w .given .1) (c .before .before .before .before .pre .1),
+    )
 
 enum-known-w-2 : tie.Need-enum-known-w-2
 enum-known-w-2 c = search needs

@@ -11,14 +11,19 @@ use Rattle.floor.proofs.writing.walk_parts.Statement.{statement}
 use Rattle.floor.proofs.writing.walk_parts.Tie as tie
 
 abbrev Inv-loop : tie.InvT-loop
-Inv-loop at kind size bodies g₀ next₀ i₀ g next i = (i ≤ length bodies) × (next + length (laid kind size (drop i bodies)) ≤ 65536) × (walkFrom kind size bodies g next i ≡ walkFrom kind size bodies g₀ at 0)
+Inv-loop at kind size bodies g₀ next₀ i₀ g next i =
+    (i ≤ length bodies) × (next + length (laid kind size (drop i bodies)) ≤ 65536) × (walkFrom kind size bodies g next i ≡ walkFrom kind size bodies g₀ at 0)
 
 abbrev μ-loop : tie.MeasureT-loop
 μ-loop at kind size bodies g₀ next₀ i₀ g next i = length bodies - i
 
 -- the part that a turn judges
-there : (c : tie.After-part-end Inv-loop μ-loop) → PartAt (c .before .before .before .before .args .size) (c .before .before .before .before .args .bodies .now) (c .before .before .loop .i) (c .part-end .result)
-there c = part-at (c .before .before .before .before .args .size) (c .before .before .before .before .args .bodies .now) (c .before .before .loop .i) (c .part-end .result) (c .before .before .before .before .pre .0) (c .before .loop-test .taken) (c .part-end .ensures)
+there : (c : tie.After-part-end Inv-loop μ-loop)
+    → PartAt (c .before .before .before .before .args .size) (c .before .before .before .before .args .bodies .now) (c .before .before .loop .i)
+    (c .part-end .result)
+there c =
+    part-at (c .before .before .before .before .args .size) (c .before .before .before .before .args .bodies .now) (c .before .before .loop .i)
+    (c .part-end .result) (c .before .before .before .before .pre .0) (c .before .loop-test .taken) (c .part-end .ensures)
 
 loop-holds : tie.Need-loop-holds Inv-loop μ-loop
 loop-holds c = (omega arith, c .before .pre .1, refl)
@@ -76,7 +81,8 @@ loop-again c =
     let v = c .before .before .before .before .before .before .before .loop in (
       p .within,
       omega (arith, length-step (a .kind) (a .size) (a .bodies .now) _ _ p, v .inv .1),
-      sym (walk-good (a .kind) (a .size) (a .bodies .now) (v .g) (v .next) _ _ p _ (sym (c .before .before .before .judge .ensures) ∙ c .before .h .given .1)) ∙ v .inv .2,
+      sym (walk-good (a .kind) (a .size) (a .bodies .now) (v .g) (v .next) _ _ p _ (sym (c .before .before .before .judge .ensures) ∙ c .before .h .given .1))
+          ∙ v .inv .2,
     )
 
 enum-known-n : tie.Need-enum-known-n Inv-loop μ-loop
@@ -93,7 +99,10 @@ returns c =
     let a = c .before .before .before .before .before .before .before .before .before .before .args in
     let v = c .before .before .before .before .before .before .before .before .loop in
     ap Stopped (c .at-offset .ensures)
-    ∙ sym (walk-fault (a .kind) (a .size) (a .bodies .now) (v .g) (v .next) _ _ (there (c .before .before .before .before .before .before)) _ (sym (c .before .before .before .before .judge .ensures) ∙ c .before .before .n .given .1)) ∙ v .inv .2
+    ∙ sym
+    (walk-fault (a .kind) (a .size) (a .bodies .now) (v .g) (v .next) _ _ (there (c .before .before .before .before .before .before)) _
+    (sym (c .before .before .before .before .judge .ensures) ∙ c .before .before .n .given .1))
+    ∙ v .inv .2
 
 returns-2 : tie.Need-returns-2 Inv-loop μ-loop
 returns-2 c =

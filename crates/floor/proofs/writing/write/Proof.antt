@@ -45,7 +45,9 @@ put-numbers-requires c κs =
 returns : tie.Need-returns
 returns c =
     let n = held (c .before .before .before .before .before .before .before .before) in
-    promise n (c .before .before .before .before .before .before .before .before .args .out .now) _ _ (λ i. omega (arith, c .before .before .before .before .before .before .before .shared-slice-known .given i)) _ (sym (c .before .before .before .judge-numbers .ensures) ∙ c .before .r .given .1) (record { answer = refl; out = refl })
+    promise n (c .before .before .before .before .before .before .before .before .args .out .now) _ _
+    (λ i. omega (arith, c .before .before .before .before .before .before .before .shared-slice-known .given i)) _
+    (sym (c .before .before .before .judge-numbers .ensures) ∙ c .before .r .given .1) (record { answer = refl; out = refl })
 
 same-length : tie.Need-same-length
 same-length c = search needs
@@ -53,7 +55,10 @@ same-length c = search needs
 returns-2 : tie.Need-returns-2
 returns-2 c =
     let n = held (c .before .before .before .before .before .before .before .before .before .before .before) in
-    promise n (c .before .before .before .before .before .before .before .before .before .before .before .args .out .now) _ _ (λ i. omega (arith, c .before .before .before .before .before .before .before .before .before .before .shared-slice-known .given i)) _ (sym (c .before .before .before .before .before .before .judge-numbers .ensures) ∙ c .before .before .before .before .enum-told .given .1) (c .before .before .put-numbers .ensures)
+    promise n (c .before .before .before .before .before .before .before .before .before .before .before .args .out .now) _ _
+    (λ i. omega (arith, c .before .before .before .before .before .before .before .before .before .before .shared-slice-known .given i)) _
+    (sym (c .before .before .before .before .before .before .judge-numbers .ensures) ∙ c .before .before .before .before .enum-told .given .1)
+    (c .before .before .put-numbers .ensures)
 
 pub write-spec : {M : Type 1} → statement M
 write-spec =

@@ -37,7 +37,8 @@ loop-again : tie.Need-loop-again Inv-loop μ-loop
 loop-again c =
     let a = c .before .before .before .args in
     let v = c .before .before .loop in
-    subst (Spreading (a .h) (64 - a .m) _ _) (sym (add-one (v .k))) (onward (a .h) (64 - a .m) (v .planes) (v .n) (v .k) (c .constant .result) (v .inv) (omega arith) (c .constant .ensures))
+    subst (Spreading (a .h) (64 - a .m) _ _) (sym (add-one (v .k)))
+    (onward (a .h) (64 - a .m) (v .planes) (v .n) (v .k) (c .constant .result) (v .inv) (omega arith) (c .constant .ensures))
 
 returns : tie.Need-returns Inv-loop μ-loop
 returns c =

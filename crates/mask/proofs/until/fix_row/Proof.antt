@@ -22,7 +22,8 @@ returns c =
     let b = c .before .before .flagged2 in
     let u = c .before .until-row in
     let r = c .flagged3 in
-    signed-row (x .h) (x .l) (c .before .before .before .before .pre .0 .0) (x .p) (x .a) (x .b) (a .result) (b .result) (u .result) (r .result) (a .ensures) (b .ensures) (u .ensures) (r .ensures)
+    signed-row (x .h) (x .l) (c .before .before .before .before .pre .0 .0) (x .p) (x .a) (x .b) (a .result) (b .result) (u .result) (r .result)
+    (a .ensures) (b .ensures) (u .ensures) (r .ensures)
 
 pub fix-row-spec : {M : Type 1} → statement M
 fix-row-spec =

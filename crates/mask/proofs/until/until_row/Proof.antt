@@ -46,7 +46,8 @@ returns c =
     let a = c .before .before .before .before .args in
     let v = c .before .before .loop in
     let g = c .before .before .before .complement in
-    ended (a .h) (a .l) (a .a) (a .b) (g .result) (v .r) (v .gap) (v .w) (c .turned .result) (omega arith) (omega arith) (g .ensures) (v .inv) (c .before .loop-test .left) (c .turned .ensures)
+    ended (a .h) (a .l) (a .a) (a .b) (g .result) (v .r) (v .gap) (v .w) (c .turned .result) (omega arith) (omega arith) (g .ensures) (v .inv)
+    (c .before .loop-test .left) (c .turned .ensures)
 
 pub until-row-spec : {M : Type 1} → statement M
 until-row-spec =

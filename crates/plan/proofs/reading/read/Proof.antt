@@ -36,13 +36,15 @@ returns : tie.Need-returns
 unfolding readBoth
 returns c =
     promise _ _ _ (λ i. omega (arith, c .before .before .before .before .before .shared-slice-known2 .given i))
-    (c .refuse .ensures ∙ sym (ap (λ (x : FloorAnswer). onFloor x (c .before .before .before .before .before .before .before .args .plan .now)) (sym (c .before .before .before .before .read .ensures .answer) ∙ c .before .before .r .given .1)))
+    (c .refuse .ensures ∙ sym (ap (λ (x : FloorAnswer). onFloor x (c .before .before .before .before .before .before .before .args .plan .now))
+    (sym (c .before .before .before .before .read .ensures .answer) ∙ c .before .before .r .given .1)))
 
 returns-2 : tie.Need-returns-2
 unfolding readBoth
 returns-2 c =
     promise _ _ _ (λ i. omega (arith, c .before .before .before .before .before .shared-slice-known2 .given i))
-    (c .read-for .ensures ∙ sym (ap (λ (x : FloorAnswer). onFloor x (c .before .before .before .before .before .before .before .args .plan .now)) (sym (c .before .before .before .before .read .ensures .answer) ∙ c .before .before .f .given .1)))
+    (c .read-for .ensures ∙ sym (ap (λ (x : FloorAnswer). onFloor x (c .before .before .before .before .before .before .before .args .plan .now))
+    (sym (c .before .before .before .before .read .ensures .answer) ∙ c .before .before .f .given .1)))
 
 pub read-spec : {M : Type 1} → statement M
 read-spec =

@@ -27,13 +27,18 @@ enum-known-h c = search needs
 
 read-rows-requires : tie.Need-read-rows-requires
 read-rows-requires c κs =
-    let g = headed (c .before .before .before .before .before .before .args .s .now) _ (sym (c .before .before .before .read-head .ensures) ∙ c .before .h .given .1) in
+    let g =
+    headed (c .before .before .before .before .before .before .args .s .now) _
+    (sym (c .before .before .before .read-head .ensures) ∙ c .before .h .given .1) in
     (c .before .before .before .before .before .before .pre, g .range .steps, g .room, c .before .before .before .before .if1 .left)
 
 returns-2 : tie.Need-returns-2
 returns-2 c =
     let a = c .before .before .before .before .before .before .before .args in
-    c .refuse .ensures ∙ ap (planRead (a .f)) (sym (refused-head (a .f) (a .s .now) _ (c .before .before .before .before .before .if1 .left) (sym (c .before .before .before .before .read-head .ensures) ∙ c .before .before .r .given .1)))
+    c .refuse .ensures
+    ∙ ap (planRead (a .f))
+    (sym (refused-head (a .f) (a .s .now) _ (c .before .before .before .before .before .if1 .left)
+    (sym (c .before .before .before .before .read-head .ensures) ∙ c .before .before .r .given .1)))
 
 returns-3 : tie.Need-returns-3
 returns-3 c =

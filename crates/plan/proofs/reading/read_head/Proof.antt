@@ -10,10 +10,14 @@ use Rattle.plan.proofs.reading.read_head.Statement.{statement}
 use Rattle.plan.proofs.reading.read_head.Tie as tie
 
 -- the record that was found, and what that tells of the file
-found : (c : tie.After-known-told) → foundAt (c .before .before .before .before .before .args .s .now) 0 ≡ Whole (c .before .kind .given .0 .0) (c .before .kind .given .0 .1 .0) (c .before .kind .given .0 .1 .1 .0)
+found : (c : tie.After-known-told)
+    → foundAt (c .before .before .before .before .before .args .s .now) 0 ≡ Whole (c .before .kind .given .0 .0) (c .before .kind .given .0 .1 .0)
+    (c .before .kind .given .0 .1 .1 .0)
 found c = sym (c .before .before .before .find .ensures) ∙ c .before .kind .given .1
 
-opens : (c : tie.After-known-told) → Opened (c .before .before .before .before .before .args .s .now) 0 (c .before .kind .given .0 .0) (c .before .kind .given .0 .1 .0) (c .before .kind .given .0 .1 .1 .0)
+opens : (c : tie.After-known-told)
+    → Opened (c .before .before .before .before .before .args .s .now) 0 (c .before .kind .given .0 .0) (c .before .kind .given .0 .1 .0)
+    (c .before .kind .given .0 .1 .1 .0)
 opens c = opened (c .before .before .before .before .before .args .s .now) 0 _ _ _ (found c)
 
 find-requires : tie.Need-find-requires

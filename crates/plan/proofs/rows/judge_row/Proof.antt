@@ -15,7 +15,8 @@ use Rattle.plan.proofs.rows.judge_row.Statement.{statement}
 use Rattle.plan.proofs.rows.judge_row.Tie as tie
 
 -- what is judged from step i on, by the place there
-here : (row : List ℕ) (i n : ℕ) → i < length row → judgedPlaces n i (drop i row) ≡ cond (leb n (getD row i 0)) (Absent i) (judgedPlaces n (i + 1) (drop (i + 1) row))
+here : (row : List ℕ) (i n : ℕ) → i < length row
+    → judgedPlaces n i (drop i row) ≡ cond (leb n (getD row i 0)) (Absent i) (judgedPlaces n (i + 1) (drop (i + 1) row))
 unfolding judgedPlaces
 here row i n h = rw (add-one, drop-cons row i 0)
 
@@ -53,7 +54,8 @@ returns-2 c =
     let i = c .before .before .before .before .loop .i in
     let v = c .before .before .before .before .loop .inv in
     sym (whole (a .body .now) (a .steps) (a .places) (v .1) ∙ v .2 ∙ here (a .body .now) i (a .places) (omega arith)
-    ∙ ap (λ (b : Bool). cond b (Absent i) (judgedPlaces (a .places) (i + 1) (drop (i + 1) (a .body .now)))) (le-leb (a .places) (getD (a .body .now) i 0) (omega arith)))
+    ∙ ap (λ (b : Bool). cond b (Absent i) (judgedPlaces (a .places) (i + 1) (drop (i + 1) (a .body .now))))
+    (le-leb (a .places) (getD (a .body .now) i 0) (omega arith)))
 
 add-i : tie.Need-add-i Inv-loop μ-loop
 add-i c = omega arith
@@ -69,7 +71,8 @@ loop-again c =
       omega arith,
       v .1,
       v .2 ∙ here (a .body .now) i (a .places) (omega arith)
-          ∙ ap (λ (b : Bool). cond b (Absent i) (judgedPlaces (a .places) (i + 1) (drop (i + 1) (a .body .now)))) (lt-leb (a .places) (getD (a .body .now) i 0) (omega arith)),
+          ∙ ap (λ (b : Bool). cond b (Absent i) (judgedPlaces (a .places) (i + 1) (drop (i + 1) (a .body .now))))
+          (lt-leb (a .places) (getD (a .body .now) i 0) (omega arith)),
     )
 
 returns-3 : tie.Need-returns-3 Inv-loop μ-loop

@@ -38,13 +38,15 @@ returns-3 : tie.Need-returns-3
 returns-3 c =
     let a = c .before .before .before .before .before .before .args in
     let i = c .before .enum-told2 .given .0 .0 in
-    let e : rowFaultBy (Absent i) (a .f) (a .n) (a .kind) ≡ c .if-room .result = simp (eq-eqb _ _ (c .before .before .before .before .if1 .left)) (sym (c .if-room .ensures)) in
+    let e : rowFaultBy (Absent i) (a .f) (a .n) (a .kind) ≡ c .if-room .result =
+    simp (eq-eqb _ _ (c .before .before .before .before .if1 .left)) (sym (c .if-room .ensures)) in
     sym e ∙ ap (λ (x : RowAnswer). rowFaultBy x (a .f) (a .n) (a .kind)) (sym (c .before .enum-told2 .given .1) ∙ c .before .before .before .judge-row .ensures)
 
 returns-4 : tie.Need-returns-4
 returns-4 c =
     let a = c .before .before .before .before .before .before .args in
-    let e : rowFaultBy Fits (a .f) (a .n) (a .kind) ≡ c .if-room2 .result = simp (eq-eqb _ _ (c .before .before .before .before .if1 .left)) (sym (c .if-room2 .ensures)) in
+    let e : rowFaultBy Fits (a .f) (a .n) (a .kind) ≡ c .if-room2 .result =
+    simp (eq-eqb _ _ (c .before .before .before .before .if1 .left)) (sym (c .if-room2 .ensures)) in
     sym e ∙ ap (λ (x : RowAnswer). rowFaultBy x (a .f) (a .n) (a .kind)) (sym (c .before .enum-told3 .given .1) ∙ c .before .before .before .judge-row .ensures)
 
 pub row-fault-spec : {M : Type 1} → statement M

@@ -32,7 +32,9 @@ returns-2 : tie.Need-returns-2
 returns-2 c =
     let a = c .before .before .before .before .before .before .args in
     ap Refused (c .at-offset2 .ensures)
-    ∙ sym (ap judgedNumbers (wide-head (a .f) (a .h) (a .rows .now) (c .before .before .before .before .before .before .pre) (omega arith) (sym (c .before .before .out-of-range .ensures) ∙ c .before .if2 .taken)))
+    ∙ sym
+    (ap judgedNumbers (wide-head (a .f) (a .h) (a .rows .now) (c .before .before .before .before .before .before .pre) (omega arith)
+    (sym (c .before .before .out-of-range .ensures) ∙ c .before .if2 .taken)))
 
 judge-rows-requires : tie.Need-judge-rows-requires
 judge-rows-requires c κs =
@@ -43,7 +45,10 @@ judge-rows-requires c κs =
 returns-3 : tie.Need-returns-3
 returns-3 c =
     let a = c .before .before .before .before .before .before .args in
-    c .judge-rows .ensures ∙ sym (ap judgedNumbers (good-head (a .f) (a .h) (a .rows .now) (c .before .before .before .before .before .before .pre) (omega arith) (sym (c .before .before .out-of-range .ensures) ∙ c .before .if2 .left)))
+    c .judge-rows .ensures
+    ∙ sym
+    (ap judgedNumbers (good-head (a .f) (a .h) (a .rows .now) (c .before .before .before .before .before .before .pre) (omega arith)
+    (sym (c .before .before .out-of-range .ensures) ∙ c .before .if2 .left)))
 
 pub judge-numbers-spec : {M : Type 1} → statement M
 judge-numbers-spec =

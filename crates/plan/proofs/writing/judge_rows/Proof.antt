@@ -17,8 +17,12 @@ abbrev μ-loop : tie.MeasureT-loop
 μ-loop f h rows steps n₀ at₀ i₀ n at i = length rows - i
 
 -- the part that a turn judges
-there : (c : tie.After-part-end Inv-loop μ-loop) → PartAt (c .before .before .before .before .args .h .steps) (c .before .before .before .before .args .rows .now) (c .before .before .loop .i) (c .part-end .result)
-there c = part-at (c .before .before .before .before .args .h .steps) (c .before .before .before .before .args .rows .now) (c .before .before .loop .i) (c .part-end .result) (c .before .before .before .before .pre .0) (c .before .loop-test .taken) (c .part-end .ensures)
+there : (c : tie.After-part-end Inv-loop μ-loop)
+    → PartAt (c .before .before .before .before .args .h .steps) (c .before .before .before .before .args .rows .now) (c .before .before .loop .i)
+    (c .part-end .result)
+there c =
+    part-at (c .before .before .before .before .args .h .steps) (c .before .before .before .before .args .rows .now) (c .before .before .loop .i)
+    (c .part-end .result) (c .before .before .before .before .pre .0) (c .before .loop-test .taken) (c .part-end .ensures)
 
 loop-holds : tie.Need-loop-holds Inv-loop μ-loop
 loop-holds c = (refl, record { within = omega arith; done = []; count = refl; few = omega arith; room = c .before .pre .1; same = refl })
@@ -53,7 +57,9 @@ at-offset-requires c κs = search needs
 returns : tie.Need-returns Inv-loop μ-loop
 returns c =
     let a = c .before .before .before .before .before .before .before .before .args in
-    ap Refused (c .at-offset .ensures) ∙ refused-row (a .f) (a .h) (a .rows .now) _ _ _ (c .before .before .before .before .before .before .loop .inv .1) _ (there (c .before .before .before .before)) _ (c .before .before .row-fault .ensures) (c .before .if1 .taken)
+    ap Refused (c .at-offset .ensures)
+    ∙ refused-row (a .f) (a .h) (a .rows .now) _ _ _ (c .before .before .before .before .before .before .loop .inv .1) _
+    (there (c .before .before .before .before)) _ (c .before .before .row-fault .ensures) (c .before .if1 .taken)
 
 add-n : tie.Need-add-n Inv-loop μ-loop
 add-n c =
@@ -84,8 +90,12 @@ loop-less c =
 
 loop-again : tie.Need-loop-again Inv-loop μ-loop
 loop-again c =
-    let a = c .before .before .before .before .before .before .before .args in
-    (c .before .before .before .before .before .loop .inv .0, again (a .f) (a .h) (a .rows .now) _ _ _ (c .before .before .before .before .before .loop .inv .1) _ (there (c .before .before .before)) _ (c .before .row-fault .ensures) (c .if1 .left))
+    let a = c .before .before .before .before .before .before .before .args in (
+      c .before .before .before .before .before .loop .inv .0,
+      again (a .f) (a .h) (a .rows .now) _ _ _
+          (c .before .before .before .before .before .loop .inv .1) _ (there (c .before .before .before)) _ (c .before .row-fault .ensures)
+          (c .if1 .left),
+    )
 
 cast-at-offset-2 : tie.Need-cast-at-offset-2 Inv-loop μ-loop
 cast-at-offset-2 c = omega (arith, c .before .before .before .loop .inv .1 .room)
@@ -96,7 +106,9 @@ at-offset-requires-2 c κs = search needs
 returns-2 : tie.Need-returns-2 Inv-loop μ-loop
 returns-2 c =
     let a = c .before .before .before .before .before .before .args in
-    ap Refused (c .at-offset2 .ensures) ∙ too-few (a .f) (a .h) (a .rows .now) _ _ _ (c .before .before .before .before .loop .inv .1) (c .before .before .before .loop-test .left) (c .before .if2 .taken)
+    ap Refused (c .at-offset2 .ensures)
+    ∙ too-few (a .f) (a .h) (a .rows .now) _ _ _ (c .before .before .before .before .loop .inv .1) (c .before .before .before .loop-test .left)
+    (c .before .if2 .taken)
 
 returns-3 : tie.Need-returns-3 Inv-loop μ-loop
 returns-3 c =

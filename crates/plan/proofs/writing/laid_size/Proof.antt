@@ -8,7 +8,11 @@ use Rattle.plan.proofs.writing.laid_size.Statement.{statement}
 use Rattle.plan.proofs.writing.laid_size.Tie as tie
 
 -- a quotient is no larger than what is divided
-few : (c : tie.Else3) → (length (c .before .before .before .before .args .rows .now) + (c .before .before .before .before .args .h .steps - 1)) / c .before .before .before .before .args .h .steps ≤ length (c .before .before .before .before .args .rows .now) + (c .before .before .before .before .args .h .steps - 1)
+few : (c : tie.Else3)
+    →
+    (length (c .before .before .before .before .args .rows .now) +
+    (c .before .before .before .before .args .h .steps - 1)) / c .before .before .before .before .args .h .steps ≤ length
+    (c .before .before .before .before .args .rows .now) + (c .before .before .before .before .args .h .steps - 1)
 few c = div-le-self _ _
 
 returns : tie.Need-returns
@@ -24,7 +28,12 @@ capped-requires : tie.Need-capped-requires
 capped-requires c κs = search needs
 
 returns-3 : tie.Need-returns-3
-returns-3 c = omega (arith, length-zero (c .before .before .before .before .before .args .h) (c .before .before .before .before .before .args .rows .now) (c .before .if3 .taken) (omega arith))
+returns-3 c =
+    omega (
+      arith,
+      length-zero (c .before .before .before .before .before .args .h) (c .before .before .before .before .before .args .rows .now)
+          (c .before .if3 .taken) (omega arith),
+    )
 
 sub-capped : tie.Need-sub-capped
 sub-capped c = omega arith
@@ -48,7 +57,8 @@ capped-requires-2 : tie.Need-capped-requires-2
 capped-requires-2 c κs = search needs
 
 returns-4 : tie.Need-returns-4
-returns-4 c = omega (arith, length-some (c .before .before .before .before .before .args .h) (c .before .before .before .before .before .args .rows .now) (omega arith))
+returns-4 c =
+    omega (arith, length-some (c .before .before .before .before .before .args .h) (c .before .before .before .before .before .args .rows .now) (omega arith))
 
 pub laid-size-spec : {M : Type 1} → statement M
 laid-size-spec =

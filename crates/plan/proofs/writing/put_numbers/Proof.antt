@@ -14,7 +14,10 @@ use Rattle.plan.proofs.writing.put_numbers.Statement.{statement}
 use Rattle.plan.proofs.writing.put_numbers.Tie as tie
 
 -- the length that is computed is the result's
-size : (c : tie.After-laid-size) → c .laid-size .result ≡ length (planBytes (headOf (c .before .before .before .before .args .steps) (c .before .before .before .before .args .stem) (c .before .before .before .before .args .drift)) (c .before .before .before .before .args .rows .now))
+size : (c : tie.After-laid-size)
+    → c .laid-size .result ≡ length
+    (planBytes (headOf (c .before .before .before .before .args .steps) (c .before .before .before .before .args .stem)
+    (c .before .before .before .before .args .drift)) (c .before .before .before .before .args .rows .now))
 size c =
     let e = ap (λ (h : Head). length (planBytes h (c .before .before .before .before .args .rows .now))) (c .before .head-of .ensures) in
     omega (arith, c .before .before .before .before .pre .1)
@@ -37,7 +40,8 @@ returns : tie.Need-returns
 returns c =
     let a = c .before .before .before .before .before .before .args in
     let s = size (c .before .before) in
-    gives-short AboutPlan (planBytes (headOf (a .steps) (a .stem) (a .drift)) (a .rows .now)) (a .out .now) _ (omega arith) (ap AboutPlan (c .refuse .ensures ∙ ap (λ (k : ℕ). refused 18 k 0) s))
+    gives-short AboutPlan (planBytes (headOf (a .steps) (a .stem) (a .drift)) (a .rows .now)) (a .out .now) _ (omega arith)
+    (ap AboutPlan (c .refuse .ensures ∙ ap (λ (k : ℕ). refused 18 k 0) s))
 
 head-bytes-requires : tie.Need-head-bytes-requires
 head-bytes-requires c κs = search needs
@@ -55,8 +59,18 @@ put-requires c κs =
 put-parts-requires : tie.Need-put-parts-requires
 put-parts-requires c κs =
     let a = c .before .before .before .before .before .before .before .before .before .before .before .before .args in
-    let h = headOf (a .steps) (a .stem) (a .drift) in
-    (c .before .before .before .before .before .before .before .before .before .before .before .before .pre .0, omega (arith, c .before .before .before .before .before .before .before .before .before .before .before .before .fits .steps), omega (arith, size (c .before .before .before .before .before .before .before .before), length-plan h (a .rows .now), c .before .before .before .put .kept .0))
+    let h = headOf (a .steps) (a .stem) (a .drift) in (
+      c .before .before .before .before .before .before .before .before .before .before .before .before .pre .0,
+      omega
+          (arith, c .before .before .before .before .before .before .before .before .before .before .before .before .fits .steps),
+      omega (
+        arith,
+        size
+            (c .before .before .before .before .before .before .before .before),
+        length-plan h (a .rows .now),
+        c .before .before .before .put .kept .0,
+      ),
+    )
 
 cast-t22 : tie.Need-cast-t22
 cast-t22 c = search needs
@@ -70,7 +84,9 @@ returns-2 c =
     let h = headOf (a .steps) (a .stem) (a .drift) in
     let s = size (c .before .before .before .before .before .before .before .before .before .before .before) in
     gives-written AboutPlan (planBytes h (a .rows .now)) (a .out .now) _ _ (omega arith) (ap Written s)
-    (plan-stored h (a .rows .now) (a .out .now) _ _ _ (omega arith) (c .before .before .before .before .before .before .before .before .head-bytes .ensures) (c .before .before .before .before .before .before .put .ensures) (c .before .before .put-parts .ensures .1))
+    (plan-stored h (a .rows .now) (a .out .now) _ _ _ (omega arith)
+    (c .before .before .before .before .before .before .before .before .head-bytes .ensures)
+    (c .before .before .before .before .before .before .put .ensures) (c .before .before .put-parts .ensures .1))
 
 pub put-numbers-spec : {M : Type 1} → statement M
 put-numbers-spec =

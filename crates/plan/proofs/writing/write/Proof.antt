@@ -66,7 +66,9 @@ write-for-requires c κs = search needs
 returns : tie.Need-returns
 returns c =
     let a = c .before .before .before .before .before .before .before .args in
-    promise (a .floor .now) (head (c .before .before .before .before .before .before .before)) (a .rows .now) (a .out .now) _ _ (narrow (c .before .before .before .before .before .before .before)) _ (sym (c .before .before .before .read .ensures .answer) ∙ c .before .r .given .1) (record { answer = refl; out = refl })
+    promise (a .floor .now) (head (c .before .before .before .before .before .before .before)) (a .rows .now) (a .out .now) _ _
+    (narrow (c .before .before .before .before .before .before .before)) _
+    (sym (c .before .before .before .read .ensures .answer) ∙ c .before .r .given .1) (record { answer = refl; out = refl })
 
 same-length : tie.Need-same-length
 same-length c = search needs
@@ -74,7 +76,10 @@ same-length c = search needs
 returns-2 : tie.Need-returns-2
 returns-2 c =
     let a = c .before .before .before .before .before .before .before .before .before .before .before .args in
-    promise (a .floor .now) (head (c .before .before .before .before .before .before .before .before .before .before .before)) (a .rows .now) (a .out .now) _ _ (narrow (c .before .before .before .before .before .before .before .before .before .before .before)) _ (sym (c .before .before .before .before .before .before .before .read .ensures .answer) ∙ c .before .before .before .before .before .f .given .1) (c .before .before .write-for .ensures)
+    promise (a .floor .now) (head (c .before .before .before .before .before .before .before .before .before .before .before)) (a .rows .now)
+    (a .out .now) _ _ (narrow (c .before .before .before .before .before .before .before .before .before .before .before)) _
+    (sym (c .before .before .before .before .before .before .before .read .ensures .answer) ∙ c .before .before .before .before .before .f .given .1)
+    (c .before .before .write-for .ensures)
 
 pub write-spec : {M : Type 1} → statement M
 write-spec =

@@ -32,7 +32,8 @@ returns-2 c =
     let a = c .before .before .before .before .before .before .args in
     let P : Rows = rowsIn (a .table .now) (a .g .carts) (a .g .h) (a .g .l) in
     λ m q.
-    clause-kept P (a .g .d) (a .n) (clauseTree (a .nodes .now) m (a .k)) (c .before .clause-row .result) (omega arith) (c .before .clause-row .ensures m q) (c .if2 .taken)
+    clause-kept P (a .g .d) (a .n) (clauseTree (a .nodes .now) m (a .k)) (c .before .clause-row .result) (omega arith)
+    (c .before .clause-row .ensures m q) (c .if2 .taken)
     ∙ sym (goes-on (a .found) _ (sym (c .before .before .before .accepts .ensures) ∙ not-is _ false (c .before .before .if1 .left)))
 
 -- src/clauses.rt:52:9
@@ -54,8 +55,12 @@ returns-3 c =
     let a = c .before .before .before .before .before .before .before .before .args in
     let P : Rows = rowsIn (a .table .now) (a .g .carts) (a .g .h) (a .g .l) in
     λ m q.
-    ap AboutRules (c .refuse .ensures) ∙ clause-fails P (a .g .d) (a .n) (clauseTree (a .nodes .now) m (a .k)) (c .before .before .before .clause-row .result) (omega arith) (c .before .before .before .clause-row .ensures m q) (c .before .before .if2 .left) (c .before .failing-step .result) (c .before .failing-step .ensures .0 m q)
-    ∙ sym (goes-on (a .found) _ (sym (c .before .before .before .before .before .accepts .ensures) ∙ not-is _ false (c .before .before .before .before .if1 .left)))
+    ap AboutRules (c .refuse .ensures)
+    ∙ clause-fails P (a .g .d) (a .n) (clauseTree (a .nodes .now) m (a .k)) (c .before .before .before .clause-row .result) (omega arith)
+    (c .before .before .before .clause-row .ensures m q) (c .before .before .if2 .left) (c .before .failing-step .result)
+    (c .before .failing-step .ensures .0 m q)
+    ∙ sym
+    (goes-on (a .found) _ (sym (c .before .before .before .before .before .accepts .ensures) ∙ not-is _ false (c .before .before .before .before .if1 .left)))
 
 pub first-found-spec : {M : Type 1} → statement M
 first-found-spec =

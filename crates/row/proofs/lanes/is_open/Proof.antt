@@ -20,7 +20,8 @@ abbrev μ-loop : tie.MeasureT-loop
 room : (c : tie.In-loop Inv-loop μ-loop) → c .before .loop .k - 1 < c .before .before .before .before .before .before .before .args .f .lanes
 room c =
     let a = c .before .before .before .before .before .before .before .args in
-    lane-below (a .s .now) (a .next .now) (a .f) (c .before .before .before .before .before .before .before .pre .0) (a .class) (a .from) (a .to) (c .before .loop .k) (c .before .loop .inv) (c .loop-test .taken)
+    lane-below (a .s .now) (a .next .now) (a .f) (c .before .before .before .before .before .before .before .pre .0) (a .class) (a .from) (a .to)
+    (c .before .loop .k) (c .before .loop .inv) (c .loop-test .taken)
 
 mul-start : tie.Need-mul-start Inv-loop μ-loop
 mul-start c =
@@ -43,11 +44,14 @@ loop-holds : tie.Need-loop-holds Inv-loop μ-loop
 loop-holds c =
     let a = c .before .before .before .before .before .args in
     let chained : Chained (lanesIn (a .s .now)) (a .first .now) (a .next .now) 0 = c .before .before .before .before .before .pre .1 .0 in
-    let e : getD (a .first .now) (a .from) 0 ≡ c .wide16 .result = ap (λ (i : ℕ). getD (a .first .now) i 0) (sym (c .before .before .wide .ensures)) ∙ sym (c .wide16 .ensures) in
+    let e : getD (a .first .now) (a .from) 0 ≡ c .wide16 .result =
+    ap (λ (i : ℕ). getD (a .first .now) i 0) (sym (c .before .before .wide .ensures)) ∙ sym (c .wide16 .ensures) in
     record {
       from = 0;
       within = omega arith;
-      leads = subst (λ (k : ℕ). Leads (lanesIn (a .s .now)) (a .next .now) (a .from) k 0) e (chained (a .from) (omega (arith, c .before .before .before .before .before .fits .from)));
+      leads =
+          subst (λ (k : ℕ). Leads (lanesIn (a .s .now)) (a .next .now) (a .from) k 0) e
+          (chained (a .from) (omega (arith, c .before .before .before .before .before .fits .from)));
       same = refl;
     }
 
@@ -67,13 +71,25 @@ add-opens-to : tie.Need-add-opens-to Inv-loop μ-loop
 add-opens-to c = omega (arith, room c, c .before .before .before .before .before .before .before .pre .0 .valid)
 
 shared-slice-read-opens-to : tie.Need-shared-slice-read-opens-to Inv-loop μ-loop
-shared-slice-read-opens-to c = omega (arith, room (c .before), file-length _ (c .before .before .before .before .before .before .before .before .args .f) (c .before .before .before .before .before .before .before .before .pre .0))
+shared-slice-read-opens-to c =
+    omega (
+      arith,
+      room (c .before),
+      file-length _ (c .before .before .before .before .before .before .before .before .args .f)
+          (c .before .before .before .before .before .before .before .before .pre .0),
+    )
 
 add-opens-to-2 : tie.Need-add-opens-to-2 Inv-loop μ-loop
 add-opens-to-2 c = omega (arith, room (c .before), c .before .before .before .before .before .before .before .before .pre .0 .valid)
 
 shared-slice-read-opens-to-2 : tie.Need-shared-slice-read-opens-to-2 Inv-loop μ-loop
-shared-slice-read-opens-to-2 c = omega (arith, room (c .before .before), file-length _ (c .before .before .before .before .before .before .before .before .before .args .f) (c .before .before .before .before .before .before .before .before .before .pre .0))
+shared-slice-read-opens-to-2 c =
+    omega (
+      arith,
+      room (c .before .before),
+      file-length _ (c .before .before .before .before .before .before .before .before .before .args .f)
+          (c .before .before .before .before .before .before .before .before .before .pre .0),
+    )
 
 opens-to-requires : tie.Need-opens-to-requires Inv-loop μ-loop
 opens-to-requires c κs = search needs
@@ -81,16 +97,22 @@ opens-to-requires c κs = search needs
 returns : tie.Need-returns Inv-loop μ-loop
 returns c =
     let a = c .before .before .before .before .before .before .before .before .before .before .before .args in
-    found (a .s .now) (a .next .now) (a .f) (c .before .before .before .before .before .before .before .before .before .before .before .pre .0) (a .class) (a .from) (a .to) (c .before .before .before .before .before .loop .k) (c .before .before .before .before .before .loop .inv) (c .before .before .before .before .loop-test .taken) (c .before .opens-to .result) (c .before .opens-to .ensures) (c .if1 .taken)
+    found (a .s .now) (a .next .now) (a .f) (c .before .before .before .before .before .before .before .before .before .before .before .pre .0)
+    (a .class) (a .from) (a .to) (c .before .before .before .before .before .loop .k) (c .before .before .before .before .before .loop .inv)
+    (c .before .before .before .before .loop-test .taken) (c .before .opens-to .result) (c .before .opens-to .ensures) (c .if1 .taken)
 
 sub-wide16 : tie.Need-sub-wide16 Inv-loop μ-loop
 sub-wide16 c = omega (arith, c .before .before .before .before .loop-test .taken)
 
 mul-wide16-2 : tie.Need-mul-wide16-2 Inv-loop μ-loop
-mul-wide16-2 c = omega (arith, room (c .before .before .before .before), c .before .before .before .before .before .before .before .before .before .before .before .pre .0 .valid)
+mul-wide16-2 c =
+    omega
+    (arith, room (c .before .before .before .before), c .before .before .before .before .before .before .before .before .before .before .before .pre .0 .valid)
 
 element-copy-out-wide16-2 : tie.Need-element-copy-out-wide16-2 Inv-loop μ-loop
-element-copy-out-wide16-2 c = omega (arith, room (c .before .before .before .before), c .before .before .before .before .before .before .before .before .before .before .before .pre .0 .valid)
+element-copy-out-wide16-2 c =
+    omega
+    (arith, room (c .before .before .before .before), c .before .before .before .before .before .before .before .before .before .before .before .pre .0 .valid)
 
 wide16-requires-2 : tie.Need-wide16-requires-2 Inv-loop μ-loop
 wide16-requires-2 c κs = search needs
@@ -98,17 +120,25 @@ wide16-requires-2 c κs = search needs
 loop-less : tie.Need-loop-less Inv-loop μ-loop
 loop-less c =
     let a = c .before .before .before .before .before .before .before .before .before .before .before .before .before .args in
-    falls (a .s .now) (a .next .now) (a .f) (c .before .before .before .before .before .before .before .before .before .before .before .before .before .pre .0) (a .class) (a .from) (a .to) (c .before .before .before .before .before .before .before .loop .k) (c .before .before .before .before .before .before .before .loop .inv) (c .before .before .before .before .before .before .loop-test .taken) (c .wide162 .result) (c .wide162 .ensures)
+    falls (a .s .now) (a .next .now) (a .f)
+    (c .before .before .before .before .before .before .before .before .before .before .before .before .before .pre .0) (a .class) (a .from) (a .to)
+    (c .before .before .before .before .before .before .before .loop .k) (c .before .before .before .before .before .before .before .loop .inv)
+    (c .before .before .before .before .before .before .loop-test .taken) (c .wide162 .result) (c .wide162 .ensures)
 
 loop-again : tie.Need-loop-again Inv-loop μ-loop
 loop-again c =
     let a = c .before .before .before .before .before .before .before .before .before .before .before .before .before .args in
-    again (a .s .now) (a .next .now) (a .f) (c .before .before .before .before .before .before .before .before .before .before .before .before .before .pre .0) (a .class) (a .from) (a .to) (c .before .before .before .before .before .before .before .loop .k) (c .before .before .before .before .before .before .before .loop .inv) (c .before .before .before .before .before .before .loop-test .taken) (c .before .before .before .opens-to .result) (c .before .before .before .opens-to .ensures) (c .before .before .if1 .left) (c .wide162 .result) (c .wide162 .ensures)
+    again (a .s .now) (a .next .now) (a .f)
+    (c .before .before .before .before .before .before .before .before .before .before .before .before .before .pre .0) (a .class) (a .from) (a .to)
+    (c .before .before .before .before .before .before .before .loop .k) (c .before .before .before .before .before .before .before .loop .inv)
+    (c .before .before .before .before .before .before .loop-test .taken) (c .before .before .before .opens-to .result)
+    (c .before .before .before .opens-to .ensures) (c .before .before .if1 .left) (c .wide162 .result) (c .wide162 .ensures)
 
 returns-2 : tie.Need-returns-2 Inv-loop μ-loop
 returns-2 c =
     let a = c .before .before .before .before .before .before .before .args in
-    none-open (a .s .now) (a .next .now) (a .f) (c .before .before .before .before .before .before .before .pre .0) (a .class) (a .from) (a .to) (c .before .loop .k) (c .before .loop .inv) (c .loop-test .left)
+    none-open (a .s .now) (a .next .now) (a .f) (c .before .before .before .before .before .before .before .pre .0) (a .class) (a .from) (a .to)
+    (c .before .loop .k) (c .before .loop .inv) (c .loop-test .left)
 
 pub is-open-spec : {M : Type 1} → statement M
 is-open-spec =

@@ -102,13 +102,15 @@ loop-less c = omega arith
 loop-again : tie.Need-loop-again Inv-loop μ-loop
 loop-again c =
     let l = c .before .before .before .before .loop in
-    again (c .before .before .before .before .before .before .before .args .s .now) _ (l .links .first) (l .links .next) (l .j) (c .before .wide .result) (l .inv) (c .before .before .before .loop-test .taken) (c .before .wide .ensures)
+    again (c .before .before .before .before .before .before .before .args .s .now) _ (l .links .first) (l .links .next) (l .j)
+    (c .before .wide .result) (l .inv) (c .before .before .before .loop-test .taken) (c .before .wide .ensures)
     (omega (arith, c .before .wide .ensures, c .before .before .shared-slice-known2 .given (at (c .before))))
 
 returns : tie.Need-returns Inv-loop μ-loop
 returns c =
     let z : c .before .loop .j ≡ 0 = omega arith in
-    subst (Chained (lanesIn (c .before .before .before .before .args .s .now)) (c .before .loop .links .first) (c .before .loop .links .next)) z (c .before .loop .inv .chained)
+    subst (Chained (lanesIn (c .before .before .before .before .args .s .now)) (c .before .loop .links .first) (c .before .loop .links .next)) z
+    (c .before .loop .inv .chained)
 
 pub linked-spec : {M : Type 1} → statement M
 linked-spec =

@@ -39,7 +39,12 @@ next-step-requires c κs = omega (arith, within c)
 shared-slice-read-to : tie.Need-shared-slice-read-to Inv-loop μ-loop
 shared-slice-read-to c =
     let a = c .before .before .before .before .before .before .before .before .args in
-    omega (arith, c .before .next-step .ensures, next-below (length (a .row .now)) (a .stem) (c .before .before .before .before .before .before .before .before .pre .1 .1 .1) (c .before .before .before .loop .i))
+    omega (
+      arith,
+      c .before .next-step .ensures,
+      next-below (length (a .row .now)) (a .stem)
+          (c .before .before .before .before .before .before .before .before .pre .1 .1 .1) (c .before .before .before .loop .i),
+    )
 
 shared-slice-read-is-open : tie.Need-shared-slice-read-is-open Inv-loop μ-loop
 shared-slice-read-is-open c = omega (arith, within (c .before .before .before))
@@ -53,7 +58,9 @@ returns-2 : tie.Need-returns-2 Inv-loop μ-loop
 returns-2 c =
     let a = c .before .before .before .before .before .before .before .before .before .before .before .args in
     let l = c .before .before .before .before .before .before .loop in
-    shut (lanesIn (a .s .now)) (a .class) (a .start) (a .row .now) (a .stem) (l .i) (l .inv) (omega (arith, within (c .before .before .before .before .before))) (c .before .before .before .before .next-step .result) (c .before .before .before .before .next-step .ensures) (c .before .is-open .result) (c .before .is-open .ensures) (c .if2 .taken)
+    shut (lanesIn (a .s .now)) (a .class) (a .start) (a .row .now) (a .stem) (l .i) (l .inv)
+    (omega (arith, within (c .before .before .before .before .before))) (c .before .before .before .before .next-step .result)
+    (c .before .before .before .before .next-step .ensures) (c .before .is-open .result) (c .before .is-open .ensures) (c .if2 .taken)
 
 add-i : tie.Need-add-i Inv-loop μ-loop
 add-i c = omega (arith, within (c .before .before .before .before .before))
@@ -65,7 +72,10 @@ loop-again : tie.Need-loop-again Inv-loop μ-loop
 loop-again c =
     let a = c .before .before .before .before .before .before .before .before .before .before .before .args in
     let l = c .before .before .before .before .before .before .loop in
-    let w = onward (lanesIn (a .s .now)) (a .class) (a .start) (a .row .now) (a .stem) (l .i) (l .inv) (omega (arith, within (c .before .before .before .before .before))) (c .before .before .before .before .next-step .result) (c .before .before .before .before .next-step .ensures) (c .before .is-open .result) (c .before .is-open .ensures) (c .if2 .left) in
+    let w =
+    onward (lanesIn (a .s .now)) (a .class) (a .start) (a .row .now) (a .stem) (l .i) (l .inv)
+    (omega (arith, within (c .before .before .before .before .before))) (c .before .before .before .before .next-step .result)
+    (c .before .before .before .before .next-step .ensures) (c .before .is-open .result) (c .before .is-open .ensures) (c .if2 .left) in
     subst (Judging (lanesIn (a .s .now)) (a .class) (a .start) (a .row .now) (a .stem)) (sym (add-one (l .i))) w
 
 returns-3 : tie.Need-returns-3 Inv-loop μ-loop

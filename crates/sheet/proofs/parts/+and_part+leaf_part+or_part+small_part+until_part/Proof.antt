@@ -102,19 +102,24 @@ until-part-below t =
     and 2 until-part-kinds.ps (falls 2 until-part-kinds.ps _<_ μ-until-part t) until-part.Pre
 
 abbrev and-calls : ℕ → and-part-lts.Claims
-and-calls t = (until-part-below t, until-part.Post, operator-at-reads.Asked, operator-at-reads.Learnt, refused-reads.Asked, refused-reads.Learnt, with-two-reads.Asked, with-two-reads.Learnt)
+and-calls t =
+    (until-part-below t, until-part.Post, operator-at-reads.Asked, operator-at-reads.Learnt, refused-reads.Asked, refused-reads.Learnt, with-two-reads.Asked, with-two-reads.Learnt)
 
 abbrev leaf-calls : ℕ → leaf-part-lts.Claims
-leaf-calls t = (mark-reads.Asked, mark-reads.Learnt, refused-reads.Asked, refused-reads.Learnt, or-part-below t, or-part.Post, count-end-reads.Asked, count-end-reads.Learnt)
+leaf-calls t =
+    (mark-reads.Asked, mark-reads.Learnt, refused-reads.Asked, refused-reads.Learnt, or-part-below t, or-part.Post, count-end-reads.Asked, count-end-reads.Learnt)
 
 abbrev or-calls : ℕ → or-part-lts.Claims
-or-calls t = (and-part-below t, and-part.Post, operator-at-reads.Asked, operator-at-reads.Learnt, refused-reads.Asked, refused-reads.Learnt, with-two-reads.Asked, with-two-reads.Learnt)
+or-calls t =
+    (and-part-below t, and-part.Post, operator-at-reads.Asked, operator-at-reads.Learnt, refused-reads.Asked, refused-reads.Learnt, with-two-reads.Asked, with-two-reads.Learnt)
 
 abbrev small-calls : ℕ → small-part-lts.Claims
-small-calls t = (spaces-reads.Asked, spaces-reads.Learnt, refused-reads.Asked, refused-reads.Learnt, word-reads.Asked, word-reads.Learnt, or-part-below t, or-part.Post, expect-reads.Asked, expect-reads.Learnt, prefix-kind-reads.Asked, prefix-kind-reads.Learnt, leaf-part-below t, leaf-part.Post, small-part-below t, small-part.Post, with-one-reads.Asked, with-one-reads.Learnt)
+small-calls t =
+    (spaces-reads.Asked, spaces-reads.Learnt, refused-reads.Asked, refused-reads.Learnt, word-reads.Asked, word-reads.Learnt, or-part-below t, or-part.Post, expect-reads.Asked, expect-reads.Learnt, prefix-kind-reads.Asked, prefix-kind-reads.Learnt, leaf-part-below t, leaf-part.Post, small-part-below t, small-part.Post, with-one-reads.Asked, with-one-reads.Learnt)
 
 abbrev until-calls : ℕ → until-part-lts.Claims
-until-calls t = (small-part-below t, small-part.Post, reach-at-reads.Asked, reach-at-reads.Learnt, refused-reads.Asked, refused-reads.Learnt, until-part-below t, until-part.Post, with-two-reads.Asked, with-two-reads.Learnt)
+until-calls t =
+    (small-part-below t, small-part.Post, reach-at-reads.Asked, reach-at-reads.Learnt, refused-reads.Asked, refused-reads.Learnt, until-part-below t, until-part.Post, with-two-reads.Asked, with-two-reads.Learnt)
 
 abbrev and-part-Inv-loop : and-part-lts.InvT-loop
 and-part-Inv-loop s at level inner left n nodes₀ r₀ nodes r = Turns inner conj level s at n left nodes₀ r₀ nodes r
@@ -137,14 +142,16 @@ and-part-same-length : (t : ℕ) → and-part-lts.Need-same-length (and-calls t)
 and-part-same-length t c =
     let a = c .before .before .before .before .before .before .before .before .before .args in
     let p = c .before .before .before .before .before .before .before .before .before .pre .1 in
-    turn-size (a .inner) conj (a .level) (a .s .now) (a .at) (a .n) (a .left) (a .nodes .now) _ _ (c .before .before .loop .inv (a .nodes .now) (p .3) (c .before .before .before .before .before .until-part .ensures)) (p .3) (p .2)
+    turn-size (a .inner) conj (a .level) (a .s .now) (a .at) (a .n) (a .left) (a .nodes .now) _ _
+    (c .before .before .loop .inv (a .nodes .now) (p .3) (c .before .before .before .before .before .until-part .ensures)) (p .3) (p .2)
 
 and-part-returns : (t : ℕ) → and-part-lts.Need-returns (and-calls t) (and-part-at t) and-part.Post and-part-Inv-loop and-part-μ-loop
 and-part-returns t c =
     let a = c .before .before .before .before .before .before .before .before .before .args in
     let p = c .before .before .before .before .before .before .before .before .before .pre .1 in
     let w = c .before .before .loop .inv (a .nodes .now) (p .3) (c .before .before .before .before .before .until-part .ensures) in
-    turn-ended (a .inner) conj (a .level) (a .s .now) (a .at) (a .n) (a .left) (a .nodes .now) _ _ w _ (c .before .operator-at .ensures) (omega (arith, c .if1 .taken))
+    turn-ended (a .inner) conj (a .level) (a .s .now) (a .at) (a .n) (a .left) (a .nodes .now) _ _ w _ (c .before .operator-at .ensures)
+    (omega (arith, c .if1 .taken))
 
 and-part-refused-requires : (t : ℕ) → and-part-lts.Need-refused-requires (and-calls t) (and-part-at t) and-part.Post and-part-Inv-loop and-part-μ-loop
 and-part-refused-requires t c κs = search needs
@@ -153,17 +160,24 @@ and-part-same-length-2 : (t : ℕ) → and-part-lts.Need-same-length-2 (and-call
 and-part-same-length-2 t c =
     let a = c .before .before .before .before .before .before .before .before .before .before .before .before .args in
     let p = c .before .before .before .before .before .before .before .before .before .before .before .before .pre .1 in
-    turn-size (a .inner) conj (a .level) (a .s .now) (a .at) (a .n) (a .left) (a .nodes .now) _ _ (c .before .before .before .before .before .loop .inv (a .nodes .now) (p .3) (c .before .before .before .before .before .before .before .before .until-part .ensures)) (p .3) (p .2)
+    turn-size (a .inner) conj (a .level) (a .s .now) (a .at) (a .n) (a .left) (a .nodes .now) _ _
+    (c .before .before .before .before .before .loop .inv (a .nodes .now) (p .3)
+    (c .before .before .before .before .before .before .before .before .until-part .ensures))
+    (p .3) (p .2)
 
 and-part-returns-2 : (t : ℕ) → and-part-lts.Need-returns-2 (and-calls t) (and-part-at t) and-part.Post and-part-Inv-loop and-part-μ-loop
 and-part-returns-2 t c =
     let a = c .before .before .before .before .before .before .before .before .before .before .before .before .args in
     let p = c .before .before .before .before .before .before .before .before .before .before .before .before .pre .1 in
-    let w = c .before .before .before .before .before .loop .inv (a .nodes .now) (p .3) (c .before .before .before .before .before .before .before .before .until-part .ensures) in
+    let w =
+    c .before .before .before .before .before .loop .inv (a .nodes .now) (p .3)
+    (c .before .before .before .before .before .before .before .before .until-part .ensures) in
     let op = c .before .before .before .before .operator-at in
-    refused-part (a .inner) (a .s .now) (a .n) (a .left) (a .nodes .now) _ _ 14 (op .result) _ (c .refused .ensures) (λ z. omega arith) (omega (arith, c .before .before .before .if1 .left))
+    refused-part (a .inner) (a .s .now) (a .n) (a .left) (a .nodes .now) _ _ 14 (op .result) _ (c .refused .ensures) (λ z. omega arith)
+    (omega (arith, c .before .before .before .if1 .left))
     (turn-size (a .inner) conj (a .level) (a .s .now) (a .at) (a .n) (a .left) (a .nodes .now) _ _ w (p .3) (p .2))
-    (turn-spent (a .inner) conj (a .level) (a .s .now) (a .at) (a .n) (a .left) (a .nodes .now) _ _ w (op .result) (op .ensures) (omega (arith, c .before .before .before .if1 .left)) (c .before .if2 .taken))
+    (turn-spent (a .inner) conj (a .level) (a .s .now) (a .at) (a .n) (a .left) (a .nodes .now) _ _ w (op .result) (op .ensures)
+    (omega (arith, c .before .before .before .if1 .left)) (c .before .if2 .taken))
 
 and-part-add-until-part : (t : ℕ) → and-part-lts.Need-add-until-part (and-calls t) (and-part-at t) and-part.Post and-part-Inv-loop and-part-μ-loop
 and-part-add-until-part t c = omega arith
@@ -175,18 +189,29 @@ and-part-until-part-requires-2 : (t : ℕ) → and-part-lts.Need-until-part-requ
 and-part-until-part-requires-2 t c κs =
     let a = c .before .before .before .before .before .before .before .before .before .before .before .before .before .args in
     let p = c .before .before .before .before .before .before .before .before .before .before .before .before .before .pre .1 in
-    let w = c .before .before .before .before .before .before .loop .inv (a .nodes .now) (p .3) (c .before .before .before .before .before .before .before .before .before .until-part .ensures) in
+    let w =
+    c .before .before .before .before .before .before .loop .inv (a .nodes .now) (p .3)
+    (c .before .before .before .before .before .before .before .before .before .until-part .ensures) in
     let op = c .before .before .before .before .before .operator-at in
-    let m = turn-room (a .inner) conj (a .level) (a .s .now) (a .at) (a .n) (a .left) (a .nodes .now) _ _ w (op .ensures .read (omega (arith, c .before .before .before .before .if1 .left))) in
-    let z = turn-size (a .inner) conj (a .level) (a .s .now) (a .at) (a .n) (a .left) (a .nodes .now) _ _ w (p .3) (p .2) in
-    (omega (arith, c .before .before .before .before .before .before .before .before .before .before .before .before .before .pre .0), (omega (arith, c .before .before .before .before .if1 .left), p .1, omega (arith, m .kept, p .2), z ∙ p .3))
+    let m =
+    turn-room (a .inner) conj (a .level) (a .s .now) (a .at) (a .n) (a .left) (a .nodes .now) _ _ w
+    (op .ensures .read (omega (arith, c .before .before .before .before .if1 .left))) in
+    let z = turn-size (a .inner) conj (a .level) (a .s .now) (a .at) (a .n) (a .left) (a .nodes .now) _ _ w (p .3) (p .2) in (
+      omega (arith, c .before .before .before .before .before .before .before .before .before .before .before .before .before .pre .0),
+      (omega (arith, c .before .before .before .before .if1 .left), p .1, omega (arith, m .kept, p .2), z ∙ p .3),
+    )
 
 and-part-sub-with-two : (t : ℕ) → and-part-lts.Need-sub-with-two (and-calls t) (and-part-at t) and-part.Post and-part-Inv-loop and-part-μ-loop
 and-part-sub-with-two t c =
     let a = c .before .before .before .before .before .before .before .before .before .before .before .before .before .before .before .before .before .args in
     let p = c .before .before .before .before .before .before .before .before .before .before .before .before .before .before .before .before .before .pre .1 in
-    let w = c .before .before .before .before .before .before .before .before .before .before .loop .inv (a .nodes .now) (p .3) (c .before .before .before .before .before .before .before .before .before .before .before .before .before .until-part .ensures) in
-    let m = turn-room (a .inner) conj (a .level) (a .s .now) (a .at) (a .n) (a .left) (a .nodes .now) _ _ w (c .before .before .before .before .before .before .before .before .before .operator-at .ensures .read (omega (arith, c .before .before .before .before .before .before .before .before .if1 .left))) in
+    let w =
+    c .before .before .before .before .before .before .before .before .before .before .loop .inv (a .nodes .now) (p .3)
+    (c .before .before .before .before .before .before .before .before .before .before .before .before .before .until-part .ensures) in
+    let m =
+    turn-room (a .inner) conj (a .level) (a .s .now) (a .at) (a .n) (a .left) (a .nodes .now) _ _ w
+    (c .before .before .before .before .before .before .before .before .before .operator-at .ensures .read
+    (omega (arith, c .before .before .before .before .before .before .before .before .if1 .left))) in
     omega (arith, m .some)
 
 and-part-with-two-requires : (t : ℕ) → and-part-lts.Need-with-two-requires (and-calls t) (and-part-at t) and-part.Post and-part-Inv-loop and-part-μ-loop
@@ -194,11 +219,18 @@ and-part-with-two-requires t c κs =
     let a = c .before .before .before .before .before .before .before .before .before .before .before .before .before .before .before .before .before .args in
     let p = c .before .before .before .before .before .before .before .before .before .before .before .before .before .before .before .before .before .pre .1 in
     let l = c .before .before .before .before .before .before .before .before .before .before .loop in
-    let w = l .inv (a .nodes .now) (p .3) (c .before .before .before .before .before .before .before .before .before .before .before .before .before .until-part .ensures) in
+    let w =
+    l .inv (a .nodes .now) (p .3)
+    (c .before .before .before .before .before .before .before .before .before .before .before .before .before .until-part .ensures) in
     let op = c .before .before .before .before .before .before .before .before .before .operator-at in
-    let m = turn-room (a .inner) conj (a .level) (a .s .now) (a .at) (a .n) (a .left) (a .nodes .now) _ _ w (op .ensures .read (omega (arith, c .before .before .before .before .before .before .before .before .if1 .left))) in
+    let m =
+    turn-room (a .inner) conj (a .level) (a .s .now) (a .at) (a .n) (a .left) (a .nodes .now) _ _ w
+    (op .ensures .read (omega (arith, c .before .before .before .before .before .before .before .before .if1 .left))) in
     let z = turn-size (a .inner) conj (a .level) (a .s .now) (a .at) (a .n) (a .left) (a .nodes .now) _ _ w (p .3) (p .2) in
-    let o = next-part (a .inner) conj (a .level) (a .s .now) (a .at) (a .n) (a .left) (l .r) (l .nodes) (op .result) (c .before .before .before .until-part2 .result) _ (c .before .before .before .until-part2 .ensures) (z ∙ p .3) (omega (arith, m .kept, p .2)) in (
+    let o =
+    next-part (a .inner) conj (a .level) (a .s .now) (a .at) (a .n) (a .left) (l .r) (l .nodes) (op .result)
+    (c .before .before .before .until-part2 .result) _ (c .before .before .before .until-part2 .ensures) (z ∙ p .3)
+    (omega (arith, m .kept, p .2)) in (
       λ e.
           let x = o .1 e in
           (omega (arith, x .some), omega (arith, x .kept, m .kept, p .2, c .before .before .before .before .before .before .if2 .left)),
@@ -208,18 +240,38 @@ and-part-with-two-requires t c κs =
 
 and-part-loop-less : (t : ℕ) → and-part-lts.Need-loop-less (and-calls t) (and-part-at t) and-part.Post and-part-Inv-loop and-part-μ-loop
 and-part-loop-less t c =
-    let a = c .before .before .before .before .before .before .before .before .before .before .before .before .before .before .before .before .before .before .before .before .args in
-    let p = c .before .before .before .before .before .before .before .before .before .before .before .before .before .before .before .before .before .before .before .before .pre .1 in
+    let a =
+    c .before .before .before .before .before .before .before .before .before .before .before .before .before .before .before .before .before .before .before .before .args in
+    let p =
+    c .before .before .before .before .before .before .before .before .before .before .before .before .before .before .before .before .before .before .before .before .pre .1 in
     let l = c .before .before .before .before .before .before .before .before .before .before .before .before .before .loop in
-    let w = l .inv (a .nodes .now) (p .3) (c .before .before .before .before .before .before .before .before .before .before .before .before .before .before .before .before .until-part .ensures) in
-    turn-on (a .inner) conj (a .level) (a .s .now) (a .at) (a .n) (a .left) (a .nodes .now) (l .r) (l .nodes) w (c .before .before .before .before .before .before .before .before .before .before .before .before .operator-at .result) (c .before .before .before .before .before .before .before .before .before .before .before .before .operator-at .ensures) (omega (arith, c .before .before .before .before .before .before .before .before .before .before .before .if1 .left)) (omega (arith, c .before .before .before .before .before .before .before .before .before .if2 .left)) (p .3) (p .2) (c .before .before .before .before .before .before .until-part2 .result) _ (c .before .before .before .before .before .before .until-part2 .ensures) (c .before .before .with-two .result) _ (c .before .before .with-two .ensures) .1
+    let w =
+    l .inv (a .nodes .now) (p .3)
+    (c .before .before .before .before .before .before .before .before .before .before .before .before .before .before .before .before .until-part .ensures) in
+    turn-on (a .inner) conj (a .level) (a .s .now) (a .at) (a .n) (a .left) (a .nodes .now) (l .r) (l .nodes) w
+    (c .before .before .before .before .before .before .before .before .before .before .before .before .operator-at .result)
+    (c .before .before .before .before .before .before .before .before .before .before .before .before .operator-at .ensures)
+    (omega (arith, c .before .before .before .before .before .before .before .before .before .before .before .if1 .left))
+    (omega (arith, c .before .before .before .before .before .before .before .before .before .if2 .left)) (p .3) (p .2)
+    (c .before .before .before .before .before .before .until-part2 .result) _
+    (c .before .before .before .before .before .before .until-part2 .ensures) (c .before .before .with-two .result) _
+    (c .before .before .with-two .ensures) .1
 
 and-part-loop-again : (t : ℕ) → and-part-lts.Need-loop-again (and-calls t) (and-part-at t) and-part.Post and-part-Inv-loop and-part-μ-loop
 and-part-loop-again t c =
-    let a = c .before .before .before .before .before .before .before .before .before .before .before .before .before .before .before .before .before .before .before .before .args in
-    let p = c .before .before .before .before .before .before .before .before .before .before .before .before .before .before .before .before .before .before .before .before .pre .1 in
+    let a =
+    c .before .before .before .before .before .before .before .before .before .before .before .before .before .before .before .before .before .before .before .before .args in
+    let p =
+    c .before .before .before .before .before .before .before .before .before .before .before .before .before .before .before .before .before .before .before .before .pre .1 in
     let l = c .before .before .before .before .before .before .before .before .before .before .before .before .before .loop in
-    λ before long h. turn-on (a .inner) conj (a .level) (a .s .now) (a .at) (a .n) (a .left) before (l .r) (l .nodes) (l .inv before long h) (c .before .before .before .before .before .before .before .before .before .before .before .before .operator-at .result) (c .before .before .before .before .before .before .before .before .before .before .before .before .operator-at .ensures) (omega (arith, c .before .before .before .before .before .before .before .before .before .before .before .if1 .left)) (omega (arith, c .before .before .before .before .before .before .before .before .before .if2 .left)) long (p .2) (c .before .before .before .before .before .before .until-part2 .result) _ (c .before .before .before .before .before .before .until-part2 .ensures) (c .before .before .with-two .result) _ (c .before .before .with-two .ensures) .0
+    λ before long h. turn-on (a .inner) conj (a .level) (a .s .now) (a .at) (a .n) (a .left) before (l .r) (l .nodes) (l .inv before long h)
+    (c .before .before .before .before .before .before .before .before .before .before .before .before .operator-at .result)
+    (c .before .before .before .before .before .before .before .before .before .before .before .before .operator-at .ensures)
+    (omega (arith, c .before .before .before .before .before .before .before .before .before .before .before .if1 .left))
+    (omega (arith, c .before .before .before .before .before .before .before .before .before .if2 .left)) long (p .2)
+    (c .before .before .before .before .before .before .until-part2 .result) _
+    (c .before .before .before .before .before .before .until-part2 .ensures) (c .before .before .with-two .result) _
+    (c .before .before .with-two .ensures) .0
 
 leaf-part-mark-requires : (t : ℕ) → leaf-part-lts.Need-mark-requires (leaf-calls t) (leaf-part-at t) leaf-part.Post
 leaf-part-mark-requires t c κs =
@@ -232,7 +284,12 @@ leaf-part-same-length t c = search needs
 leaf-part-returns : (t : ℕ) → leaf-part-lts.Need-returns (leaf-calls t) (leaf-part-at t) leaf-part.Post
 leaf-part-returns t c =
     let a = c .before .before .before .before .before .before .before .args in
-    subst (λ (b : Bool). LeafReads b (a .level) (a .s .now) (a .i) (a .n) (a .left) (a .nodes .now) (c .before .before .mark .result) (c .before .before .mark .last .1 .1 .1 .1 .0)) (sym (c .before .before .before .before .if1 .taken)) (mark-part (a .s .now) (a .n) (a .left) (a .nodes .now) (c .before .before .mark .result) _ (marks (a .left) (drop (a .i) (a .s .now))) (c .before .before .mark .ensures))
+    subst
+    (λ (b : Bool). LeafReads b (a .level) (a .s .now) (a .i) (a .n) (a .left) (a .nodes .now) (c .before .before .mark .result)
+    (c .before .before .mark .last .1 .1 .1 .1 .0))
+    (sym (c .before .before .before .before .if1 .taken))
+    (mark-part (a .s .now) (a .n) (a .left) (a .nodes .now) (c .before .before .mark .result) _ (marks (a .left) (drop (a .i) (a .s .now)))
+    (c .before .before .mark .ensures))
 
 leaf-part-shared-slice-read-if2 : (t : ℕ) → leaf-part-lts.Need-shared-slice-read-if2 (leaf-calls t) (leaf-part-at t) leaf-part.Post
 leaf-part-shared-slice-read-if2 t c = omega arith
@@ -244,8 +301,10 @@ leaf-part-returns-2 : (t : ℕ) → leaf-part-lts.Need-returns-2 (leaf-calls t) 
 leaf-part-returns-2 t c =
     let a = c .before .before .before .before .before .before .args in
     let p = c .before .before .before .before .before .before .pre .1 in
-    subst (λ (b : Bool). LeafReads b (a .level) (a .s .now) (a .i) (a .n) (a .left) (a .nodes .now) (c .refused .result) (a .nodes .now)) (sym (c .before .before .before .if1 .left))
-    (refused-part false (a .s .now) (a .n) (a .left) (a .nodes .now) (c .refused .result) (a .nodes .now) 13 (a .i) _ (c .refused .ensures) (λ z. omega arith) (omega (arith, p .0)) refl (no-count (a .s .now) (a .level) (a .left) (a .i) (p .0) (c .before .if2 .taken)))
+    subst (λ (b : Bool). LeafReads b (a .level) (a .s .now) (a .i) (a .n) (a .left) (a .nodes .now) (c .refused .result) (a .nodes .now))
+    (sym (c .before .before .before .if1 .left))
+    (refused-part false (a .s .now) (a .n) (a .left) (a .nodes .now) (c .refused .result) (a .nodes .now) 13 (a .i) _ (c .refused .ensures)
+    (λ z. omega arith) (omega (arith, p .0)) refl (no-count (a .s .now) (a .level) (a .left) (a .i) (p .0) (c .before .if2 .taken)))
 
 leaf-part-refused-requires-2 : (t : ℕ) → leaf-part-lts.Need-refused-requires-2 (leaf-calls t) (leaf-part-at t) leaf-part.Post
 leaf-part-refused-requires-2 t c κs = search needs
@@ -254,8 +313,11 @@ leaf-part-returns-3 : (t : ℕ) → leaf-part-lts.Need-returns-3 (leaf-calls t) 
 leaf-part-returns-3 t c =
     let a = c .before .before .before .before .before .before .before .args in
     let p = c .before .before .before .before .before .before .before .pre .1 in
-    subst (λ (b : Bool). LeafReads b (a .level) (a .s .now) (a .i) (a .n) (a .left) (a .nodes .now) (c .refused2 .result) (a .nodes .now)) (sym (c .before .before .before .before .if1 .left))
-    (refused-part false (a .s .now) (a .n) (a .left) (a .nodes .now) (c .refused2 .result) (a .nodes .now) 14 (a .i) _ (c .refused2 .ensures) (λ z. omega arith) (omega (arith, p .0)) refl (count-shut (a .s .now) (a .level) (a .left) (a .i) (p .0) (c .before .before .if2 .left) (c .before .if3 .taken)))
+    subst (λ (b : Bool). LeafReads b (a .level) (a .s .now) (a .i) (a .n) (a .left) (a .nodes .now) (c .refused2 .result) (a .nodes .now))
+    (sym (c .before .before .before .before .if1 .left))
+    (refused-part false (a .s .now) (a .n) (a .left) (a .nodes .now) (c .refused2 .result) (a .nodes .now) 14 (a .i) _ (c .refused2 .ensures)
+    (λ z. omega arith) (omega (arith, p .0)) refl
+    (count-shut (a .s .now) (a .level) (a .left) (a .i) (p .0) (c .before .before .if2 .left) (c .before .if3 .taken)))
 
 leaf-part-refused-requires-3 : (t : ℕ) → leaf-part-lts.Need-refused-requires-3 (leaf-calls t) (leaf-part-at t) leaf-part.Post
 leaf-part-refused-requires-3 t c κs = search needs
@@ -264,8 +326,11 @@ leaf-part-returns-4 : (t : ℕ) → leaf-part-lts.Need-returns-4 (leaf-calls t) 
 leaf-part-returns-4 t c =
     let a = c .before .before .before .before .before .before .before .before .args in
     let p = c .before .before .before .before .before .before .before .before .pre .1 in
-    subst (λ (b : Bool). LeafReads b (a .level) (a .s .now) (a .i) (a .n) (a .left) (a .nodes .now) (c .refused3 .result) (a .nodes .now)) (sym (c .before .before .before .before .before .if1 .left))
-    (refused-part false (a .s .now) (a .n) (a .left) (a .nodes .now) (c .refused3 .result) (a .nodes .now) 14 (a .i) _ (c .refused3 .ensures) (λ z. omega arith) (omega (arith, p .0)) refl (count-spent (a .s .now) (a .level) (a .left) (a .i) (p .0) (c .before .before .before .if2 .left) (a .level - 1) (omega (arith, c .before .before .if3 .left)) (c .before .if4 .taken)))
+    subst (λ (b : Bool). LeafReads b (a .level) (a .s .now) (a .i) (a .n) (a .left) (a .nodes .now) (c .refused3 .result) (a .nodes .now))
+    (sym (c .before .before .before .before .before .if1 .left))
+    (refused-part false (a .s .now) (a .n) (a .left) (a .nodes .now) (c .refused3 .result) (a .nodes .now) 14 (a .i) _ (c .refused3 .ensures)
+    (λ z. omega arith) (omega (arith, p .0)) refl (count-spent (a .s .now) (a .level) (a .left) (a .i) (p .0)
+    (c .before .before .before .if2 .left) (a .level - 1) (omega (arith, c .before .before .if3 .left)) (c .before .if4 .taken)))
 
 leaf-part-add-or-part : (t : ℕ) → leaf-part-lts.Need-add-or-part (leaf-calls t) (leaf-part-at t) leaf-part.Post
 leaf-part-add-or-part t c = omega arith
@@ -278,8 +343,10 @@ leaf-part-sub-or-part-2 t c = omega (arith, c .if4 .left)
 
 leaf-part-or-part-requires : (t : ℕ) → leaf-part-lts.Need-or-part-requires (leaf-calls t) (leaf-part-at t) leaf-part.Post
 leaf-part-or-part-requires t c κs =
-    let p = c .before .before .before .before .before .before .before .before .pre .1 in
-    (omega (arith, c .before .before .before .before .before .before .before .before .pre .0, c .before .before .if3 .left), (omega (arith, p .0), p .1, omega (arith, p .2), p .3))
+    let p = c .before .before .before .before .before .before .before .before .pre .1 in (
+      omega (arith, c .before .before .before .before .before .before .before .before .pre .0, c .before .before .if3 .left),
+      (omega (arith, p .0), p .1, omega (arith, p .2), p .3),
+    )
 
 leaf-part-count-end-requires : (t : ℕ) → leaf-part-lts.Need-count-end-requires (leaf-calls t) (leaf-part-at t) leaf-part.Post
 leaf-part-count-end-requires t c κs =
@@ -292,7 +359,8 @@ leaf-part-count-end-requires t c κs =
       λ e.
           let o = room true (a .s .now) (a .n) (a .left - 1) (a .nodes .now) (r .result) _ g (r .ensures) e in
           (omega (arith, o .some), omega (arith, o .kept, p .2, c .before .before .before .before .before .if4 .left)),
-      part-length markNodes flatMark (flat-size true) (a .s .now) (a .n) (a .left - 1) (a .nodes .now) (r .result) _ g (r .ensures) (p .3) (omega (arith, p .2)) ∙ p .3,
+      part-length markNodes flatMark (flat-size true) (a .s .now) (a .n) (a .left - 1) (a .nodes .now) (r .result) _ g (r .ensures) (p .3) (omega (arith, p .2))
+          ∙ p .3,
     )
 
 leaf-part-same-length-2 : (t : ℕ) → leaf-part-lts.Need-same-length-2 (leaf-calls t) (leaf-part-at t) leaf-part.Post
@@ -306,11 +374,21 @@ leaf-part-returns-5 t c =
     let g = ors (λ j. marks) (a .level - 1) (a .left - 1) (drop (a .i + 1) (a .s .now)) in
     let e : a .i + 1 ≡ suc (a .i) = omega arith in
     let one : suc (a .left - 1) ≡ a .left = omega (arith, c .before .before .before .before .before .before .before .before .if4 .left) in
-    let same = ap (λ (j : ℕ). countGot (ors (λ j. marks) (a .level - 1) (a .left - 1) (drop j (a .s .now)))) e ∙ sym (count-is (a .s .now) (a .level) (a .left) (a .i) (p .0) (c .before .before .before .before .before .before .before .before .before .before .if2 .left) (a .level - 1) (omega (arith, c .before .before .before .before .before .before .before .before .before .if3 .left)) (a .left - 1) (sym one)) in
+    let same =
+    ap (λ (j : ℕ). countGot (ors (λ j. marks) (a .level - 1) (a .left - 1) (drop j (a .s .now)))) e
+    ∙ sym
+    (count-is (a .s .now) (a .level) (a .left) (a .i) (p .0)
+    (c .before .before .before .before .before .before .before .before .before .before .if2 .left) (a .level - 1)
+    (omega (arith, c .before .before .before .before .before .before .before .before .before .if3 .left)) (a .left - 1) (sym one)) in
     let read = c .before .before .count-end .ensures (a .n) (a .left - 1) (a .nodes .now) g (r .ensures) (p .3) (omega (arith, p .2, one)) in
-    subst (λ (b : Bool). LeafReads b (a .level) (a .s .now) (a .i) (a .n) (a .left) (a .nodes .now) (c .before .before .count-end .result) (c .before .before .count-end .last .1 .1 .0)) (sym (c .before .before .before .before .before .before .before .before .before .before .before .before .if1 .left))
-    (subst (PartIs countNodes flatCount (a .s .now) (a .n) (a .left) (a .nodes .now) (c .before .before .count-end .result) (c .before .before .count-end .last .1 .1 .0)) same
-    (subst (λ (m : ℕ). PartIs countNodes flatCount (a .s .now) (a .n) m (a .nodes .now) (c .before .before .count-end .result) (c .before .before .count-end .last .1 .1 .0) (countGot g)) one read))
+    subst
+    (λ (b : Bool). LeafReads b (a .level) (a .s .now) (a .i) (a .n) (a .left) (a .nodes .now) (c .before .before .count-end .result)
+    (c .before .before .count-end .last .1 .1 .0))
+    (sym (c .before .before .before .before .before .before .before .before .before .before .before .before .if1 .left))
+    (subst (PartIs countNodes flatCount (a .s .now) (a .n) (a .left) (a .nodes .now) (c .before .before .count-end .result)
+    (c .before .before .count-end .last .1 .1 .0)) same
+    (subst (λ (m : ℕ). PartIs countNodes flatCount (a .s .now) (a .n) m (a .nodes .now) (c .before .before .count-end .result)
+    (c .before .before .count-end .last .1 .1 .0) (countGot g)) one read))
 
 abbrev or-part-Inv-loop : or-part-lts.InvT-loop
 or-part-Inv-loop s at level inner left n nodes₀ r₀ nodes r = Turns inner disj level s at n left nodes₀ r₀ nodes r
@@ -333,14 +411,16 @@ or-part-same-length : (t : ℕ) → or-part-lts.Need-same-length (or-calls t) (o
 or-part-same-length t c =
     let a = c .before .before .before .before .before .before .before .before .before .args in
     let p = c .before .before .before .before .before .before .before .before .before .pre .1 in
-    turn-size (a .inner) disj (a .level) (a .s .now) (a .at) (a .n) (a .left) (a .nodes .now) _ _ (c .before .before .loop .inv (a .nodes .now) (p .3) (c .before .before .before .before .before .and-part .ensures)) (p .3) (p .2)
+    turn-size (a .inner) disj (a .level) (a .s .now) (a .at) (a .n) (a .left) (a .nodes .now) _ _
+    (c .before .before .loop .inv (a .nodes .now) (p .3) (c .before .before .before .before .before .and-part .ensures)) (p .3) (p .2)
 
 or-part-returns : (t : ℕ) → or-part-lts.Need-returns (or-calls t) (or-part-at t) or-part.Post or-part-Inv-loop or-part-μ-loop
 or-part-returns t c =
     let a = c .before .before .before .before .before .before .before .before .before .args in
     let p = c .before .before .before .before .before .before .before .before .before .pre .1 in
     let w = c .before .before .loop .inv (a .nodes .now) (p .3) (c .before .before .before .before .before .and-part .ensures) in
-    turn-ended (a .inner) disj (a .level) (a .s .now) (a .at) (a .n) (a .left) (a .nodes .now) _ _ w _ (c .before .operator-at .ensures) (omega (arith, c .if1 .taken))
+    turn-ended (a .inner) disj (a .level) (a .s .now) (a .at) (a .n) (a .left) (a .nodes .now) _ _ w _ (c .before .operator-at .ensures)
+    (omega (arith, c .if1 .taken))
 
 or-part-refused-requires : (t : ℕ) → or-part-lts.Need-refused-requires (or-calls t) (or-part-at t) or-part.Post or-part-Inv-loop or-part-μ-loop
 or-part-refused-requires t c κs = search needs
@@ -349,17 +429,24 @@ or-part-same-length-2 : (t : ℕ) → or-part-lts.Need-same-length-2 (or-calls t
 or-part-same-length-2 t c =
     let a = c .before .before .before .before .before .before .before .before .before .before .before .before .args in
     let p = c .before .before .before .before .before .before .before .before .before .before .before .before .pre .1 in
-    turn-size (a .inner) disj (a .level) (a .s .now) (a .at) (a .n) (a .left) (a .nodes .now) _ _ (c .before .before .before .before .before .loop .inv (a .nodes .now) (p .3) (c .before .before .before .before .before .before .before .before .and-part .ensures)) (p .3) (p .2)
+    turn-size (a .inner) disj (a .level) (a .s .now) (a .at) (a .n) (a .left) (a .nodes .now) _ _
+    (c .before .before .before .before .before .loop .inv (a .nodes .now) (p .3)
+    (c .before .before .before .before .before .before .before .before .and-part .ensures))
+    (p .3) (p .2)
 
 or-part-returns-2 : (t : ℕ) → or-part-lts.Need-returns-2 (or-calls t) (or-part-at t) or-part.Post or-part-Inv-loop or-part-μ-loop
 or-part-returns-2 t c =
     let a = c .before .before .before .before .before .before .before .before .before .before .before .before .args in
     let p = c .before .before .before .before .before .before .before .before .before .before .before .before .pre .1 in
-    let w = c .before .before .before .before .before .loop .inv (a .nodes .now) (p .3) (c .before .before .before .before .before .before .before .before .and-part .ensures) in
+    let w =
+    c .before .before .before .before .before .loop .inv (a .nodes .now) (p .3)
+    (c .before .before .before .before .before .before .before .before .and-part .ensures) in
     let op = c .before .before .before .before .operator-at in
-    refused-part (a .inner) (a .s .now) (a .n) (a .left) (a .nodes .now) _ _ 14 (op .result) _ (c .refused .ensures) (λ z. omega arith) (omega (arith, c .before .before .before .if1 .left))
+    refused-part (a .inner) (a .s .now) (a .n) (a .left) (a .nodes .now) _ _ 14 (op .result) _ (c .refused .ensures) (λ z. omega arith)
+    (omega (arith, c .before .before .before .if1 .left))
     (turn-size (a .inner) disj (a .level) (a .s .now) (a .at) (a .n) (a .left) (a .nodes .now) _ _ w (p .3) (p .2))
-    (turn-spent (a .inner) disj (a .level) (a .s .now) (a .at) (a .n) (a .left) (a .nodes .now) _ _ w (op .result) (op .ensures) (omega (arith, c .before .before .before .if1 .left)) (c .before .if2 .taken))
+    (turn-spent (a .inner) disj (a .level) (a .s .now) (a .at) (a .n) (a .left) (a .nodes .now) _ _ w (op .result) (op .ensures)
+    (omega (arith, c .before .before .before .if1 .left)) (c .before .if2 .taken))
 
 or-part-add-and-part : (t : ℕ) → or-part-lts.Need-add-and-part (or-calls t) (or-part-at t) or-part.Post or-part-Inv-loop or-part-μ-loop
 or-part-add-and-part t c = omega arith
@@ -371,18 +458,29 @@ or-part-and-part-requires-2 : (t : ℕ) → or-part-lts.Need-and-part-requires-2
 or-part-and-part-requires-2 t c κs =
     let a = c .before .before .before .before .before .before .before .before .before .before .before .before .before .args in
     let p = c .before .before .before .before .before .before .before .before .before .before .before .before .before .pre .1 in
-    let w = c .before .before .before .before .before .before .loop .inv (a .nodes .now) (p .3) (c .before .before .before .before .before .before .before .before .before .and-part .ensures) in
+    let w =
+    c .before .before .before .before .before .before .loop .inv (a .nodes .now) (p .3)
+    (c .before .before .before .before .before .before .before .before .before .and-part .ensures) in
     let op = c .before .before .before .before .before .operator-at in
-    let m = turn-room (a .inner) disj (a .level) (a .s .now) (a .at) (a .n) (a .left) (a .nodes .now) _ _ w (op .ensures .read (omega (arith, c .before .before .before .before .if1 .left))) in
-    let z = turn-size (a .inner) disj (a .level) (a .s .now) (a .at) (a .n) (a .left) (a .nodes .now) _ _ w (p .3) (p .2) in
-    (omega (arith, c .before .before .before .before .before .before .before .before .before .before .before .before .before .pre .0), (omega (arith, c .before .before .before .before .if1 .left), p .1, omega (arith, m .kept, p .2), z ∙ p .3))
+    let m =
+    turn-room (a .inner) disj (a .level) (a .s .now) (a .at) (a .n) (a .left) (a .nodes .now) _ _ w
+    (op .ensures .read (omega (arith, c .before .before .before .before .if1 .left))) in
+    let z = turn-size (a .inner) disj (a .level) (a .s .now) (a .at) (a .n) (a .left) (a .nodes .now) _ _ w (p .3) (p .2) in (
+      omega (arith, c .before .before .before .before .before .before .before .before .before .before .before .before .before .pre .0),
+      (omega (arith, c .before .before .before .before .if1 .left), p .1, omega (arith, m .kept, p .2), z ∙ p .3),
+    )
 
 or-part-sub-with-two : (t : ℕ) → or-part-lts.Need-sub-with-two (or-calls t) (or-part-at t) or-part.Post or-part-Inv-loop or-part-μ-loop
 or-part-sub-with-two t c =
     let a = c .before .before .before .before .before .before .before .before .before .before .before .before .before .before .before .before .before .args in
     let p = c .before .before .before .before .before .before .before .before .before .before .before .before .before .before .before .before .before .pre .1 in
-    let w = c .before .before .before .before .before .before .before .before .before .before .loop .inv (a .nodes .now) (p .3) (c .before .before .before .before .before .before .before .before .before .before .before .before .before .and-part .ensures) in
-    let m = turn-room (a .inner) disj (a .level) (a .s .now) (a .at) (a .n) (a .left) (a .nodes .now) _ _ w (c .before .before .before .before .before .before .before .before .before .operator-at .ensures .read (omega (arith, c .before .before .before .before .before .before .before .before .if1 .left))) in
+    let w =
+    c .before .before .before .before .before .before .before .before .before .before .loop .inv (a .nodes .now) (p .3)
+    (c .before .before .before .before .before .before .before .before .before .before .before .before .before .and-part .ensures) in
+    let m =
+    turn-room (a .inner) disj (a .level) (a .s .now) (a .at) (a .n) (a .left) (a .nodes .now) _ _ w
+    (c .before .before .before .before .before .before .before .before .before .operator-at .ensures .read
+    (omega (arith, c .before .before .before .before .before .before .before .before .if1 .left))) in
     omega (arith, m .some)
 
 or-part-with-two-requires : (t : ℕ) → or-part-lts.Need-with-two-requires (or-calls t) (or-part-at t) or-part.Post or-part-Inv-loop or-part-μ-loop
@@ -390,11 +488,17 @@ or-part-with-two-requires t c κs =
     let a = c .before .before .before .before .before .before .before .before .before .before .before .before .before .before .before .before .before .args in
     let p = c .before .before .before .before .before .before .before .before .before .before .before .before .before .before .before .before .before .pre .1 in
     let l = c .before .before .before .before .before .before .before .before .before .before .loop in
-    let w = l .inv (a .nodes .now) (p .3) (c .before .before .before .before .before .before .before .before .before .before .before .before .before .and-part .ensures) in
+    let w =
+    l .inv (a .nodes .now) (p .3)
+    (c .before .before .before .before .before .before .before .before .before .before .before .before .before .and-part .ensures) in
     let op = c .before .before .before .before .before .before .before .before .before .operator-at in
-    let m = turn-room (a .inner) disj (a .level) (a .s .now) (a .at) (a .n) (a .left) (a .nodes .now) _ _ w (op .ensures .read (omega (arith, c .before .before .before .before .before .before .before .before .if1 .left))) in
+    let m =
+    turn-room (a .inner) disj (a .level) (a .s .now) (a .at) (a .n) (a .left) (a .nodes .now) _ _ w
+    (op .ensures .read (omega (arith, c .before .before .before .before .before .before .before .before .if1 .left))) in
     let z = turn-size (a .inner) disj (a .level) (a .s .now) (a .at) (a .n) (a .left) (a .nodes .now) _ _ w (p .3) (p .2) in
-    let o = next-part (a .inner) disj (a .level) (a .s .now) (a .at) (a .n) (a .left) (l .r) (l .nodes) (op .result) (c .before .before .before .and-part2 .result) _ (c .before .before .before .and-part2 .ensures) (z ∙ p .3) (omega (arith, m .kept, p .2)) in (
+    let o =
+    next-part (a .inner) disj (a .level) (a .s .now) (a .at) (a .n) (a .left) (l .r) (l .nodes) (op .result)
+    (c .before .before .before .and-part2 .result) _ (c .before .before .before .and-part2 .ensures) (z ∙ p .3) (omega (arith, m .kept, p .2)) in (
       λ e.
           let x = o .1 e in
           (omega (arith, x .some), omega (arith, x .kept, m .kept, p .2, c .before .before .before .before .before .before .if2 .left)),
@@ -404,18 +508,36 @@ or-part-with-two-requires t c κs =
 
 or-part-loop-less : (t : ℕ) → or-part-lts.Need-loop-less (or-calls t) (or-part-at t) or-part.Post or-part-Inv-loop or-part-μ-loop
 or-part-loop-less t c =
-    let a = c .before .before .before .before .before .before .before .before .before .before .before .before .before .before .before .before .before .before .before .before .args in
-    let p = c .before .before .before .before .before .before .before .before .before .before .before .before .before .before .before .before .before .before .before .before .pre .1 in
+    let a =
+    c .before .before .before .before .before .before .before .before .before .before .before .before .before .before .before .before .before .before .before .before .args in
+    let p =
+    c .before .before .before .before .before .before .before .before .before .before .before .before .before .before .before .before .before .before .before .before .pre .1 in
     let l = c .before .before .before .before .before .before .before .before .before .before .before .before .before .loop in
-    let w = l .inv (a .nodes .now) (p .3) (c .before .before .before .before .before .before .before .before .before .before .before .before .before .before .before .before .and-part .ensures) in
-    turn-on (a .inner) disj (a .level) (a .s .now) (a .at) (a .n) (a .left) (a .nodes .now) (l .r) (l .nodes) w (c .before .before .before .before .before .before .before .before .before .before .before .before .operator-at .result) (c .before .before .before .before .before .before .before .before .before .before .before .before .operator-at .ensures) (omega (arith, c .before .before .before .before .before .before .before .before .before .before .before .if1 .left)) (omega (arith, c .before .before .before .before .before .before .before .before .before .if2 .left)) (p .3) (p .2) (c .before .before .before .before .before .before .and-part2 .result) _ (c .before .before .before .before .before .before .and-part2 .ensures) (c .before .before .with-two .result) _ (c .before .before .with-two .ensures) .1
+    let w =
+    l .inv (a .nodes .now) (p .3)
+    (c .before .before .before .before .before .before .before .before .before .before .before .before .before .before .before .before .and-part .ensures) in
+    turn-on (a .inner) disj (a .level) (a .s .now) (a .at) (a .n) (a .left) (a .nodes .now) (l .r) (l .nodes) w
+    (c .before .before .before .before .before .before .before .before .before .before .before .before .operator-at .result)
+    (c .before .before .before .before .before .before .before .before .before .before .before .before .operator-at .ensures)
+    (omega (arith, c .before .before .before .before .before .before .before .before .before .before .before .if1 .left))
+    (omega (arith, c .before .before .before .before .before .before .before .before .before .if2 .left)) (p .3) (p .2)
+    (c .before .before .before .before .before .before .and-part2 .result) _ (c .before .before .before .before .before .before .and-part2 .ensures)
+    (c .before .before .with-two .result) _ (c .before .before .with-two .ensures) .1
 
 or-part-loop-again : (t : ℕ) → or-part-lts.Need-loop-again (or-calls t) (or-part-at t) or-part.Post or-part-Inv-loop or-part-μ-loop
 or-part-loop-again t c =
-    let a = c .before .before .before .before .before .before .before .before .before .before .before .before .before .before .before .before .before .before .before .before .args in
-    let p = c .before .before .before .before .before .before .before .before .before .before .before .before .before .before .before .before .before .before .before .before .pre .1 in
+    let a =
+    c .before .before .before .before .before .before .before .before .before .before .before .before .before .before .before .before .before .before .before .before .args in
+    let p =
+    c .before .before .before .before .before .before .before .before .before .before .before .before .before .before .before .before .before .before .before .before .pre .1 in
     let l = c .before .before .before .before .before .before .before .before .before .before .before .before .before .loop in
-    λ before long h. turn-on (a .inner) disj (a .level) (a .s .now) (a .at) (a .n) (a .left) before (l .r) (l .nodes) (l .inv before long h) (c .before .before .before .before .before .before .before .before .before .before .before .before .operator-at .result) (c .before .before .before .before .before .before .before .before .before .before .before .before .operator-at .ensures) (omega (arith, c .before .before .before .before .before .before .before .before .before .before .before .if1 .left)) (omega (arith, c .before .before .before .before .before .before .before .before .before .if2 .left)) long (p .2) (c .before .before .before .before .before .before .and-part2 .result) _ (c .before .before .before .before .before .before .and-part2 .ensures) (c .before .before .with-two .result) _ (c .before .before .with-two .ensures) .0
+    λ before long h. turn-on (a .inner) disj (a .level) (a .s .now) (a .at) (a .n) (a .left) before (l .r) (l .nodes) (l .inv before long h)
+    (c .before .before .before .before .before .before .before .before .before .before .before .before .operator-at .result)
+    (c .before .before .before .before .before .before .before .before .before .before .before .before .operator-at .ensures)
+    (omega (arith, c .before .before .before .before .before .before .before .before .before .before .before .if1 .left))
+    (omega (arith, c .before .before .before .before .before .before .before .before .before .if2 .left)) long (p .2)
+    (c .before .before .before .before .before .before .and-part2 .result) _ (c .before .before .before .before .before .before .and-part2 .ensures)
+    (c .before .before .with-two .result) _ (c .before .before .with-two .ensures) .0
 
 small-part-spaces-requires : (t : ℕ) → small-part-lts.Need-spaces-requires (small-calls t) (small-part-at t) small-part.Post
 small-part-spaces-requires t c κs = search needs
@@ -428,8 +550,10 @@ small-part-returns t c =
     let a = c .before .before .before .before .before .args in
     let i = c .before .before .spaces in
     let out = drop-of-length-le (a .s .now) {i = i .result} (omega (arith, c .before .if1 .taken)) in
-    refused-part (a .inner) (a .s .now) (a .n) (a .left) (a .nodes .now) (c .refused .result) (a .nodes .now) 13 (i .result) _ (c .refused .ensures) (λ z. omega arith) (i .ensures .2 (c .before .before .before .before .before .pre .1 .0)) refl
-    (nothing (leafNodes (a .inner)) (leafFlat (a .inner)) (flat-size (a .inner)) (leafReader (a .inner)) (a .s .now) (a .n) (a .left) (a .nodes .now) (a .level) (drop (a .at) (a .s .now)) (i .result) (i .ensures .0) out)
+    refused-part (a .inner) (a .s .now) (a .n) (a .left) (a .nodes .now) (c .refused .result) (a .nodes .now) 13 (i .result) _ (c .refused .ensures)
+    (λ z. omega arith) (i .ensures .2 (c .before .before .before .before .before .pre .1 .0)) refl
+    (nothing (leafNodes (a .inner)) (leafFlat (a .inner)) (flat-size (a .inner)) (leafReader (a .inner)) (a .s .now) (a .n) (a .left) (a .nodes .now)
+    (a .level) (drop (a .at) (a .s .now)) (i .result) (i .ensures .0) out)
 
 small-part-shared-slice-read-b : (t : ℕ) → small-part-lts.Need-shared-slice-read-b (small-calls t) (small-part-at t) small-part.Post
 small-part-shared-slice-read-b t c = omega arith
@@ -446,7 +570,10 @@ small-part-returns-2 : (t : ℕ) → small-part-lts.Need-returns-2 (small-calls 
 small-part-returns-2 t c =
     let a = c .before .before .before .before .before .before .before .before .before .before .args in
     let i = c .before .before .before .before .before .before .before .spaces in
-    word-is (leafNodes (a .inner)) (leafFlat (a .inner)) (flat-size (a .inner)) (leafReader (a .inner)) (a .s .now) (a .n) (a .left) (a .nodes .now) (a .level) (drop (a .at) (a .s .now)) (i .result) (i .ensures .0) (getD (a .s .now) (i .result) 0) (drop-cons (a .s .now) (i .result) 0 (omega (arith, c .before .before .before .before .before .before .if1 .left))) (c .before .before .before .before .if2 .taken) (c .before .before .word .result) _ (c .before .before .word .ensures)
+    word-is (leafNodes (a .inner)) (leafFlat (a .inner)) (flat-size (a .inner)) (leafReader (a .inner)) (a .s .now) (a .n) (a .left) (a .nodes .now)
+    (a .level) (drop (a .at) (a .s .now)) (i .result) (i .ensures .0) (getD (a .s .now) (i .result) 0)
+    (drop-cons (a .s .now) (i .result) 0 (omega (arith, c .before .before .before .before .before .before .if1 .left)))
+    (c .before .before .before .before .if2 .taken) (c .before .before .word .result) _ (c .before .before .word .ensures)
 
 small-part-refused-requires-2 : (t : ℕ) → small-part-lts.Need-refused-requires-2 (small-calls t) (small-part-at t) small-part.Post
 small-part-refused-requires-2 t c κs = search needs
@@ -455,8 +582,12 @@ small-part-returns-3 : (t : ℕ) → small-part-lts.Need-returns-3 (small-calls 
 small-part-returns-3 t c =
     let a = c .before .before .before .before .before .before .before .before .before .args in
     let i = c .before .before .before .before .before .before .spaces in
-    refused-part (a .inner) (a .s .now) (a .n) (a .left) (a .nodes .now) (c .refused2 .result) (a .nodes .now) 14 (i .result) _ (c .refused2 .ensures) (λ z. omega arith) (omega (arith, c .before .before .before .before .before .if1 .left)) refl
-    (paren-shut (leafNodes (a .inner)) (leafFlat (a .inner)) (flat-size (a .inner)) (leafReader (a .inner)) (a .s .now) (a .n) (a .left) (a .nodes .now) (a .level) (drop (a .at) (a .s .now)) (i .result) (i .ensures .0) (getD (a .s .now) (i .result) 0) (drop-cons (a .s .now) (i .result) 0 (omega (arith, c .before .before .before .before .before .if1 .left))) (c .before .before .if3 .taken) (c .before .if4 .taken))
+    refused-part (a .inner) (a .s .now) (a .n) (a .left) (a .nodes .now) (c .refused2 .result) (a .nodes .now) 14 (i .result) _ (c .refused2 .ensures)
+    (λ z. omega arith) (omega (arith, c .before .before .before .before .before .if1 .left)) refl
+    (paren-shut (leafNodes (a .inner)) (leafFlat (a .inner)) (flat-size (a .inner)) (leafReader (a .inner)) (a .s .now) (a .n) (a .left)
+    (a .nodes .now) (a .level) (drop (a .at) (a .s .now)) (i .result) (i .ensures .0) (getD (a .s .now) (i .result) 0)
+    (drop-cons (a .s .now) (i .result) 0 (omega (arith, c .before .before .before .before .before .if1 .left))) (c .before .before .if3 .taken)
+    (c .before .if4 .taken))
 
 small-part-add-or-part : (t : ℕ) → small-part-lts.Need-add-or-part (small-calls t) (small-part-at t) small-part.Post
 small-part-add-or-part t c = omega arith
@@ -466,14 +597,19 @@ small-part-sub-or-part t c = omega (arith, c .if4 .left)
 
 small-part-or-part-requires : (t : ℕ) → small-part-lts.Need-or-part-requires (small-calls t) (small-part-at t) small-part.Post
 small-part-or-part-requires t c κs =
-    let p = c .before .before .before .before .before .before .before .before .before .pre .1 in
-    (omega (arith, c .before .before .before .before .before .before .before .before .before .pre .0, c .before .if4 .left), (omega (arith, c .before .before .before .before .before .if1 .left), p .1, p .2, p .3))
+    let p = c .before .before .before .before .before .before .before .before .before .pre .1 in (
+      omega (arith, c .before .before .before .before .before .before .before .before .before .pre .0, c .before .if4 .left),
+      (omega (arith, c .before .before .before .before .before .if1 .left), p .1, p .2, p .3),
+    )
 
 small-part-expect-requires : (t : ℕ) → small-part-lts.Need-expect-requires (small-calls t) (small-part-at t) small-part.Post
 small-part-expect-requires t c κs =
     let a = c .before .before .before .before .before .before .before .before .before .before .before .before .args in
     let r = c .before .before .or-part in
-    part-inside (a .inner) (a .s .now) (a .n) (a .left) (a .nodes .now) (r .result) _ (ors (leafReader (a .inner)) (a .level - 1) (a .left) (drop (c .before .before .before .before .before .before .before .before .before .spaces .result + 1) (a .s .now))) (r .ensures)
+    part-inside (a .inner) (a .s .now) (a .n) (a .left) (a .nodes .now) (r .result) _
+    (ors (leafReader (a .inner)) (a .level - 1) (a .left)
+    (drop (c .before .before .before .before .before .before .before .before .before .spaces .result + 1) (a .s .now)))
+    (r .ensures)
 
 small-part-same-length-2 : (t : ℕ) → small-part-lts.Need-same-length-2 (small-calls t) (small-part-at t) small-part.Post
 small-part-same-length-2 t c = search needs
@@ -486,17 +622,26 @@ small-part-returns-4 t c =
     let r = c .before .before .before .or-part in
     let e : i .result + 1 ≡ suc (i .result) = omega arith in
     let g = ors (leafReader (a .inner)) (a .level - 1) (a .left) (drop (i .result + 1) (a .s .now)) in
-    paren-closed (leafNodes (a .inner)) (leafFlat (a .inner)) (flat-size (a .inner)) (leafReader (a .inner)) (a .s .now) (a .n) (a .left) (a .nodes .now) (a .level) (drop (a .at) (a .s .now)) (i .result) (i .ensures .0) (getD (a .s .now) (i .result) 0) (drop-cons (a .s .now) (i .result) 0 (omega (arith, c .before .before .before .before .before .before .before .before .before .if1 .left))) (c .before .before .before .before .before .before .if3 .taken) (a .level - 1) (omega (arith, c .before .before .before .before .before .if4 .left)) (r .result) (r .last .1 .1 .1 .1 .1 .1 .0)
-    (subst (λ (j : ℕ). PartIs (leafNodes (a .inner)) (leafFlat (a .inner)) (a .s .now) (a .n) (a .left) (a .nodes .now) (r .result) (r .last .1 .1 .1 .1 .1 .1 .0) (ors (leafReader (a .inner)) (a .level - 1) (a .left) (drop j (a .s .now)))) e (r .ensures))
-    (part-length (leafNodes (a .inner)) (leafFlat (a .inner)) (flat-size (a .inner)) (a .s .now) (a .n) (a .left) (a .nodes .now) (r .result) _ g (r .ensures) (p .3) (p .2)) (c .expect .result) (c .expect .ensures)
+    paren-closed (leafNodes (a .inner)) (leafFlat (a .inner)) (flat-size (a .inner)) (leafReader (a .inner)) (a .s .now) (a .n) (a .left)
+    (a .nodes .now) (a .level) (drop (a .at) (a .s .now)) (i .result) (i .ensures .0) (getD (a .s .now) (i .result) 0)
+    (drop-cons (a .s .now) (i .result) 0 (omega (arith, c .before .before .before .before .before .before .before .before .before .if1 .left)))
+    (c .before .before .before .before .before .before .if3 .taken) (a .level - 1)
+    (omega (arith, c .before .before .before .before .before .if4 .left)) (r .result) (r .last .1 .1 .1 .1 .1 .1 .0)
+    (subst (λ (j : ℕ). PartIs (leafNodes (a .inner)) (leafFlat (a .inner)) (a .s .now) (a .n) (a .left) (a .nodes .now) (r .result)
+    (r .last .1 .1 .1 .1 .1 .1 .0) (ors (leafReader (a .inner)) (a .level - 1) (a .left) (drop j (a .s .now)))) e (r .ensures))
+    (part-length (leafNodes (a .inner)) (leafFlat (a .inner)) (flat-size (a .inner)) (a .s .now) (a .n) (a .left) (a .nodes .now) (r .result) _ g
+    (r .ensures) (p .3) (p .2))
+    (c .expect .result) (c .expect .ensures)
 
 small-part-prefix-kind-requires : (t : ℕ) → small-part-lts.Need-prefix-kind-requires (small-calls t) (small-part-at t) small-part.Post
 small-part-prefix-kind-requires t c κs = search needs
 
 small-part-leaf-part-requires : (t : ℕ) → small-part-lts.Need-leaf-part-requires (small-calls t) (small-part-at t) small-part.Post
 small-part-leaf-part-requires t c κs =
-    let p = c .before .before .before .before .before .before .before .before .before .before .pre .1 in
-    (omega (arith, c .before .before .before .before .before .before .before .before .before .before .pre .0), (omega (arith, c .before .before .before .before .before .before .if1 .left), p .1, p .2, p .3))
+    let p = c .before .before .before .before .before .before .before .before .before .before .pre .1 in (
+      omega (arith, c .before .before .before .before .before .before .before .before .before .before .pre .0),
+      (omega (arith, c .before .before .before .before .before .before .if1 .left), p .1, p .2, p .3),
+    )
 
 small-part-same-length-3 : (t : ℕ) → small-part-lts.Need-same-length-3 (small-calls t) (small-part-at t) small-part.Post
 small-part-same-length-3 t c = search needs
@@ -505,9 +650,17 @@ small-part-returns-5 : (t : ℕ) → small-part-lts.Need-returns-5 (small-calls 
 small-part-returns-5 t c =
     let a = c .before .before .before .before .before .before .before .before .before .before .before .before .before .args in
     let i = c .before .before .before .before .before .before .before .before .before .before .spaces in
-    let k = other-byte (getD (a .s .now) (i .result) 0) (c .before .before .before .before .before .before .before .if2 .left) (c .before .before .before .before .before .before .if3 .left) (sym (c .before .before .before .before .before .prefix-kind .ensures) ∙ c .before .before .before .before .if5 .taken) in
-    subst (PartIs (leafNodes (a .inner)) (leafFlat (a .inner)) (a .s .now) (a .n) (a .left) (a .nodes .now) (c .before .before .leaf-part .result) (c .before .before .leaf-part .last .1 .1 .1 .1 .1 .1 .0))
-    (sym (leaf-is (leafNodes (a .inner)) (leafFlat (a .inner)) (flat-size (a .inner)) (leafReader (a .inner)) (a .s .now) (a .n) (a .left) (a .nodes .now) (a .level) (drop (a .at) (a .s .now)) (i .result) (i .ensures .0) (getD (a .s .now) (i .result) 0) (drop-cons (a .s .now) (i .result) 0 (omega (arith, c .before .before .before .before .before .before .before .before .before .if1 .left))) k)) (c .before .before .leaf-part .ensures)
+    let k =
+    other-byte (getD (a .s .now) (i .result) 0) (c .before .before .before .before .before .before .before .if2 .left)
+    (c .before .before .before .before .before .before .if3 .left)
+    (sym (c .before .before .before .before .before .prefix-kind .ensures) ∙ c .before .before .before .before .if5 .taken) in
+    subst
+    (PartIs (leafNodes (a .inner)) (leafFlat (a .inner)) (a .s .now) (a .n) (a .left) (a .nodes .now) (c .before .before .leaf-part .result)
+    (c .before .before .leaf-part .last .1 .1 .1 .1 .1 .1 .0))
+    (sym (leaf-is (leafNodes (a .inner)) (leafFlat (a .inner)) (flat-size (a .inner)) (leafReader (a .inner)) (a .s .now) (a .n) (a .left)
+    (a .nodes .now) (a .level) (drop (a .at) (a .s .now)) (i .result) (i .ensures .0) (getD (a .s .now) (i .result) 0)
+    (drop-cons (a .s .now) (i .result) 0 (omega (arith, c .before .before .before .before .before .before .before .before .before .if1 .left))) k))
+    (c .before .before .leaf-part .ensures)
 
 small-part-refused-requires-3 : (t : ℕ) → small-part-lts.Need-refused-requires-3 (small-calls t) (small-part-at t) small-part.Post
 small-part-refused-requires-3 t c κs = search needs
@@ -517,8 +670,12 @@ small-part-returns-6 t c =
     let a = c .before .before .before .before .before .before .before .before .before .before .before .args in
     let i = c .before .before .before .before .before .before .before .before .spaces in
     let o = prefix-of (getD (a .s .now) (i .result) 0) (λ z. c .before .before .if5 .left (c .before .before .before .prefix-kind .ensures ∙ z)) in
-    refused-part (a .inner) (a .s .now) (a .n) (a .left) (a .nodes .now) (c .refused3 .result) (a .nodes .now) 14 (i .result) _ (c .refused3 .ensures) (λ z. omega arith) (omega (arith, c .before .before .before .before .before .before .before .if1 .left)) refl
-    (prefix-shut (leafNodes (a .inner)) (leafFlat (a .inner)) (flat-size (a .inner)) (leafReader (a .inner)) (a .s .now) (a .n) (a .left) (a .nodes .now) (a .level) (drop (a .at) (a .s .now)) (i .result) (i .ensures .0) (getD (a .s .now) (i .result) 0) (drop-cons (a .s .now) (i .result) 0 (omega (arith, c .before .before .before .before .before .before .before .if1 .left))) (o .operator) (o .byte) (c .before .if6 .taken))
+    refused-part (a .inner) (a .s .now) (a .n) (a .left) (a .nodes .now) (c .refused3 .result) (a .nodes .now) 14 (i .result) _ (c .refused3 .ensures)
+    (λ z. omega arith) (omega (arith, c .before .before .before .before .before .before .before .if1 .left)) refl
+    (prefix-shut (leafNodes (a .inner)) (leafFlat (a .inner)) (flat-size (a .inner)) (leafReader (a .inner)) (a .s .now) (a .n) (a .left)
+    (a .nodes .now) (a .level) (drop (a .at) (a .s .now)) (i .result) (i .ensures .0) (getD (a .s .now) (i .result) 0)
+    (drop-cons (a .s .now) (i .result) 0 (omega (arith, c .before .before .before .before .before .before .before .if1 .left))) (o .operator)
+    (o .byte) (c .before .if6 .taken))
 
 small-part-refused-requires-4 : (t : ℕ) → small-part-lts.Need-refused-requires-4 (small-calls t) (small-part-at t) small-part.Post
 small-part-refused-requires-4 t c κs = search needs
@@ -527,9 +684,14 @@ small-part-returns-7 : (t : ℕ) → small-part-lts.Need-returns-7 (small-calls 
 small-part-returns-7 t c =
     let a = c .before .before .before .before .before .before .before .before .before .before .before .before .args in
     let i = c .before .before .before .before .before .before .before .before .before .spaces in
-    let o = prefix-of (getD (a .s .now) (i .result) 0) (λ z. c .before .before .before .if5 .left (c .before .before .before .before .prefix-kind .ensures ∙ z)) in
-    refused-part (a .inner) (a .s .now) (a .n) (a .left) (a .nodes .now) (c .refused4 .result) (a .nodes .now) 14 (i .result) _ (c .refused4 .ensures) (λ z. omega arith) (omega (arith, c .before .before .before .before .before .before .before .before .if1 .left)) refl
-    (prefix-spent (leafNodes (a .inner)) (leafFlat (a .inner)) (flat-size (a .inner)) (leafReader (a .inner)) (a .s .now) (a .n) (a .left) (a .nodes .now) (a .level) (drop (a .at) (a .s .now)) (i .result) (i .ensures .0) (getD (a .s .now) (i .result) 0) (drop-cons (a .s .now) (i .result) 0 (omega (arith, c .before .before .before .before .before .before .before .before .if1 .left))) (o .operator) (o .byte) (a .level - 1) (omega (arith, c .before .before .if6 .left)) (c .before .if7 .taken))
+    let o =
+    prefix-of (getD (a .s .now) (i .result) 0) (λ z. c .before .before .before .if5 .left (c .before .before .before .before .prefix-kind .ensures ∙ z)) in
+    refused-part (a .inner) (a .s .now) (a .n) (a .left) (a .nodes .now) (c .refused4 .result) (a .nodes .now) 14 (i .result) _ (c .refused4 .ensures)
+    (λ z. omega arith) (omega (arith, c .before .before .before .before .before .before .before .before .if1 .left)) refl
+    (prefix-spent (leafNodes (a .inner)) (leafFlat (a .inner)) (flat-size (a .inner)) (leafReader (a .inner)) (a .s .now) (a .n) (a .left)
+    (a .nodes .now) (a .level) (drop (a .at) (a .s .now)) (i .result) (i .ensures .0) (getD (a .s .now) (i .result) 0)
+    (drop-cons (a .s .now) (i .result) 0 (omega (arith, c .before .before .before .before .before .before .before .before .if1 .left)))
+    (o .operator) (o .byte) (a .level - 1) (omega (arith, c .before .before .if6 .left)) (c .before .if7 .taken))
 
 small-part-add-small-part : (t : ℕ) → small-part-lts.Need-add-small-part (small-calls t) (small-part-at t) small-part.Post
 small-part-add-small-part t c = omega arith
@@ -542,19 +704,26 @@ small-part-sub-small-part-2 t c = omega (arith, c .if7 .left)
 
 small-part-small-part-requires : (t : ℕ) → small-part-lts.Need-small-part-requires (small-calls t) (small-part-at t) small-part.Post
 small-part-small-part-requires t c κs =
-    let p = c .before .before .before .before .before .before .before .before .before .before .before .before .pre .1 in
-    (omega (arith, c .before .before .before .before .before .before .before .before .before .before .before .before .pre .0, c .before .before .if6 .left), (omega (arith, c .before .before .before .before .before .before .before .before .if1 .left), p .1, omega (arith, p .2), p .3))
+    let p = c .before .before .before .before .before .before .before .before .before .before .before .before .pre .1 in (
+      omega
+          (arith, c .before .before .before .before .before .before .before .before .before .before .before .before .pre .0, c .before .before .if6 .left),
+      (omega (arith, c .before .before .before .before .before .before .before .before .if1 .left), p .1, omega (arith, p .2), p .3),
+    )
 
 small-part-with-one-requires : (t : ℕ) → small-part-lts.Need-with-one-requires (small-calls t) (small-part-at t) small-part.Post
 small-part-with-one-requires t c κs =
     let a = c .before .before .before .before .before .before .before .before .before .before .before .before .before .before .before .before .args in
     let p = c .before .before .before .before .before .before .before .before .before .before .before .before .before .before .before .before .pre .1 in
     let r = c .before .before .before .small-part in
-    let g = smalls (leafReader (a .inner)) (a .level - 1) (a .left - 1) (drop (c .before .before .before .before .before .before .before .before .before .before .before .before .before .spaces .result + 1) (a .s .now)) in (
+    let g =
+    smalls (leafReader (a .inner)) (a .level - 1) (a .left - 1)
+    (drop (c .before .before .before .before .before .before .before .before .before .before .before .before .before .spaces .result + 1) (a .s .now)) in (
       λ e.
           let o = room (a .inner) (a .s .now) (a .n) (a .left - 1) (a .nodes .now) (r .result) _ g (r .ensures) e in
           (omega (arith, o .some), omega (arith, o .kept, p .2, c .before .before .before .before .before .if7 .left)),
-      part-length (leafNodes (a .inner)) (leafFlat (a .inner)) (flat-size (a .inner)) (a .s .now) (a .n) (a .left - 1) (a .nodes .now) (r .result) _ g (r .ensures) (p .3) (omega (arith, p .2)) ∙ p .3,
+      part-length (leafNodes (a .inner)) (leafFlat (a .inner)) (flat-size (a .inner)) (a .s .now) (a .n) (a .left - 1) (a .nodes .now) (r .result) _ g
+          (r .ensures) (p .3) (omega (arith, p .2))
+          ∙ p .3,
     )
 
 small-part-same-length-4 : (t : ℕ) → small-part-lts.Need-same-length-4 (small-calls t) (small-part-at t) small-part.Post
@@ -562,17 +731,29 @@ small-part-same-length-4 t c = search needs
 
 small-part-returns-8 : (t : ℕ) → small-part-lts.Need-returns-8 (small-calls t) (small-part-at t) small-part.Post
 small-part-returns-8 t c =
-    let a = c .before .before .before .before .before .before .before .before .before .before .before .before .before .before .before .before .before .before .before .args in
-    let p = c .before .before .before .before .before .before .before .before .before .before .before .before .before .before .before .before .before .before .before .pre .1 in
+    let a =
+    c .before .before .before .before .before .before .before .before .before .before .before .before .before .before .before .before .before .before .before .args in
+    let p =
+    c .before .before .before .before .before .before .before .before .before .before .before .before .before .before .before .before .before .before .before .pre .1 in
     let i = c .before .before .before .before .before .before .before .before .before .before .before .before .before .before .before .before .spaces in
     let r = c .before .before .before .before .before .before .small-part in
     let k = c .before .before .before .before .before .before .before .before .before .before .before .prefix-kind in
     let e : i .result + 1 ≡ suc (i .result) = omega arith in
-    let o = prefix-of (getD (a .s .now) (i .result) 0) (λ z. c .before .before .before .before .before .before .before .before .before .before .if5 .left (k .ensures ∙ z)) in
-    prefix-over (leafNodes (a .inner)) (leafFlat (a .inner)) (flat-size (a .inner)) (leafReader (a .inner)) (a .s .now) (a .n) (a .left) (a .nodes .now) (a .level) (drop (a .at) (a .s .now)) (i .result) (i .ensures .0) (getD (a .s .now) (i .result) 0) (drop-cons (a .s .now) (i .result) 0 (omega (arith, c .before .before .before .before .before .before .before .before .before .before .before .before .before .before .before .if1 .left))) (o .operator) (o .byte) (a .level - 1) (omega (arith, c .before .before .before .before .before .before .before .before .before .if6 .left)) (a .left - 1) (omega (arith, c .before .before .before .before .before .before .before .before .if7 .left)) (p .3) (p .2) (r .result) (r .last .1 .1 .1 .1 .1 .1 .0)
-    (subst (λ (j : ℕ). PartIs (leafNodes (a .inner)) (leafFlat (a .inner)) (a .s .now) (a .n) (a .left - 1) (a .nodes .now) (r .result) (r .last .1 .1 .1 .1 .1 .1 .0) (smalls (leafReader (a .inner)) (a .level - 1) (a .left - 1) (drop j (a .s .now)))) e (r .ensures))
+    let o =
+    prefix-of (getD (a .s .now) (i .result) 0)
+    (λ z. c .before .before .before .before .before .before .before .before .before .before .if5 .left (k .ensures ∙ z)) in
+    prefix-over (leafNodes (a .inner)) (leafFlat (a .inner)) (flat-size (a .inner)) (leafReader (a .inner)) (a .s .now) (a .n) (a .left)
+    (a .nodes .now) (a .level) (drop (a .at) (a .s .now)) (i .result) (i .ensures .0) (getD (a .s .now) (i .result) 0)
+    (drop-cons (a .s .now) (i .result) 0
+    (omega (arith, c .before .before .before .before .before .before .before .before .before .before .before .before .before .before .before .if1 .left)))
+    (o .operator) (o .byte) (a .level - 1) (omega (arith, c .before .before .before .before .before .before .before .before .before .if6 .left))
+    (a .left - 1) (omega (arith, c .before .before .before .before .before .before .before .before .if7 .left)) (p .3) (p .2) (r .result)
+    (r .last .1 .1 .1 .1 .1 .1 .0)
+    (subst (λ (j : ℕ). PartIs (leafNodes (a .inner)) (leafFlat (a .inner)) (a .s .now) (a .n) (a .left - 1) (a .nodes .now) (r .result)
+    (r .last .1 .1 .1 .1 .1 .1 .0) (smalls (leafReader (a .inner)) (a .level - 1) (a .left - 1) (drop j (a .s .now)))) e (r .ensures))
     (c .before .before .with-one .result) (c .before .before .with-one .last .0)
-    (subst (λ (j : ℕ). WithNode (r .last .1 .1 .1 .1 .1 .1 .0) (r .result) (j ∷ (r .result .n - 1) ∷ 0 ∷ 0 ∷ []) (c .before .before .with-one .result) (c .before .before .with-one .last .0)) (k .ensures ∙ o .node) (c .before .before .with-one .ensures))
+    (subst (λ (j : ℕ). WithNode (r .last .1 .1 .1 .1 .1 .1 .0) (r .result) (j ∷ (r .result .n - 1) ∷ 0 ∷ 0 ∷ []) (c .before .before .with-one .result)
+    (c .before .before .with-one .last .0)) (k .ensures ∙ o .node) (c .before .before .with-one .ensures))
 
 until-part-small-part-requires : (t : ℕ) → until-part-lts.Need-small-part-requires (until-calls t) (until-part-at t) until-part.Post
 until-part-small-part-requires t c κs = (omega (arith, c .before .before .before .pre .0), c .before .before .before .pre .1)
@@ -588,7 +769,10 @@ until-part-returns t c =
     let a = c .before .before .before .before .before .before .before .before .args in
     let k = c .before .reach-at in
     let u = k .ensures .no-until (omega (arith, c .if1 .taken)) in
-    until-ended (leafNodes (a .inner)) (leafFlat (a .inner)) (flat-size (a .inner)) (leafReader (a .inner)) (a .s .now) (a .n) (a .left) (a .nodes .now) (c .before .before .before .before .small-part .result) _ (drop (a .at) (a .s .now)) (a .level) (c .before .before .before .before .small-part .ensures) (u .0) (k .result .at) (u .1) (k .ensures .no-release (omega (arith, c .if1 .taken))) (u .2) (omega (arith, c .if1 .taken))
+    until-ended (leafNodes (a .inner)) (leafFlat (a .inner)) (flat-size (a .inner)) (leafReader (a .inner)) (a .s .now) (a .n) (a .left)
+    (a .nodes .now) (c .before .before .before .before .small-part .result) _ (drop (a .at) (a .s .now)) (a .level)
+    (c .before .before .before .before .small-part .ensures) (u .0) (k .result .at) (u .1) (k .ensures .no-release (omega (arith, c .if1 .taken)))
+    (u .2) (omega (arith, c .if1 .taken))
 
 until-part-refused-requires : (t : ℕ) → until-part-lts.Need-refused-requires (until-calls t) (until-part-at t) until-part.Post
 until-part-refused-requires t c κs = search needs
@@ -603,9 +787,13 @@ until-part-returns-2 t c =
     let k = c .before .before .before .reach-at in
     let m = c .before .before .before .before .before .before .small-part in
     let f = k .ensures .found (omega (arith, c .before .before .if1 .left)) in
-    refused-part (a .inner) (a .s .now) (a .n) (a .left) (a .nodes .now) _ _ 14 (k .result .at) _ (c .refused .ensures) (λ z. omega arith) (omega (arith, c .before .before .if1 .left))
-    (part-length (leafNodes (a .inner)) (leafFlat (a .inner)) (flat-size (a .inner)) (a .s .now) (a .n) (a .left) (a .nodes .now) (m .result) (m .last .1 .1 .1 .1 .1 .1 .0) (smalls (leafReader (a .inner)) (a .level) (a .left) (drop (a .at) (a .s .now))) (m .ensures) (p .3) (p .2))
-    (until-shut (leafNodes (a .inner)) (leafFlat (a .inner)) (flat-size (a .inner)) (leafReader (a .inner)) (a .s .now) (a .n) (a .left) (a .nodes .now) (m .result) _ (drop (a .at) (a .s .now)) (a .level) (m .ensures) (f .0) (k .result .at) (f .1) (omega (arith, c .before .before .if1 .left)) (c .before .if2 .taken))
+    refused-part (a .inner) (a .s .now) (a .n) (a .left) (a .nodes .now) _ _ 14 (k .result .at) _ (c .refused .ensures) (λ z. omega arith)
+    (omega (arith, c .before .before .if1 .left))
+    (part-length (leafNodes (a .inner)) (leafFlat (a .inner)) (flat-size (a .inner)) (a .s .now) (a .n) (a .left) (a .nodes .now) (m .result)
+    (m .last .1 .1 .1 .1 .1 .1 .0) (smalls (leafReader (a .inner)) (a .level) (a .left) (drop (a .at) (a .s .now))) (m .ensures) (p .3) (p .2))
+    (until-shut (leafNodes (a .inner)) (leafFlat (a .inner)) (flat-size (a .inner)) (leafReader (a .inner)) (a .s .now) (a .n) (a .left)
+    (a .nodes .now) (m .result) _ (drop (a .at) (a .s .now)) (a .level) (m .ensures) (f .0) (k .result .at) (f .1)
+    (omega (arith, c .before .before .if1 .left)) (c .before .if2 .taken))
 
 until-part-refused-requires-2 : (t : ℕ) → until-part-lts.Need-refused-requires-2 (until-calls t) (until-part-at t) until-part.Post
 until-part-refused-requires-2 t c κs = search needs
@@ -620,9 +808,13 @@ until-part-returns-3 t c =
     let k = c .before .before .before .before .before .reach-at in
     let m = c .before .before .before .before .before .before .before .before .small-part in
     let f = k .ensures .found (omega (arith, c .before .before .before .before .if1 .left)) in
-    refused-part (a .inner) (a .s .now) (a .n) (a .left) (a .nodes .now) _ _ 14 (k .result .at) _ (c .refused2 .ensures) (λ z. omega arith) (omega (arith, c .before .before .before .before .if1 .left))
-    (part-length (leafNodes (a .inner)) (leafFlat (a .inner)) (flat-size (a .inner)) (a .s .now) (a .n) (a .left) (a .nodes .now) (m .result) (m .last .1 .1 .1 .1 .1 .1 .0) (smalls (leafReader (a .inner)) (a .level) (a .left) (drop (a .at) (a .s .now))) (m .ensures) (p .3) (p .2))
-    (until-spent (leafNodes (a .inner)) (leafFlat (a .inner)) (flat-size (a .inner)) (leafReader (a .inner)) (a .s .now) (a .n) (a .left) (a .nodes .now) (m .result) _ (drop (a .at) (a .s .now)) (a .level) (m .ensures) (f .0) (k .result .at) (f .1) (omega (arith, c .before .before .before .before .if1 .left)) (c .before .before .before .if2 .left) (c .before .if3 .taken))
+    refused-part (a .inner) (a .s .now) (a .n) (a .left) (a .nodes .now) _ _ 14 (k .result .at) _ (c .refused2 .ensures) (λ z. omega arith)
+    (omega (arith, c .before .before .before .before .if1 .left))
+    (part-length (leafNodes (a .inner)) (leafFlat (a .inner)) (flat-size (a .inner)) (a .s .now) (a .n) (a .left) (a .nodes .now) (m .result)
+    (m .last .1 .1 .1 .1 .1 .1 .0) (smalls (leafReader (a .inner)) (a .level) (a .left) (drop (a .at) (a .s .now))) (m .ensures) (p .3) (p .2))
+    (until-spent (leafNodes (a .inner)) (leafFlat (a .inner)) (flat-size (a .inner)) (leafReader (a .inner)) (a .s .now) (a .n) (a .left)
+    (a .nodes .now) (m .result) _ (drop (a .at) (a .s .now)) (a .level) (m .ensures) (f .0) (k .result .at) (f .1)
+    (omega (arith, c .before .before .before .before .if1 .left)) (c .before .before .before .if2 .left) (c .before .if3 .taken))
 
 until-part-add-until-part : (t : ℕ) → until-part-lts.Need-add-until-part (until-calls t) (until-part-at t) until-part.Post
 until-part-add-until-part t c = omega arith
@@ -639,16 +831,26 @@ until-part-until-part-requires t c κs =
     let p = c .before .before .before .before .before .before .before .before .before .before .before .before .before .pre .1 in
     let m = c .before .before .before .before .before .before .before .before .before .small-part in
     let f = c .before .before .before .before .before .before .reach-at .ensures .found (omega (arith, c .before .before .before .before .before .if1 .left)) in
-    let o = room (a .inner) (a .s .now) (a .n) (a .left) (a .nodes .now) (m .result) (m .last .1 .1 .1 .1 .1 .1 .0) (smalls (leafReader (a .inner)) (a .level) (a .left) (drop (a .at) (a .s .now))) (m .ensures) (f .1 .read (omega (arith, c .before .before .before .before .before .if1 .left))) in
-    let z = part-length (leafNodes (a .inner)) (leafFlat (a .inner)) (flat-size (a .inner)) (a .s .now) (a .n) (a .left) (a .nodes .now) (m .result) (m .last .1 .1 .1 .1 .1 .1 .0) (smalls (leafReader (a .inner)) (a .level) (a .left) (drop (a .at) (a .s .now))) (m .ensures) (p .3) (p .2) in
+    let o =
+    room (a .inner) (a .s .now) (a .n) (a .left) (a .nodes .now) (m .result) (m .last .1 .1 .1 .1 .1 .1 .0)
+    (smalls (leafReader (a .inner)) (a .level) (a .left) (drop (a .at) (a .s .now))) (m .ensures)
+    (f .1 .read (omega (arith, c .before .before .before .before .before .if1 .left))) in
+    let z =
+    part-length (leafNodes (a .inner)) (leafFlat (a .inner)) (flat-size (a .inner)) (a .s .now) (a .n) (a .left) (a .nodes .now) (m .result)
+    (m .last .1 .1 .1 .1 .1 .1 .0) (smalls (leafReader (a .inner)) (a .level) (a .left) (drop (a .at) (a .s .now))) (m .ensures) (p .3) (p .2) in
     (omega (arith, c .before .before .before .before .before .before .before .before .before .before .before .before .before .pre .0, c .before .before .before .before .if2 .left), (omega (arith, c .before .before .before .before .before .if1 .left), p .1, omega (arith, o .kept, p .2), z ∙ p .3))
 
 until-part-sub-with-two : (t : ℕ) → until-part-lts.Need-sub-with-two (until-calls t) (until-part-at t) until-part.Post
 until-part-sub-with-two t c =
     let a = c .before .before .before .before .before .before .before .before .before .before .before .before .before .before .before .before .before .args in
     let m = c .before .before .before .before .before .before .before .before .before .before .before .before .before .small-part in
-    let f = c .before .before .before .before .before .before .before .before .before .before .reach-at .ensures .found (omega (arith, c .before .before .before .before .before .before .before .before .before .if1 .left)) in
-    let o = room (a .inner) (a .s .now) (a .n) (a .left) (a .nodes .now) (m .result) (m .last .1 .1 .1 .1 .1 .1 .0) (smalls (leafReader (a .inner)) (a .level) (a .left) (drop (a .at) (a .s .now))) (m .ensures) (f .1 .read (omega (arith, c .before .before .before .before .before .before .before .before .before .if1 .left))) in
+    let f =
+    c .before .before .before .before .before .before .before .before .before .before .reach-at .ensures .found
+    (omega (arith, c .before .before .before .before .before .before .before .before .before .if1 .left)) in
+    let o =
+    room (a .inner) (a .s .now) (a .n) (a .left) (a .nodes .now) (m .result) (m .last .1 .1 .1 .1 .1 .1 .0)
+    (smalls (leafReader (a .inner)) (a .level) (a .left) (drop (a .at) (a .s .now))) (m .ensures)
+    (f .1 .read (omega (arith, c .before .before .before .before .before .before .before .before .before .if1 .left))) in
     omega (arith, o .some)
 
 until-part-with-two-requires : (t : ℕ) → until-part-lts.Need-with-two-requires (until-calls t) (until-part-at t) until-part.Post
@@ -658,12 +860,28 @@ until-part-with-two-requires t c κs =
     let m = c .before .before .before .before .before .before .before .before .before .before .before .before .before .small-part in
     let q = c .before .before .before .until-part in
     let r = m .result in
-    let f = c .before .before .before .before .before .before .before .before .before .before .reach-at .ensures .found (omega (arith, c .before .before .before .before .before .before .before .before .before .if1 .left)) in
-    let o = room (a .inner) (a .s .now) (a .n) (a .left) (a .nodes .now) (m .result) (m .last .1 .1 .1 .1 .1 .1 .0) (smalls (leafReader (a .inner)) (a .level) (a .left) (drop (a .at) (a .s .now))) (m .ensures) (f .1 .read (omega (arith, c .before .before .before .before .before .before .before .before .before .if1 .left))) in
-    let z = part-length (leafNodes (a .inner)) (leafFlat (a .inner)) (flat-size (a .inner)) (a .s .now) (a .n) (a .left) (a .nodes .now) (m .result) (m .last .1 .1 .1 .1 .1 .1 .0) (smalls (leafReader (a .inner)) (a .level) (a .left) (drop (a .at) (a .s .now))) (m .ensures) (p .3) (p .2) in
-    let long = part-length (leafNodes (a .inner)) (leafFlat (a .inner)) (flat-size (a .inner)) (a .s .now) (r .n) (r .left - 1) (m .last .1 .1 .1 .1 .1 .1 .0) (q .result) (q .last .1 .1 .1 .1 .1 .1 .0) (untils (leafReader (a .inner)) (a .level - 1) (r .left - 1) (drop (c .before .before .before .before .before .before .before .before .before .before .reach-at .result .at + 1) (a .s .now))) (q .ensures) (z ∙ p .3) (omega (arith, o .kept, p .2)) in (
+    let f =
+    c .before .before .before .before .before .before .before .before .before .before .reach-at .ensures .found
+    (omega (arith, c .before .before .before .before .before .before .before .before .before .if1 .left)) in
+    let o =
+    room (a .inner) (a .s .now) (a .n) (a .left) (a .nodes .now) (m .result) (m .last .1 .1 .1 .1 .1 .1 .0)
+    (smalls (leafReader (a .inner)) (a .level) (a .left) (drop (a .at) (a .s .now))) (m .ensures)
+    (f .1 .read (omega (arith, c .before .before .before .before .before .before .before .before .before .if1 .left))) in
+    let z =
+    part-length (leafNodes (a .inner)) (leafFlat (a .inner)) (flat-size (a .inner)) (a .s .now) (a .n) (a .left) (a .nodes .now) (m .result)
+    (m .last .1 .1 .1 .1 .1 .1 .0) (smalls (leafReader (a .inner)) (a .level) (a .left) (drop (a .at) (a .s .now))) (m .ensures) (p .3) (p .2) in
+    let long =
+    part-length (leafNodes (a .inner)) (leafFlat (a .inner)) (flat-size (a .inner)) (a .s .now) (r .n) (r .left - 1)
+    (m .last .1 .1 .1 .1 .1 .1 .0) (q .result) (q .last .1 .1 .1 .1 .1 .1 .0)
+    (untils (leafReader (a .inner)) (a .level - 1) (r .left - 1)
+    (drop (c .before .before .before .before .before .before .before .before .before .before .reach-at .result .at + 1) (a .s .now)))
+    (q .ensures) (z ∙ p .3) (omega (arith, o .kept, p .2)) in (
       λ e.
-          let x = room (a .inner) (a .s .now) (r .n) (r .left - 1) (m .last .1 .1 .1 .1 .1 .1 .0) (q .result) (q .last .1 .1 .1 .1 .1 .1 .0) (untils (leafReader (a .inner)) (a .level - 1) (r .left - 1) (drop (c .before .before .before .before .before .before .before .before .before .before .reach-at .result .at + 1) (a .s .now))) (q .ensures) e in
+          let x =
+          room (a .inner) (a .s .now) (r .n) (r .left - 1) (m .last .1 .1 .1 .1 .1 .1 .0) (q .result) (q .last .1 .1 .1 .1 .1 .1 .0)
+          (untils (leafReader (a .inner)) (a .level - 1) (r .left - 1)
+          (drop (c .before .before .before .before .before .before .before .before .before .before .reach-at .result .at + 1) (a .s .now)))
+          (q .ensures) e in
           (omega (arith, x .some), omega (arith, x .kept, o .kept, p .2, c .before .before .before .before .before .before .if3 .left)),
       long ∙ z ∙ p .3,
       omega (arith, o .kept, o .some, p .2),
@@ -674,16 +892,27 @@ until-part-same-length-4 t c = search needs
 
 until-part-returns-4 : (t : ℕ) → until-part-lts.Need-returns-4 (until-calls t) (until-part-at t) until-part.Post
 until-part-returns-4 t c =
-    let a = c .before .before .before .before .before .before .before .before .before .before .before .before .before .before .before .before .before .before .before .before .args in
-    let p = c .before .before .before .before .before .before .before .before .before .before .before .before .before .before .before .before .before .before .before .before .pre .1 in
+    let a =
+    c .before .before .before .before .before .before .before .before .before .before .before .before .before .before .before .before .before .before .before .before .args in
+    let p =
+    c .before .before .before .before .before .before .before .before .before .before .before .before .before .before .before .before .before .before .before .before .pre .1 in
     let k = c .before .before .before .before .before .before .before .before .before .before .before .before .before .reach-at in
     let m = c .before .before .before .before .before .before .before .before .before .before .before .before .before .before .before .before .small-part in
     let q = c .before .before .before .before .before .before .until-part in
     let f = k .ensures .found (omega (arith, c .before .before .before .before .before .before .before .before .before .before .before .before .if1 .left)) in
     let e : k .result .at + 1 ≡ suc (k .result .at) = omega arith in
-    until-joined (leafNodes (a .inner)) (leafFlat (a .inner)) (flat-size (a .inner)) (leafReader (a .inner)) (a .s .now) (a .n) (a .left) (a .nodes .now) (m .result) _ (drop (a .at) (a .s .now)) (a .level) (m .ensures) (f .0) (k .result .at) (f .1) (omega (arith, c .before .before .before .before .before .before .before .before .before .before .before .before .if1 .left)) (a .level - 1) (m .result .left - 1) (omega (arith, c .before .before .before .before .before .before .before .before .before .before .before .if2 .left)) (omega (arith, c .before .before .before .before .before .before .before .before .before .if3 .left)) (p .3) (p .2) (q .result) (q .last .1 .1 .1 .1 .1 .1 .0)
-    (subst (λ (j : ℕ). PartIs (leafNodes (a .inner)) (leafFlat (a .inner)) (a .s .now) (m .result .n) (m .result .left - 1) (m .last .1 .1 .1 .1 .1 .1 .0) (q .result) (q .last .1 .1 .1 .1 .1 .1 .0) (untils (leafReader (a .inner)) (a .level - 1) (m .result .left - 1) (drop j (a .s .now)))) e (q .ensures))
-    (c .before .before .with-two .result) (c .before .before .with-two .last .0) (subst (λ (j : ℕ). WithNode (q .last .1 .1 .1 .1 .1 .1 .0) (q .result) (j ∷ (m .result .n - 1) ∷ (q .result .n - 1) ∷ 0 ∷ []) (c .before .before .with-two .result) (c .before .before .with-two .last .0)) (f .2) (c .before .before .with-two .ensures))
+    until-joined (leafNodes (a .inner)) (leafFlat (a .inner)) (flat-size (a .inner)) (leafReader (a .inner)) (a .s .now) (a .n) (a .left)
+    (a .nodes .now) (m .result) _ (drop (a .at) (a .s .now)) (a .level) (m .ensures) (f .0) (k .result .at) (f .1)
+    (omega (arith, c .before .before .before .before .before .before .before .before .before .before .before .before .if1 .left)) (a .level - 1)
+    (m .result .left - 1) (omega (arith, c .before .before .before .before .before .before .before .before .before .before .before .if2 .left))
+    (omega (arith, c .before .before .before .before .before .before .before .before .before .if3 .left)) (p .3) (p .2) (q .result)
+    (q .last .1 .1 .1 .1 .1 .1 .0)
+    (subst (λ (j : ℕ). PartIs (leafNodes (a .inner)) (leafFlat (a .inner)) (a .s .now) (m .result .n) (m .result .left - 1)
+    (m .last .1 .1 .1 .1 .1 .1 .0) (q .result) (q .last .1 .1 .1 .1 .1 .1 .0)
+    (untils (leafReader (a .inner)) (a .level - 1) (m .result .left - 1) (drop j (a .s .now)))) e (q .ensures))
+    (c .before .before .with-two .result) (c .before .before .with-two .last .0)
+    (subst (λ (j : ℕ). WithNode (q .last .1 .1 .1 .1 .1 .1 .0) (q .result) (j ∷ (m .result .n - 1) ∷ (q .result .n - 1) ∷ 0 ∷ [])
+    (c .before .before .with-two .result) (c .before .before .with-two .last .0)) (f .2) (c .before .before .with-two .ensures))
 
 pub +and-part+leaf-part+or-part+small-part+until-part-spec : {M : Type 1} → statement M
 +and-part+leaf-part+or-part+small-part+until-part-spec =

@@ -25,13 +25,23 @@ refuse-at-requires : tie.Need-refuse-at-requires Inv-loop μ-loop
 refuse-at-requires c κs = omega arith
 
 returns : tie.Need-returns Inv-loop μ-loop
-returns c = record { answer = c .refuse-at .ensures ∙ sym (too-long (c .before .before .before .args .s .now) (c .before .if1 .taken)); meaning = promises (c .before .before .before .args .s .now) }
+returns c =
+    record {
+      answer = c .refuse-at .ensures ∙ sym (too-long (c .before .before .before .args .s .now) (c .before .if1 .taken));
+      meaning = promises
+          (c .before .before .before .args .s .now);
+    }
 
 refuse-at-requires-2 : tie.Need-refuse-at-requires-2 Inv-loop μ-loop
 refuse-at-requires-2 c κs = omega arith
 
 returns-2 : tie.Need-returns-2 Inv-loop μ-loop
-returns-2 c = record { answer = c .refuse-at2 .ensures ∙ sym (empty (c .before .before .before .before .args .s .now) (c .before .if2 .taken)); meaning = promises (c .before .before .before .before .args .s .now) }
+returns-2 c =
+    record {
+      answer = c .refuse-at2 .ensures ∙ sym (empty (c .before .before .before .before .args .s .now) (c .before .if2 .taken));
+      meaning = promises
+          (c .before .before .before .before .args .s .now);
+    }
 
 loop-holds : tie.Need-loop-holds Inv-loop μ-loop
 loop-holds c =
@@ -45,18 +55,32 @@ returns-3 : tie.Need-returns-3 Inv-loop μ-loop
 returns-3 c =
     let s = c .before .before .before .before .before .before .before .args .s .now in
     let z : c .before .before .before .loop .k ≡ 0 = omega (arith, c .before .if3 .taken) in
-    record { answer = c .refuse-at3 .ensures ∙ sym (c .before .before .before .loop .inv .3 ∙ ap (λ (j : ℕ). fromLine s j (c .before .before .before .loop .at)) z ∙ line-33 s (c .before .before .before .loop .at) (c .before .before .loop-test .taken)); meaning = promises s }
+    record {
+      answer = c .refuse-at3 .ensures ∙ sym (c .before .before .before .loop .inv .3 ∙ ap
+          (λ (j : ℕ). fromLine s j (c .before .before .before .loop .at)) z ∙ line-33 s (c .before .before .before .loop .at)
+          (c .before .before .loop-test .taken));
+      meaning = promises s;
+    }
 
 slice-aggregate-read-clause : tie.Need-slice-aggregate-read-clause Inv-loop μ-loop
 slice-aggregate-read-clause c = search needs
 
 read-clause-requires : tie.Need-read-clause-requires Inv-loop μ-loop
-read-clause-requires c κs = (omega (arith, c .before .before .loop-test .taken), omega (arith, c .before .before .before .before .before .if1 .left), c .before .before .before .loop .inv .2)
+read-clause-requires c κs = (
+  omega (arith, c .before .before .loop-test .taken),
+  omega
+      (arith, c .before .before .before .before .before .if1 .left),
+  c .before .before .before .loop .inv .2,
+)
 
 refuse-at-requires-4 : tie.Need-refuse-at-requires-4 Inv-loop μ-loop
 refuse-at-requires-4 c κs =
     let s = c .before .before .before .before .before .before .before .before .before .before .before .args .s .now in
-    let i : c .before .before .before .read-clause .result .at ≤ length s = part-inside false s 0 128 (c .before .before .before .before .before .before .before .loop .nodes) (c .before .before .before .read-clause .result) _ (clauseLine 128 (drop (c .before .before .before .before .before .before .before .loop .at) s)) (c .before .before .before .read-clause .ensures) in
+    let i : c .before .before .before .read-clause .result .at ≤ length s =
+    part-inside false s 0 128 (c .before .before .before .before .before .before .before .loop .nodes)
+    (c .before .before .before .read-clause .result) _
+    (clauseLine 128 (drop (c .before .before .before .before .before .before .before .loop .at) s))
+    (c .before .before .before .read-clause .ensures) in
     omega (arith, i, c .before .before .before .before .before .before .before .before .before .if1 .left)
 
 returns-4 : tie.Need-returns-4 Inv-loop μ-loop
@@ -65,7 +89,12 @@ returns-4 c =
     let l = c .before .before .before .before .before .before .before .before .loop in
     let e : l .k ≡ suc (l .k - 1) = omega (arith, c .before .before .before .before .before .before .if3 .left) in
     record {
-      answer = c .refuse-at4 .ensures ∙ sym (l .inv .3 ∙ ap (λ (j : ℕ). fromLine s j (l .at)) e ∙ line-refused s (l .nodes) (c .before .before .before .before .read-clause .result) _ (l .k - 1) (l .at) (c .before .before .before .before .before .before .before .loop-test .taken) (c .before .before .before .before .read-clause .ensures) (c .before .if4 .taken));
+      answer =
+          c .refuse-at4 .ensures
+          ∙ sym
+          (l .inv .3 ∙ ap (λ (j : ℕ). fromLine s j (l .at)) e ∙ line-refused s (l .nodes) (c .before .before .before .before .read-clause .result) _
+          (l .k - 1) (l .at) (c .before .before .before .before .before .before .before .loop-test .taken)
+          (c .before .before .before .before .read-clause .ensures) (c .before .if4 .taken));
       meaning = promises s;
     }
 
@@ -85,7 +114,9 @@ loop-again c =
       part-inside false s 0 128 (l .nodes) (r .result) _ g (r .ensures),
       omega (arith, l .inv .1),
       part-length countNodes flatCount (flat-size false) s 0 128 (l .nodes) (r .result) _ g (r .ensures) (l .inv .2) (omega arith) ∙ l .inv .2,
-      l .inv .3 ∙ ap (λ (j : ℕ). fromLine s j (l .at)) e ∙ line-read s (l .nodes) (r .result) _ (l .k - 1) (l .at) (c .before .before .before .before .before .before .loop-test .taken) (r .ensures) (c .if4 .left),
+      l .inv .3 ∙ ap (λ (j : ℕ). fromLine s j (l .at)) e
+          ∙ line-read s (l .nodes) (r .result) _ (l .k - 1) (l .at) (c .before .before .before .before .before .before .loop-test .taken) (r .ensures)
+          (c .if4 .left),
     )
 
 returns-5 : tie.Need-returns-5 Inv-loop μ-loop

@@ -17,7 +17,8 @@ or-part-requires c κs = search needs
 expect-requires : tie.Need-expect-requires
 expect-requires c κs =
     let a = c .before .before .before .before .before .before .args in
-    part-inside false (a .s .now) 0 128 (a .nodes .now) (c .before .before .or-part .result) _ (ors counts 32 128 (drop (a .at) (a .s .now))) (c .before .before .or-part .ensures)
+    part-inside false (a .s .now) 0 128 (a .nodes .now) (c .before .before .or-part .result) _ (ors counts 32 128 (drop (a .at) (a .s .now)))
+    (c .before .before .or-part .ensures)
 
 same-length : tie.Need-same-length
 same-length c = search needs
@@ -29,7 +30,8 @@ returns c =
     let r = c .before .before .before .or-part in
     let g = ors counts 32 128 (drop (a .at) (a .s .now)) in
     ended-part countNodes flatCount (a .s .now) 0 128 (a .nodes .now) (r .result) _ 10 (c .expect .result) (c .expect .ensures) g (r .ensures)
-    (part-length countNodes flatCount (flat-size false) (a .s .now) 0 128 (a .nodes .now) (r .result) _ g (r .ensures) (c .before .before .before .before .before .before .before .pre .2) (omega arith))
+    (part-length countNodes flatCount (flat-size false) (a .s .now) 0 128 (a .nodes .now) (r .result) _ g (r .ensures)
+    (c .before .before .before .before .before .before .before .pre .2) (omega arith))
 
 pub read-clause-spec : {M : Type 1} → statement M
 read-clause-spec = tie.close (tie.spec or-part-requires expect-requires same-length returns)

@@ -14,7 +14,10 @@ expect-requires : tie.Need-expect-requires
 expect-requires c κs = search needs
 
 returns : tie.Need-returns
-returns c = λ n left before g h long few. comma-missing (c .before .before .before .before .before .args .s .now) n left before long few (c .before .before .before .before .before .args .r) _ g h (c .before .before .expect .result) (c .before .before .expect .ensures) (c .if1 .taken)
+returns c =
+    λ n left before g h long few. comma-missing (c .before .before .before .before .before .args .s .now) n left before long few
+    (c .before .before .before .before .before .args .r) _ g h (c .before .before .expect .result) (c .before .before .expect .ensures)
+    (c .if1 .taken)
 
 spaces-requires : tie.Need-spaces-requires
 spaces-requires c κs = search needs
@@ -28,13 +31,20 @@ refused-requires c κs = search needs
 returns-2 : tie.Need-returns-2
 returns-2 c =
     let a = c .before .before .before .before .before .before .before .before .before .before .args in
-    λ n left before g h long few. number-refused (a .s .now) n left before long few (a .r) _ g h (c .before .before .before .before .before .before .before .expect .result) (c .before .before .before .before .before .before .before .expect .ensures) (c .before .before .before .before .before .if1 .left) (c .before .before .before .before .spaces .result) (c .before .before .before .before .spaces .ensures .0) (c .before .before .before .limit .result) (c .before .before .before .limit .ensures .0) (c .before .before .before .limit .ensures .1) (c .before .if2 .taken) (c .refused .result) (c .refused .ensures)
+    λ n left before g h long few. number-refused (a .s .now) n left before long few (a .r) _ g h
+    (c .before .before .before .before .before .before .before .expect .result)
+    (c .before .before .before .before .before .before .before .expect .ensures) (c .before .before .before .before .before .if1 .left)
+    (c .before .before .before .before .spaces .result) (c .before .before .before .before .spaces .ensures .0)
+    (c .before .before .before .limit .result) (c .before .before .before .limit .ensures .0) (c .before .before .before .limit .ensures .1)
+    (c .before .if2 .taken) (c .refused .result) (c .refused .ensures)
 
 part-at-requires : tie.Need-part-at-requires
 part-at-requires c κs = search needs
 
 expect-requires-2 : tie.Need-expect-requires-2
-expect-requires-2 c κs = subst (λ (x : Part). x .at ≤ length (c .before .before .before .before .before .before .before .before .before .before .args .s .now)) (sym (c .part-at .ensures)) (c .before .before .before .limit .ensures .1)
+expect-requires-2 c κs =
+    subst (λ (x : Part). x .at ≤ length (c .before .before .before .before .before .before .before .before .before .before .args .s .now))
+    (sym (c .part-at .ensures)) (c .before .before .before .limit .ensures .1)
 
 with-count-requires : tie.Need-with-count-requires
 with-count-requires c κs =
@@ -43,12 +53,15 @@ with-count-requires c κs =
     let e = c .before .before .part-at .ensures in (
       λ f.
           let y = c .before .expect2 .ensures .kept f in
-          let z = c .before .before .before .before .before .before .before .before .before .expect .ensures .kept (c .before .before .before .before .before .before .before .if1 .left) in
+          let z =
+          c .before .before .before .before .before .before .before .before .before .expect .ensures .kept
+          (c .before .before .before .before .before .before .before .if1 .left) in
           let w = c .before .before .before .before .before .before .before .before .before .before .before .before .pre .2 (z .0) in
           let m = ap (λ (x : Part). x .n) e in
           (omega (arith, y .1, z .1, m, w .0), omega (arith, y .1, z .1, m, w .1)),
       c .before .before .before .before .before .before .before .before .before .before .before .before .pre .3,
-      limit-low (a .s .now) (k .result) (limitGot (a .s .now) (c .before .before .before .before .before .before .spaces .result)) (k .ensures .0) (c .before .before .before .if2 .left),
+      limit-low (a .s .now) (k .result) (limitGot (a .s .now) (c .before .before .before .before .before .before .spaces .result)) (k .ensures .0)
+          (c .before .before .before .if2 .left),
     )
 
 same-length : tie.Need-same-length
@@ -57,7 +70,19 @@ same-length c = search needs
 returns-3 : tie.Need-returns-3
 returns-3 c =
     let a = c .before .before .before .before .before .before .before .before .before .before .before .before .before .before .before .args in
-    λ n left before g h long few. count-read (a .s .now) n left before long few (a .r) _ g h (c .before .before .before .before .before .before .before .before .before .before .before .before .expect .result) (c .before .before .before .before .before .before .before .before .before .before .before .before .expect .ensures) (c .before .before .before .before .before .before .before .before .before .before .if1 .left) (c .before .before .before .before .before .before .before .before .before .spaces .result) (c .before .before .before .before .before .before .before .before .before .spaces .ensures .0) (c .before .before .before .before .before .before .before .before .limit .result) (c .before .before .before .before .before .before .before .before .limit .ensures .0) (c .before .before .before .before .before .before .before .before .limit .ensures .1) (c .before .before .before .before .before .before .if2 .left) (c .before .before .before .before .expect2 .result) (subst (λ (x : Part). Expected (a .s .now) x 93 (c .before .before .before .before .expect2 .result)) (c .before .before .before .before .before .part-at .ensures) (c .before .before .before .before .expect2 .ensures)) (c .before .before .with-count .result) _ (c .before .before .with-count .ensures)
+    λ n left before g h long few. count-read (a .s .now) n left before long few (a .r) _ g h
+    (c .before .before .before .before .before .before .before .before .before .before .before .before .expect .result)
+    (c .before .before .before .before .before .before .before .before .before .before .before .before .expect .ensures)
+    (c .before .before .before .before .before .before .before .before .before .before .if1 .left)
+    (c .before .before .before .before .before .before .before .before .before .spaces .result)
+    (c .before .before .before .before .before .before .before .before .before .spaces .ensures .0)
+    (c .before .before .before .before .before .before .before .before .limit .result)
+    (c .before .before .before .before .before .before .before .before .limit .ensures .0)
+    (c .before .before .before .before .before .before .before .before .limit .ensures .1)
+    (c .before .before .before .before .before .before .if2 .left) (c .before .before .before .before .expect2 .result)
+    (subst (λ (x : Part). Expected (a .s .now) x 93 (c .before .before .before .before .expect2 .result))
+    (c .before .before .before .before .before .part-at .ensures) (c .before .before .before .before .expect2 .ensures))
+    (c .before .before .with-count .result) _ (c .before .before .with-count .ensures)
 
 pub count-end-spec : {M : Type 1} → statement M
 count-end-spec =

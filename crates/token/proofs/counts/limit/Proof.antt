@@ -19,8 +19,11 @@ no-limit-requires c κs = search needs
 returns : tie.Need-returns
 returns c =
     let a = c .before .before .before .before .before .args in
-    let k = c .before .before .before .number in
-    (limit-bad (a .s .now) (a .i) (k .result) (k .ensures .0) (not-is _ true (c .before .if1 .taken)) _ (c .no-limit .ensures), subst (λ (x : Limit). x .at ≤ length (a .s .now)) (sym (c .no-limit .ensures)) (k .ensures .1 (c .before .before .before .before .before .pre .0)))
+    let k = c .before .before .before .number in (
+      limit-bad (a .s .now) (a .i) (k .result) (k .ensures .0) (not-is _ true (c .before .if1 .taken)) _ (c .no-limit .ensures),
+      subst
+          (λ (x : Limit). x .at ≤ length (a .s .now)) (sym (c .no-limit .ensures)) (k .ensures .1 (c .before .before .before .before .before .pre .0)),
+    )
 
 is-at-requires : tie.Need-is-at-requires
 is-at-requires c κs = search needs
@@ -34,17 +37,35 @@ no-limit-requires-2 c κs = search needs
 returns-2 : tie.Need-returns-2
 returns-2 c =
     let a = c .before .before .before .before .before .before .before .before .before .args in
-    let k = c .before .before .before .before .before .before .before .number in
-    (limit-wide (a .s .now) (a .i) (k .result) (k .ensures .0) (not-is _ false (c .before .before .before .before .before .if1 .left)) (c .before .before .before .before .is-at .result) (c .before .before .before .before .is-at .ensures) (omega (arith, c .before .if2 .taken, c .before .before .before .highest .ensures)) _ (c .no-limit2 .ensures), subst (λ (x : Limit). x .at ≤ length (a .s .now)) (sym (c .no-limit2 .ensures)) (c .before .before .before .before .before .before .before .before .before .pre .0))
+    let k = c .before .before .before .before .before .before .before .number in (
+      limit-wide (a .s .now) (a .i) (k .result) (k .ensures .0) (not-is _ false (c .before .before .before .before .before .if1 .left))
+          (c .before .before .before .before .is-at .result) (c .before .before .before .before .is-at .ensures)
+          (omega (arith, c .before .if2 .taken, c .before .before .before .highest .ensures)) _ (c .no-limit2 .ensures),
+      subst
+          (λ (x : Limit). x .at ≤ length (a .s .now)) (sym (c .no-limit2 .ensures))
+          (c .before .before .before .before .before .before .before .before .before .pre .0),
+    )
 
 behind-requires : tie.Need-behind-requires
-behind-requires c κs = omega (arith, c .before .before .before .before .before .before .number .ensures .1 (c .before .before .before .before .before .before .before .before .pre .0), c .before .before .before .before .before .before .before .before .pre .1)
+behind-requires c κs =
+    omega (
+      arith,
+      c .before .before .before .before .before .before .number .ensures .1
+          (c .before .before .before .before .before .before .before .before .pre .0),
+      c .before .before .before .before .before .before .before .before .pre .1,
+    )
 
 returns-3 : tie.Need-returns-3
 returns-3 c =
     let a = c .before .before .before .before .before .before .before .before .before .args in
-    let k = c .before .before .before .before .before .before .before .number in
-    (limit-read (a .s .now) (a .i) (k .result) (k .ensures .0) (not-is _ false (c .before .before .before .before .before .if1 .left)) (c .before .before .before .before .is-at .result) (c .before .before .before .before .is-at .ensures) (omega (arith, c .before .if2 .left, c .before .before .before .highest .ensures)) _ (c .behind .ensures), in-text (a .s .now) (k .result .at) (c .before .before .before .before .is-at .result) (c .behind .result) (c .before .before .before .before .is-at .ensures) (c .behind .ensures) (k .ensures .1 (c .before .before .before .before .before .before .before .before .before .pre .0)))
+    let k = c .before .before .before .before .before .before .before .number in (
+      limit-read (a .s .now) (a .i) (k .result) (k .ensures .0) (not-is _ false (c .before .before .before .before .before .if1 .left))
+          (c .before .before .before .before .is-at .result) (c .before .before .before .before .is-at .ensures)
+          (omega (arith, c .before .if2 .left, c .before .before .before .highest .ensures)) _ (c .behind .ensures),
+      in-text (a .s .now) (k .result .at)
+          (c .before .before .before .before .is-at .result) (c .behind .result) (c .before .before .before .before .is-at .ensures)
+          (c .behind .ensures) (k .ensures .1 (c .before .before .before .before .before .before .before .before .before .pre .0)),
+    )
 
 pub limit-spec : {M : Type 1} → statement M
 limit-spec =

@@ -16,7 +16,9 @@ refused-requires c κs = search needs
 returns : tie.Need-returns
 returns c =
     let a = c .before .before .before .before .before .args in
-    refused-leaf markN (a .s .now) (a .n) (a .left) _ _ 13 _ _ (c .refused .ensures) (λ z. omega arith) (omega (arith, c .before .before .before .before .before .pre .0)) (mark-off (a .s .now) (a .left) (a .i) (c .before .before .before .before .before .pre .0) (c .before .if1 .taken))
+    refused-leaf markN (a .s .now) (a .n) (a .left) _ _ 13 _ _ (c .refused .ensures) (λ z. omega arith)
+    (omega (arith, c .before .before .before .before .before .pre .0))
+    (mark-off (a .s .now) (a .left) (a .i) (c .before .before .before .before .before .pre .0) (c .before .if1 .taken))
 
 add-number : tie.Need-add-number
 add-number c = search needs
@@ -31,7 +33,10 @@ returns-2 : tie.Need-returns-2
 returns-2 c =
     let a = c .before .before .before .before .before .before .before .before .args in
     let k = c .before .before .before .number in
-    refused-leaf markN (a .s .now) (a .n) (a .left) _ _ 13 _ _ (c .refused2 .ensures) (λ z. omega arith) (k .ensures .1 (omega (arith, c .before .before .before .before .before .before .before .before .pre .0))) (mark-bad (a .s .now) (a .left) (a .i) (c .before .before .before .before .before .before .before .before .pre .0) (c .before .before .before .before .if1 .left) (k .result) (k .ensures .0) (not-is _ true (c .before .if2 .taken)))
+    refused-leaf markN (a .s .now) (a .n) (a .left) _ _ 13 _ _ (c .refused2 .ensures) (λ z. omega arith)
+    (k .ensures .1 (omega (arith, c .before .before .before .before .before .before .before .before .pre .0)))
+    (mark-bad (a .s .now) (a .left) (a .i) (c .before .before .before .before .before .before .before .before .pre .0)
+    (c .before .before .before .before .if1 .left) (k .result) (k .ensures .0) (not-is _ true (c .before .if2 .taken)))
 
 refused-requires-3 : tie.Need-refused-requires-3
 refused-requires-3 c κs = search needs
@@ -40,7 +45,11 @@ returns-3 : tie.Need-returns-3
 returns-3 c =
     let a = c .before .before .before .before .before .before .before .before .before .args in
     let k = c .before .before .before .before .number in
-    refused-leaf markN (a .s .now) (a .n) (a .left) _ _ 14 _ _ (c .refused3 .ensures) (λ z. omega arith) (omega (arith, c .before .before .before .before .before .before .before .before .before .pre .0)) (mark-spent (a .s .now) (a .left) (a .i) (c .before .before .before .before .before .before .before .before .before .pre .0) (c .before .before .before .before .before .if1 .left) (k .result) (k .ensures .0) (not-is _ false (c .before .before .if2 .left)) (c .before .if3 .taken))
+    refused-leaf markN (a .s .now) (a .n) (a .left) _ _ 14 _ _ (c .refused3 .ensures) (λ z. omega arith)
+    (omega (arith, c .before .before .before .before .before .before .before .before .before .pre .0))
+    (mark-spent (a .s .now) (a .left) (a .i) (c .before .before .before .before .before .before .before .before .before .pre .0)
+    (c .before .before .before .before .before .if1 .left) (k .result) (k .ensures .0) (not-is _ false (c .before .before .if2 .left))
+    (c .before .if3 .taken))
 
 add-refused : tie.Need-add-refused
 add-refused c = search needs
@@ -52,7 +61,12 @@ returns-4 : tie.Need-returns-4
 returns-4 c =
     let a = c .before .before .before .before .before .before .before .before .before .before .before .args in
     let k = c .before .before .before .before .before .before .number in
-    refused-leaf markN (a .s .now) (a .n) (a .left) _ _ 15 _ _ (c .refused4 .ensures) (λ z. omega arith) (omega (arith, c .before .before .before .before .before .before .before .before .before .before .before .pre .0)) (mark-wide (a .s .now) (a .left) (a .i) (c .before .before .before .before .before .before .before .before .before .before .before .pre .0) (c .before .before .before .before .before .before .before .if1 .left) (k .result) (k .ensures .0) (not-is _ false (c .before .before .before .before .if2 .left)) (omega (arith, c .before .before .before .if3 .left)) (omega (arith, c .before .if4 .taken)))
+    refused-leaf markN (a .s .now) (a .n) (a .left) _ _ 15 _ _ (c .refused4 .ensures) (λ z. omega arith)
+    (omega (arith, c .before .before .before .before .before .before .before .before .before .before .before .pre .0))
+    (mark-wide (a .s .now) (a .left) (a .i) (c .before .before .before .before .before .before .before .before .before .before .before .pre .0)
+    (c .before .before .before .before .before .before .before .if1 .left) (k .result) (k .ensures .0)
+    (not-is _ false (c .before .before .before .before .if2 .left)) (omega (arith, c .before .before .before .if3 .left))
+    (omega (arith, c .before .if4 .taken)))
 
 cast-alone : tie.Need-cast-alone
 cast-alone c = search needs
@@ -67,7 +81,17 @@ returns-5 : tie.Need-returns-5
 returns-5 c =
     let a = c .before .before .before .before .before .before .before .before .before .before .before .before .before .before .before .args in
     let k = c .before .before .before .before .before .before .before .before .before .before .number in
-    placed-leaf markN (a .s .now) (a .n) (a .left) _ _ _ (k .result .value) _ _ (c .before .before .alone .ensures .0) (omega (arith, c .before .before .before .before .before .before .before .if3 .left)) (k .ensures .1 (omega (arith, c .before .before .before .before .before .before .before .before .before .before .before .before .before .before .before .pre .0))) (c .before .before .alone .ensures .1) (mark-read (a .s .now) (a .left) (a .i) (c .before .before .before .before .before .before .before .before .before .before .before .before .before .before .before .pre .0) (c .before .before .before .before .before .before .before .before .before .before .before .if1 .left) (k .result) (k .ensures .0) (not-is _ false (c .before .before .before .before .before .before .before .before .if2 .left)) (omega (arith, c .before .before .before .before .before .before .before .if3 .left)) (omega (arith, c .before .before .before .before .before .if4 .left)))
+    placed-leaf markN (a .s .now) (a .n) (a .left) _ _ _ (k .result .value) _ _ (c .before .before .alone .ensures .0)
+    (omega (arith, c .before .before .before .before .before .before .before .if3 .left))
+    (k .ensures .1
+    (omega (arith, c .before .before .before .before .before .before .before .before .before .before .before .before .before .before .before .pre .0)))
+    (c .before .before .alone .ensures .1)
+    (mark-read (a .s .now) (a .left) (a .i)
+    (c .before .before .before .before .before .before .before .before .before .before .before .before .before .before .before .pre .0)
+    (c .before .before .before .before .before .before .before .before .before .before .before .if1 .left) (k .result) (k .ensures .0)
+    (not-is _ false (c .before .before .before .before .before .before .before .before .if2 .left))
+    (omega (arith, c .before .before .before .before .before .before .before .if3 .left))
+    (omega (arith, c .before .before .before .before .before .if4 .left)))
 
 pub mark-spec : {M : Type 1} → statement M
 mark-spec =

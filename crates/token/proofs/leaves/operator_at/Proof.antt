@@ -13,7 +13,8 @@ spaces-requires c κs = search needs
 returns-2 : tie.Need-returns-2
 returns-2 c =
     let a = c .before .before .before .before .before .args in
-    no-operator _ (a .r) _ _ (omega arith) (λ fine. at-end (a .s .now) (a .r .at) (a .c) (c .before .spaces .result) (c .before .spaces .ensures .0) (omega (arith, c .if2 .taken)))
+    no-operator _ (a .r) _ _ (omega arith)
+    (λ fine. at-end (a .s .now) (a .r .at) (a .c) (c .before .spaces .result) (c .before .spaces .ensures .0) (omega (arith, c .if2 .taken)))
 
 shared-slice-read-if3 : tie.Need-shared-slice-read-if3
 shared-slice-read-if3 c = omega (arith, c .before .if2 .left)
@@ -21,10 +22,14 @@ shared-slice-read-if3 c = omega (arith, c .before .if2 .left)
 returns-3 : tie.Need-returns-3
 returns-3 c =
     let a = c .before .before .before .before .before .before .before .args in
-    no-operator _ (a .r) _ _ (omega arith) (λ fine. elsewhere (a .s .now) (a .r .at) (a .c) (c .before .before .before .spaces .result) (c .before .before .before .spaces .ensures .0) (omega (arith, c .before .before .if2 .left)) (c .if3 .taken))
+    no-operator _ (a .r) _ _ (omega arith)
+    (λ fine. elsewhere (a .s .now) (a .r .at) (a .c) (c .before .before .before .spaces .result) (c .before .before .before .spaces .ensures .0)
+    (omega (arith, c .before .before .if2 .left)) (c .if3 .taken))
 
 returns-4 : tie.Need-returns-4
-returns-4 c = an-operator _ (c .before .before .before .before .before .before .before .args .r) _ _ (omega (arith, c .before .before .if2 .left)) (c .before .before .before .before .if1 .left) (c .before .before .before .spaces .ensures .0) (c .if3 .left)
+returns-4 c =
+    an-operator _ (c .before .before .before .before .before .before .before .args .r) _ _ (omega (arith, c .before .before .if2 .left))
+    (c .before .before .before .before .if1 .left) (c .before .before .before .spaces .ensures .0) (c .if3 .left)
 
 pub operator-at-spec : {M : Type 1} → statement M
 operator-at-spec =

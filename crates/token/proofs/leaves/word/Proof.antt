@@ -23,7 +23,9 @@ returns : tie.Need-returns
 returns c =
     let a = c .before .before .before .before .before .args in
     let y = c .before .before .is-at in
-    refused-leaf (λ u. topN) (a .s .now) (a .n) (a .left) _ _ 13 _ _ (c .refused .ensures) (λ z. omega arith) (omega (arith, c .before .before .before .before .before .pre .0)) (miss-1 (a .s .now) (a .left) (a .i) (y .result) (y .ensures) (not-is _ true (c .before .if1 .taken)))
+    refused-leaf (λ u. topN) (a .s .now) (a .n) (a .left) _ _ 13 _ _ (c .refused .ensures) (λ z. omega arith)
+    (omega (arith, c .before .before .before .before .before .pre .0))
+    (miss-1 (a .s .now) (a .left) (a .i) (y .result) (y .ensures) (not-is _ true (c .before .if1 .taken)))
 
 add-is-at-2 : tie.Need-add-is-at-2
 add-is-at-2 c = search needs
@@ -43,7 +45,8 @@ returns-2 c =
     let x = c .before .before .before .before .is-at in
     let y = c .before .before .is-at2 in
     let p = not-is _ false (c .before .before .before .if1 .left) in
-    refused-leaf (λ u. topN) (a .s .now) (a .n) (a .left) _ _ 13 _ _ (c .refused2 .ensures) (λ z. omega arith) (omega (arith, x .ensures .low p)) (miss-2 (a .s .now) (a .left) (a .i) (x .result) (x .ensures) p (y .result) (y .ensures) (not-is _ true (c .before .if2 .taken)))
+    refused-leaf (λ u. topN) (a .s .now) (a .n) (a .left) _ _ 13 _ _ (c .refused2 .ensures) (λ z. omega arith) (omega (arith, x .ensures .low p))
+    (miss-2 (a .s .now) (a .left) (a .i) (x .result) (x .ensures) p (y .result) (y .ensures) (not-is _ true (c .before .if2 .taken)))
 
 add-is-at-3 : tie.Need-add-is-at-3
 add-is-at-3 c = search needs
@@ -65,7 +68,8 @@ returns-3 c =
     let z = c .before .before .is-at3 in
     let p = not-is _ false (c .before .before .before .before .before .if1 .left) in
     let q = not-is _ false (c .before .before .before .if2 .left) in
-    refused-leaf (λ u. topN) (a .s .now) (a .n) (a .left) _ _ 13 _ _ (c .refused3 .ensures) (λ z. omega arith) (omega (arith, y .ensures .low q)) (miss-3 (a .s .now) (a .left) (a .i) (x .result) (x .ensures) p (y .result) (y .ensures) q (z .result) (z .ensures) (not-is _ true (c .before .if3 .taken)))
+    refused-leaf (λ u. topN) (a .s .now) (a .n) (a .left) _ _ 13 _ _ (c .refused3 .ensures) (λ z. omega arith) (omega (arith, y .ensures .low q))
+    (miss-3 (a .s .now) (a .left) (a .i) (x .result) (x .ensures) p (y .result) (y .ensures) q (z .result) (z .ensures) (not-is _ true (c .before .if3 .taken)))
 
 refused-requires-4 : tie.Need-refused-requires-4
 refused-requires-4 c κs = search needs
@@ -79,7 +83,9 @@ returns-4 c =
     let p = not-is _ false (c .before .before .before .before .before .before .if1 .left) in
     let q = not-is _ false (c .before .before .before .before .if2 .left) in
     let r = not-is _ false (c .before .before .if3 .left) in
-    refused-leaf (λ u. topN) (a .s .now) (a .n) (a .left) _ _ 14 _ _ (c .refused4 .ensures) (λ z. omega arith) (omega (arith, c .before .before .before .before .before .before .before .before .before .before .pre .0)) (word-spent (a .s .now) (a .left) (a .i) (x .result) (x .ensures) p (y .result) (y .ensures) q (z .result) (z .ensures) r (c .before .if4 .taken))
+    refused-leaf (λ u. topN) (a .s .now) (a .n) (a .left) _ _ 14 _ _ (c .refused4 .ensures) (λ z. omega arith)
+    (omega (arith, c .before .before .before .before .before .before .before .before .before .before .pre .0))
+    (word-spent (a .s .now) (a .left) (a .i) (x .result) (x .ensures) p (y .result) (y .ensures) q (z .result) (z .ensures) r (c .before .if4 .taken))
 
 add-alone : tie.Need-add-alone
 add-alone c = search needs
@@ -99,7 +105,10 @@ returns-5 c =
     let p = not-is _ false (c .before .before .before .before .before .before .before .before .before .if1 .left) in
     let q = not-is _ false (c .before .before .before .before .before .before .before .if2 .left) in
     let r = not-is _ false (c .before .before .before .before .before .if3 .left) in
-    placed-leaf (λ u. topN) (a .s .now) (a .n) (a .left) _ _ _ tt _ _ (c .before .before .alone .ensures .0) (omega (arith, c .before .before .before .before .if4 .left)) (omega (arith, z .ensures .low r)) (c .before .before .alone .ensures .1) (word-read (a .s .now) (a .left) (a .i) (x .result) (x .ensures) p (y .result) (y .ensures) q (z .result) (z .ensures) r (omega (arith, c .before .before .before .before .if4 .left)))
+    placed-leaf (λ u. topN) (a .s .now) (a .n) (a .left) _ _ _ tt _ _ (c .before .before .alone .ensures .0)
+    (omega (arith, c .before .before .before .before .if4 .left)) (omega (arith, z .ensures .low r)) (c .before .before .alone .ensures .1)
+    (word-read (a .s .now) (a .left) (a .i) (x .result) (x .ensures) p (y .result) (y .ensures) q (z .result) (z .ensures) r
+    (omega (arith, c .before .before .before .before .if4 .left)))
 
 pub word-spec : {M : Type 1} → statement M
 word-spec =

@@ -14,7 +14,8 @@ cast-last : tie.Need-cast-last
 cast-last c = omega (arith, c .before .before .before .before .pre .0 (c .before .if1 .left) .1)
 
 put-requires : tie.Need-put-requires
-put-requires c κs = (omega (arith, c .before .before .before .before .before .pre .0 (c .before .before .if1 .left) .1), c .before .before .before .before .before .pre .1)
+put-requires c κs =
+    (omega (arith, c .before .before .before .before .before .pre .0 (c .before .before .if1 .left) .1), c .before .before .before .before .before .pre .1)
 
 same-length : tie.Need-same-length
 same-length c = search needs

@@ -17,7 +17,8 @@ cast-put : tie.Need-cast-put
 cast-put c = search needs
 
 put-requires : tie.Need-put-requires
-put-requires c κs = (omega (arith, c .before .before .before .before .before .pre .0 (c .before .before .if1 .left) .1), c .before .before .before .before .before .pre .1)
+put-requires c κs =
+    (omega (arith, c .before .before .before .before .before .pre .0 (c .before .before .if1 .left) .1), c .before .before .before .before .before .pre .1)
 
 same-length : tie.Need-same-length
 same-length c = search needs

@@ -36,7 +36,8 @@ number-to-requires c κs = search needs
 returns-2 : tie.Need-returns-2 Inv-loop μ-loop
 returns-2 c =
     let a = c .before .before .before .before .before .args in
-    some (a .s .now) (a .at) (a .at + 1) 0 0 0 _ _ (λ h. omega (arith, c .before .before .before .if1 .left)) (c .number-to .ensures) refl (number-nought-at (a .s .now) (a .at) (omega (arith, c .before .before .before .if1 .left)) (c .before .if2 .taken))
+    some (a .s .now) (a .at) (a .at + 1) 0 0 0 _ _ (λ h. omega (arith, c .before .before .before .if1 .left)) (c .number-to .ensures) refl
+    (number-nought-at (a .s .now) (a .at) (omega (arith, c .before .before .before .if1 .left)) (c .before .if2 .taken))
 
 is-digit-requires : tie.Need-is-digit-requires Inv-loop μ-loop
 is-digit-requires c κs = search needs
@@ -47,7 +48,9 @@ no-number-requires-2 c κs = search needs
 returns-3 : tie.Need-returns-3 Inv-loop μ-loop
 returns-3 c =
     let a = c .before .before .before .before .before .before .before .args in
-    none (a .s .now) (a .at) (a .at) 13 _ _ (λ h. h) (c .no-number2 .ensures) (number-off-at (a .s .now) (a .at) (omega (arith, c .before .before .before .before .before .if1 .left)) (sym (c .before .before .is-digit .ensures) ∙ not-true _ (c .before .if3 .taken)))
+    none (a .s .now) (a .at) (a .at) 13 _ _ (λ h. h) (c .no-number2 .ensures)
+    (number-off-at (a .s .now) (a .at) (omega (arith, c .before .before .before .before .before .if1 .left))
+    (sym (c .before .before .is-digit .ensures) ∙ not-true _ (c .before .if3 .taken)))
 
 shifted-requires : tie.Need-shifted-requires Inv-loop μ-loop
 shifted-requires c κs = (omega arith, low _ (sym (c .before .is-digit .ensures) ∙ not-false _ (c .if3 .left)))
@@ -59,8 +62,14 @@ loop-holds : tie.Need-loop-holds Inv-loop μ-loop
 loop-holds c =
     let a = c .before .before .before .before .before .before .before .args in
     let d = c .before .before .is-digit in
-    let e = c .shifted .ensures in
-    (getD (a .s .now) (a .at) 0 - 48, omega arith, number-on-at (a .s .now) (a .at) (omega (arith, c .before .before .before .before .before .if1 .left)) (c .before .before .before .if2 .left) (sym (d .ensures) ∙ not-false _ (c .before .if3 .left)), omega (arith, c .before .before .before .before .before .if1 .left))
+    let e = c .shifted .ensures in (
+      getD (a .s .now) (a .at) 0 - 48,
+      omega arith,
+      number-on-at (a .s .now) (a .at)
+          (omega (arith, c .before .before .before .before .before .if1 .left)) (c .before .before .before .if2 .left)
+          (sym (d .ensures) ∙ not-false _ (c .before .if3 .left)),
+      omega (arith, c .before .before .before .before .before .if1 .left),
+    )
 
 shared-slice-read-c : tie.Need-shared-slice-read-c Inv-loop μ-loop
 shared-slice-read-c c = omega arith
@@ -75,7 +84,9 @@ returns-4 : tie.Need-returns-4 Inv-loop μ-loop
 returns-4 c =
     let a = c .before .before .before .before .before .before .before .before .before .before .before .before .before .args in
     let v = c .before .before .before .before .before .loop in
-    some (a .s .now) (a .at) (v .i) (v .inv .0) (v .v) 0 _ _ (λ h. v .inv .3) (c .number-to2 .ensures) (v .inv .1) (v .inv .2 ∙ digits-stop-at (a .s .now) (v .i) (v .inv .0) (omega (arith, c .before .before .before .before .loop-test .taken)) (sym (c .before .before .is-digit2 .ensures) ∙ not-true _ (c .before .if4 .taken)))
+    some (a .s .now) (a .at) (v .i) (v .inv .0) (v .v) 0 _ _ (λ h. v .inv .3) (c .number-to2 .ensures) (v .inv .1)
+    (v .inv .2 ∙ digits-stop-at (a .s .now) (v .i) (v .inv .0) (omega (arith, c .before .before .before .before .loop-test .taken))
+    (sym (c .before .before .is-digit2 .ensures) ∙ not-true _ (c .before .if4 .taken)))
 
 shifted-requires-2 : tie.Need-shifted-requires-2 Inv-loop μ-loop
 shifted-requires-2 c κs =
@@ -93,8 +104,15 @@ loop-again c =
     let a = c .before .before .before .before .before .before .before .before .before .before .before .before .before .args in
     let v = c .before .before .before .before .before .loop in
     let w = v .inv .0 in
-    let e = c .shifted2 .ensures in
-    (w * 10 + (getD (a .s .now) (v .i) 0 - 48), omega (arith, v .inv .1), v .inv .2 ∙ digits-on-at (a .s .now) (v .i) w (omega (arith, c .before .before .before .before .loop-test .taken)) (sym (c .before .before .is-digit2 .ensures) ∙ not-false _ (c .before .if4 .left)), omega (arith, c .before .before .before .before .loop-test .taken))
+    let e = c .shifted2 .ensures in (
+      w * 10 + (getD (a .s .now) (v .i) 0 - 48),
+      omega (arith, v .inv .1),
+      v .inv .2 ∙ digits-on-at (a .s .now) (v .i) w
+          (omega (arith, c .before .before .before .before .loop-test .taken))
+          (sym (c .before .before .is-digit2 .ensures) ∙ not-false _ (c .before .if4 .left)),
+      omega
+          (arith, c .before .before .before .before .loop-test .taken),
+    )
 
 number-to-requires-3 : tie.Need-number-to-requires-3 Inv-loop μ-loop
 number-to-requires-3 c κs = search needs
@@ -103,7 +121,8 @@ returns-5 : tie.Need-returns-5 Inv-loop μ-loop
 returns-5 c =
     let a = c .before .before .before .before .before .before .before .before .before .before .args in
     let v = c .before .before .loop in
-    some (a .s .now) (a .at) (v .i) (v .inv .0) (v .v) 0 _ _ (λ h. v .inv .3) (c .number-to3 .ensures) (v .inv .1) (v .inv .2 ∙ digits-end-at (a .s .now) (v .i) (v .inv .0) (omega (arith, c .before .loop-test .left)))
+    some (a .s .now) (a .at) (v .i) (v .inv .0) (v .v) 0 _ _ (λ h. v .inv .3) (c .number-to3 .ensures) (v .inv .1)
+    (v .inv .2 ∙ digits-end-at (a .s .now) (v .i) (v .inv .0) (omega (arith, c .before .loop-test .left)))
 
 pub number-spec : {M : Type 1} → statement M
 number-spec =
