@@ -1,6 +1,7 @@
 #!/usr/bin/env python3
 """Runs the program cartcheck on folders of files at the limits of its buffers, absent files and each file's refusal, and compares the line
-that it prints. The lines are written by hand from document 01. Run from the repository's root after `rt check cartcheck`."""
+that it prints, also where standard input is closed, so that the first file has descriptor 0. The lines are written by hand from
+document 01. Run from the repository's root after `rt check cartcheck`."""
 import pathlib
 import subprocess
 import sys
@@ -36,19 +37,20 @@ CASES = [
 ]
 
 
-def printed(files):
+def printed(files, command):
     with tempfile.TemporaryDirectory() as folder:
         for name, content in zip(("floor", "plan", "rules"), files):
             if content is not None:
                 (pathlib.Path(folder) / name).write_bytes(content)
-        return subprocess.run([PROGRAM], cwd=folder, capture_output=True, check=True).stdout
+        return subprocess.run(["sh", "-c", command, PROGRAM], cwd=folder, capture_output=True, check=True).stdout
 
 
 failed = 0
 for title, files, line in CASES:
-    got = printed(files)
-    if got != (line + "\n").encode():
-        failed += 1
-        print(f"program: {title}: printed {got!r}, not {line!r}")
+    for command in ('exec "$0"', 'exec "$0" <&-'):
+        got = printed(files, command)
+        if got != (line + "\n").encode():
+            failed += 1
+            print(f"program: {title}, {command}: printed {got!r}, not {line!r}")
 print(f"program: {len(CASES)} folders, {failed} differences")
 sys.exit(failed > 0)
