@@ -2,8 +2,13 @@
 use Prim.Native.Nat.{ℕ, _≤_, _<_}
 use mathlib.Core.Path.{_≡_}
 use mathlib.Core.Bool.{Bool, true, false, not}
-use Rattle.grammar.specs.Grammar.{Threshold}
+use Rattle.grammar.specs.Grammar.{leaf, neg, Threshold, Clause}
 use Rattle.cltl.specs.Meaning.{Rows, Run, Counts}
+
+-- a count (true) or its negation
+abbrev pub countOr : Bool → Threshold → Clause
+countOr true x = leaf x
+countOr false x = neg (leaf x)
 
 -- a statement itself, or its negation
 abbrev pub Val : Bool → Type 0 → Type 0

@@ -3,18 +3,13 @@ use Prim.Native.Nat.{ℕ}
 use native.Mathlib.Omega.{arith}
 use mathlib.Core.Bool.{Bool, true, false}
 use lib.Dec.{T, T-not}
-use Rattle.grammar.specs.Grammar.{leaf, neg, gl, Threshold, Clause}
+use Rattle.grammar.specs.Grammar.{leaf, neg, gl, Threshold}
 use Rattle.cltl.specs.Meaning.{Rows, Proper, Run, TrueOf}
 use Rattle.cltl.specs.Rules.{judge, count, rules}
 use Rattle.cltl.specs.Step.{failing}
-use Rattle.cltl.specs.Broken.{Broken}
+use Rattle.cltl.specs.Broken.{countOr, Broken}
 use Rattle.cltl.specs.Lowest.{globally-fails}
 use Rattle.cltl.specs.Complete.{count-complete}
-
--- a count (true) or its negation
-abbrev pub countOr : Bool → Threshold → Clause
-countOr true x = leaf x
-countOr false x = neg (leaf x)
 
 module _ (P : Rows) (proper : Proper P) (d : ℕ) (x : Threshold) where
   -- the count at the step where the body of G fails first

@@ -5,7 +5,7 @@ use mathlib.Core.Bool.{Bool, true}
 use mathlib.Core.Logic.{_↔_}
 use native.Mathlib.Omega.{arith}
 use lib.Dec.{T}
-use Rattle.cltl.specs.Globally.{countOr, globally-broken}
+use Rattle.cltl.specs.Globally.{globally-broken}
 use Rattle.grammar.specs.Grammar.{gl, Inner, Threshold, Clause}
 use Rattle.row.specs.Lasso.{stepOf}
 use Rattle.row.specs.Round.{step-low}
@@ -16,7 +16,7 @@ use Rattle.cltl.specs.Sound.{rules-sound}
 use Rattle.cltl.specs.Monotone.{rules-mono}
 use Rattle.cltl.specs.Exact.{rules-exact}
 use Rattle.cltl.specs.Standing.{gather, gathered, highest}
-use Rattle.cltl.specs.Broken.{Broken}
+use Rattle.cltl.specs.Broken.{countOr, Broken}
 use Rattle.cltl.specs.Complete.{count-complete}
 
 module _ (P : Rows) (proper : Proper P) where
