@@ -138,7 +138,7 @@ def replacements(body, i, known, repository):
     if text[0].isdigit():
         return [(n, "number") for n in numbers(text)]
     if re.fullmatch(r"b'[A-Za-z0-9()]'", text):
-        return [(f"b'{chr(ord(text[2]) + 1)}'", "number")] if text[2] != "'" else []
+        return [(f"b'{chr(ord(text[2]) + 1)}'", "number")]
     if not re.fullmatch(r"[A-Za-z_]\w*", text) or text in KEYWORDS:
         return []
     if before == "." and after != "(":
