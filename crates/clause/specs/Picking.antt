@@ -8,7 +8,7 @@ use lib.Dec.{eqb}
 use lib.ListN.{length}
 use Rattle.endian.specs.Little.{bytes}
 use Rattle.refusal.specs.Codes.{bytesOf}
-use Rattle.refusal.specs.Distinct.{codeIn, Words, codeIn-bytesOf}
+use Rattle.refusal.specs.Distinct.{codeIn, Fits32, codeIn-bytesOf}
 use Rattle.refusal.specs.declared.Code.{Code}
 use Rattle.clause.specs.Clause.{namesClause, picks, emptySpan, clauseIn, span}
 use Rattle.clause.specs.Meaning.{lineEnds}
@@ -58,7 +58,7 @@ pub picked-at : (sheet verdict : List ℕ) (p : Span) → p ≡ span sheet verdi
 picked-at sheet verdict p e = rw e (picked sheet verdict)
 
 -- a verdict's own bytes pick by its numbers
-pub span-of : (sheet : List ℕ) (c : Code) → Words c
+pub span-of : (sheet : List ℕ) (c : Code) → Fits32 c
     → span sheet (bytesOf c) ≡ cond (eqb (c .about) 3 && namesClause (c .number)) (clauseIn (c .first) sheet) emptySpan
 unfolding span picks bytes
 span-of sheet c w =

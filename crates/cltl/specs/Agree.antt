@@ -5,7 +5,7 @@ use native.Mathlib.Nat.{le-refl}
 use mathlib.Core.Path.{_≡_, refl, ap, ap₂}
 use mathlib.Core.Bool.{Bool, true, false, not, _||_, _&&_}
 use lib.Dec.{leb, eqb}
-use Rattle.grammar.specs.Grammar.{Form, top, leaf, neg, and, or, next, until, release, ev, gl, Inner, Threshold, counted, Clause}
+use Rattle.grammar.specs.Grammar.{Form, top, leaf, neg, and, or, next, until, release, ev, gl, Inner, Counted, counted, Clause}
 use Rattle.grammar.specs.Limits.{InRange, MarkOk, CountOk}
 use Rattle.row.specs.Lasso.{nextStep}
 use Rattle.row.specs.Round.{next-below}
@@ -56,7 +56,7 @@ module _ (carts h l : ℕ) (ok : l < h) (b b′ : ℕ → ℕ → ℕ → Bool) 
   unfolding inner
   inner-agrees i c p a o s q = judge-agrees h l ok MarkOk (mark (by b) i) (mark (by b′) i) (mark-agrees i c) p a o s q
 
-  count-agrees : (d : ℕ) (p : Bool) (x : Threshold) (s : ℕ) → CountOk x → s < h → count (by b) d p x s ≡ count (by b′) d p x s
+  count-agrees : (d : ℕ) (p : Bool) (x : Counted) (s : ℕ) → CountOk x → s < h → count (by b) d p x s ≡ count (by b′) d p x s
   unfolding count quorum
   count-agrees d p (counted a k percent) s o q =
       let m : ℕ = quota p (threshold k percent carts) carts in

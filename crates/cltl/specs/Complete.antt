@@ -7,7 +7,7 @@ use native.Mathlib.Omega.{arith}
 use native.Mathlib.Nat.{eq-or-lt-of-le, le-refl}
 use lib.Dec.{T, leb, eqb, eqb→eq, T-not}
 use lib.Ieee.Fits.{eq→eqb}
-use Rattle.grammar.specs.Grammar.{Inner, Threshold, counted}
+use Rattle.grammar.specs.Grammar.{Inner, Counted, counted}
 use Rattle.row.specs.Lasso.{stepOf}
 use Rattle.row.specs.Round.{step-low, step-below}
 use Rattle.cltl.specs.Threshold.{threshold, quota}
@@ -16,7 +16,7 @@ use Rattle.cltl.specs.Rules.{tally, every, window, quorum, inner, count}
 use Rattle.cltl.specs.Basics.{lt-or-le, T-or-not, and-i, or-r}
 use Rattle.cltl.specs.Broken.{Val, Broken}
 use Rattle.cltl.specs.Inner.{inner-sound, inner-opp}
-use Rattle.cltl.specs.Quorum.{steady, steady-quorum}
+use Rattle.cltl.specs.Quorum.{throughout, throughout-quorum}
 use Rattle.cltl.specs.Tally.{every-at, every-of, tally-mono, tally-not, tally-least, tally-most, at-least-map}
 use Rattle.cltl.specs.Standing.{Standing, highest, gather, gathered}
 
@@ -81,8 +81,8 @@ module _ (h l carts d m : ℕ) (some : 0 < carts) (f : ℕ → ℕ → Bool) (s 
   unfolding gone
   gone-is i = missed (along i) (suc d)
 
-  few : steady h l carts m f d s < m
-  few = ⊎-elim (λ q. q) (λ q. absurd (broken (steady-quorum h l carts m f d s q))) (lt-or-le (steady h l carts m f d s) m)
+  few : throughout h l carts m f d s < m
+  few = ⊎-elim (λ q. q) (λ q. absurd (broken (throughout-quorum h l carts m f d s q))) (lt-or-le (throughout h l carts m f d s) m)
 
   -- who satisfies it there satisfies it all along
   stays : (i : ℕ) → T (f i (stepOf h l (s + gone i))) → T (window h l (f i) d s)
@@ -101,7 +101,7 @@ module _ (h l carts d m : ℕ) (some : 0 < carts) (f : ℕ → ℕ → Bool) (s 
       ahead = λ i q. let a = gone-is i .low in omega arith;
       last = (i, p, omega arith);
     },
-    let a : tally (λ i. f i (stepOf h l (s + gone i))) carts ≤ steady h l carts m f d s = tally-mono _ _ stays carts in let b = few in omega arith,
+    let a : tally (λ i. f i (stepOf h l (s + gone i))) carts ≤ throughout h l carts m f d s = tally-mono _ _ stays carts in let b = few in omega arith,
   )
 
   -- all fail later on, and m is above 1: the first cart is put on s
@@ -131,7 +131,7 @@ module _ (h l carts d m : ℕ) (some : 0 < carts) (f : ℕ → ℕ → Bool) (s 
 
   all-quorum : m ≡ 1 → T (every (λ i. f i s) carts) → T (quorum h l carts d m f s)
   unfolding quorum
-  all-quorum e x = or-r (leb m (steady h l carts m f d s)) (eqb m 1 && every (λ i. f i s) carts) (and-i (eqb m 1) (every (λ i. f i s) carts) (eq→eqb e) x)
+  all-quorum e x = or-r (leb m (throughout h l carts m f d s)) (eqb m 1 && every (λ i. f i s) carts) (and-i (eqb m 1) (every (λ i. f i s) carts) (eq→eqb e) x)
 
   -- with m = 1 some cart fails on s itself
   at-once : m ≡ 1 → Breaks
@@ -178,7 +178,7 @@ module _ (P : Rows) (proper : Proper P) (d : ℕ) where
   same-standing false a k percent K r t e x =
       λ y. x (at-least-map _ _ (P .carts) (λ i p. subst (λ (v : ℕ). Satisfies P i a v) (e i p)) (threshold k percent (P .carts)) y)
 
-  pub count-complete : (p : Bool) (x : Threshold) (s : ℕ) → s < P .h → (T (count P d p x s) → ⊥) → Broken P d p x s
+  pub count-complete : (p : Bool) (x : Counted) (s : ℕ) → s < P .h → (T (count P d p x s) → ⊥) → Broken P d p x s
   unfolding count
   count-complete p (counted a k percent) s low broken =
       let b = breaks (P .h) (P .l) (P .carts) d (quota p (threshold k percent (P .carts)) (P .carts)) (proper .some) (λ i. inner P i p a) s low broken in

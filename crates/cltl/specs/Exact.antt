@@ -5,7 +5,7 @@ use mathlib.Core.Bool.{Bool, true, false, not, Bool·not-not}
 use mathlib.Core.Logic.{_⊎_, ⊎-elim, _↔_}
 use native.Mathlib.Omega.{arith}
 use lib.Dec.{T}
-use Rattle.grammar.specs.Grammar.{Inner, Threshold, counted, Clause}
+use Rattle.grammar.specs.Grammar.{Inner, Counted, counted, Clause}
 use Rattle.row.specs.Lasso.{stepOf}
 use Rattle.cltl.specs.Threshold.{threshold, quota}
 use Rattle.cltl.specs.Meaning.{Rows, Proper, inStep, Counts, InStepAt}
@@ -33,7 +33,7 @@ module _ (P : Rows) (proper : Proper P) where
     λ y. none-quorum (P .h) (P .l) (P .carts) _ (λ i. inner P i p a) s q y,
   )
 
-  count-opp : (x : Threshold) (s : ℕ) → s < P .h → count P 0 false x s ≡ not (count P 0 true x s)
+  count-opp : (x : Counted) (s : ℕ) → s < P .h → count P 0 false x s ≡ not (count P 0 true x s)
   unfolding quota
   count-opp (counted a k percent) s q =
       let m : ℕ = threshold k percent (P .carts) in
@@ -44,11 +44,11 @@ module _ (P : Rows) (proper : Proper P) where
       (λ x y. let x′ = no .0 x in let y′ = yes .0 y in omega arith)
       (λ f. no .1 (⊎-elim (λ g. omega arith) (λ g. absurd (f (yes .1 g))) (lt-or-le (having true a s) m)))
 
-  count-opps : (p : Bool) (x : Threshold) (s : ℕ) → s < P .h → count P 0 (not p) x s ≡ not (count P 0 p x s)
+  count-opps : (p : Bool) (x : Counted) (s : ℕ) → s < P .h → count P 0 (not p) x s ≡ not (count P 0 p x s)
   count-opps true x s q = count-opp x s q
   count-opps false x s q = sym (Bool·not-not (count P 0 true x s)) ∙ ap not (sym (count-opp x s q))
 
-  step-sound : (p : Bool) (x : Threshold) (t : ℕ) → T (count P 0 p x (stepOf (P .h) (P .l) t)) → Val p (Counts P (inStep (P .carts) .at) x t)
+  step-sound : (p : Bool) (x : Counted) (t : ℕ) → T (count P 0 p x (stepOf (P .h) (P .l) t)) → Val p (Counts P (inStep (P .carts) .at) x t)
   step-sound p x t y =
       let b = least-at (P .carts) 0 (proper .some) (inStep (P .carts)) t in
       count-sound P proper 0 (inStep (P .carts)) p x t (subst (λ (v : ℕ). T (count P 0 p x (stepOf (P .h) (P .l) v))) (b .2) y)

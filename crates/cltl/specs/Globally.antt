@@ -3,7 +3,7 @@ use Prim.Native.Nat.{ℕ}
 use native.Mathlib.Omega.{arith}
 use mathlib.Core.Bool.{Bool, true, false}
 use lib.Dec.{T, T-not}
-use Rattle.grammar.specs.Grammar.{leaf, neg, gl, Threshold}
+use Rattle.grammar.specs.Grammar.{leaf, neg, gl, Counted}
 use Rattle.cltl.specs.Meaning.{Rows, Proper, Run, TrueOf}
 use Rattle.cltl.specs.Rules.{judge, count, rules}
 use Rattle.cltl.specs.Step.{failing}
@@ -11,7 +11,7 @@ use Rattle.cltl.specs.Broken.{countOr, Broken}
 use Rattle.cltl.specs.Lowest.{globally-fails}
 use Rattle.cltl.specs.Complete.{count-complete}
 
-module _ (P : Rows) (proper : Proper P) (d : ℕ) (x : Threshold) where
+module _ (P : Rows) (proper : Proper P) (d : ℕ) (x : Counted) where
   -- the count at the step where the body of G fails first
   broken-there : (p : Bool) → (T (rules P d (gl (countOr p x)) 0) → ⊥) → Broken P d p x (failing P d (gl (countOr p x)))
   unfolding rules judge

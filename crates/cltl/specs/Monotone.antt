@@ -2,14 +2,14 @@
 use Prim.Native.Nat.{ℕ, _≤_}
 use mathlib.Core.Bool.{Bool, true}
 use lib.Dec.{T}
-use Rattle.grammar.specs.Grammar.{Threshold, counted, Clause}
+use Rattle.grammar.specs.Grammar.{Counted, counted, Clause}
 use Rattle.cltl.specs.Meaning.{Rows}
 use Rattle.cltl.specs.Rules.{count, rules}
 use Rattle.cltl.specs.Operators.{judge-mono}
 use Rattle.cltl.specs.Quorum.{quorum-mono}
 
 module _ (P : Rows) (d d′ : ℕ) (less : d′ ≤ d) where
-  count-mono : (p : Bool) (x : Threshold) (s : ℕ) → T (count P d p x s) → T (count P d′ p x s)
+  count-mono : (p : Bool) (x : Counted) (s : ℕ) → T (count P d p x s) → T (count P d′ p x s)
   unfolding count
   count-mono p (counted a k percent) s y = quorum-mono (P .h) (P .l) (P .carts) _ _ d d′ s less y
 

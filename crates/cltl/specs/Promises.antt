@@ -6,7 +6,7 @@ use mathlib.Core.Logic.{_↔_}
 use native.Mathlib.Omega.{arith}
 use lib.Dec.{T}
 use Rattle.cltl.specs.Globally.{globally-broken}
-use Rattle.grammar.specs.Grammar.{gl, Inner, Threshold, Clause}
+use Rattle.grammar.specs.Grammar.{gl, Inner, Counted, Clause}
 use Rattle.row.specs.Lasso.{stepOf}
 use Rattle.row.specs.Round.{step-low}
 use Rattle.cltl.specs.Meaning.{Rows, Proper, Run, Satisfies, TrueOf, InStepAt, TrueInStep}
@@ -41,11 +41,11 @@ module _ (P : Rows) (proper : Proper P) where
 
   -- a count's rule is complete: where it is false, a run within d breaks the count (or, for its negation, keeps it) at a moment when its hindmost
   -- cart is at counter s
-  pub complete : (d : ℕ) (p : Bool) (x : Threshold) (s : ℕ) → s < P .h → (T (count P d p x s) → ⊥) → Broken P d p x s
+  pub complete : (d : ℕ) (p : Bool) (x : Counted) (s : ℕ) → s < P .h → (T (count P d p x s) → ⊥) → Broken P d p x s
   complete d p x s low other = count-complete P proper d p x s low other
 
   -- with `runs`: a G over one count, or its negation, is kept exactly when it is true of every run within d. Not kept: it is false of one
-  pub globally-complete : (d : ℕ) (p : Bool) (x : Threshold) → (T (rules P d (gl (countOr p x)) 0) → ⊥)
+  pub globally-complete : (d : ℕ) (p : Bool) (x : Counted) → (T (rules P d (gl (countOr p x)) 0) → ⊥)
       → (r : Run (P .carts) d) × (TrueOf P r (gl (countOr p x)) → ⊥)
   globally-complete d p x other = globally-broken P proper d x p other
 

@@ -59,38 +59,38 @@ module _ (h l : ℕ) where
 
   module _ (carts m : ℕ) (f : ℕ → ℕ → Bool) where
     -- the carts that satisfy it all along
-    abbrev pub steady : ℕ → ℕ → ℕ
-    steady d s = tally (λ i. window h l (f i) d s) carts
+    abbrev pub throughout : ℕ → ℕ → ℕ
+    throughout d s = tally (λ i. window h l (f i) d s) carts
 
-    pub quorum-cases : (d s : ℕ) → T (quorum h l carts d m f s) → (m ≤ steady d s) ⊎ ((m ≡ 1) × ((i : ℕ) → i < carts → T (f i s)))
+    pub quorum-cases : (d s : ℕ) → T (quorum h l carts d m f s) → (m ≤ throughout d s) ⊎ ((m ≡ 1) × ((i : ℕ) → i < carts → T (f i s)))
     unfolding quorum
     quorum-cases d s y =
         let all : Bool = every (λ i. f i s) carts in
         ⊎-elim (λ z. inl (leb→le m _ z)) (λ z. inr (eqb→eq m 1 (and-l (eqb m 1) all z), λ i h. every-at (λ i. f i s) carts i h (and-r (eqb m 1) all z)))
-        (or-cases (leb m (steady d s)) (eqb m 1 && all) y)
+        (or-cases (leb m (throughout d s)) (eqb m 1 && all) y)
 
     pub quorum-mono : (d d′ s : ℕ) → d′ ≤ d → T (quorum h l carts d m f s) → T (quorum h l carts d′ m f s)
     unfolding quorum
     quorum-mono d d′ s q y =
         let all : Bool = eqb m 1 && every (λ i. f i s) carts in
-        join-mono false (leb m (steady d s)) (leb m (steady d′ s)) all all
+        join-mono false (leb m (throughout d s)) (leb m (throughout d′ s)) all all
         (λ z.
-        let a = leb→le m (steady d s) z in
-        let b : steady d s ≤ steady d′ s = tally-mono _ _ (λ i. window-mono (f i) d d′ s q) carts in
-        le→leb m (steady d′ s) (omega arith))
+        let a = leb→le m (throughout d s) z in
+        let b : throughout d s ≤ throughout d′ s = tally-mono _ _ (λ i. window-mono (f i) d d′ s q) carts in
+        le→leb m (throughout d′ s) (omega arith))
         (λ z. z) y
 
-    pub steady-quorum : (d s : ℕ) → m ≤ steady d s → T (quorum h l carts d m f s)
+    pub throughout-quorum : (d s : ℕ) → m ≤ throughout d s → T (quorum h l carts d m f s)
     unfolding quorum
-    steady-quorum d s q = or-l (leb m (steady d s)) _ (le→leb _ _ q)
+    throughout-quorum d s q = or-l (leb m (throughout d s)) _ (le→leb _ _ q)
 
     -- without drift: at least m carts at the step
     pub quorum-none : (s : ℕ) → 0 < carts → T (quorum h l carts 0 m f s) → s < h → m ≤ tally (λ i. f i s) carts
     quorum-none s some y q =
-        let e : steady 0 s ≤ tally (λ i. f i s) carts = tally-mono _ _ (λ i x. subst T (window-none (f i) s q) x) carts in
+        let e : throughout 0 s ≤ tally (λ i. f i s) carts = tally-mono _ _ (λ i x. subst T (window-none (f i) s q) x) carts in
         ⊎-elim (λ z. omega arith) (λ z. let e = tally-all (λ i. f i s) carts (z .1) in omega arith) (quorum-cases 0 s y)
 
     pub none-quorum : (s : ℕ) → s < h → m ≤ tally (λ i. f i s) carts → T (quorum h l carts 0 m f s)
     none-quorum s q y =
-        let e : tally (λ i. f i s) carts ≤ steady 0 s = tally-mono _ _ (λ i x. subst T (sym (window-none (f i) s q)) x) carts in
-        steady-quorum 0 s (omega arith)
+        let e : tally (λ i. f i s) carts ≤ throughout 0 s = tally-mono _ _ (λ i x. subst T (sym (window-none (f i) s q)) x) carts in
+        throughout-quorum 0 s (omega arith)

@@ -2,7 +2,7 @@
 use Prim.Native.Nat.{ℕ, zero, suc, _+_}
 use mathlib.Core.Bool.{Bool, true, false, not, cond, _&&_, _||_}
 use lib.Dec.{leb, eqb}
-use Rattle.grammar.specs.Grammar.{Form, top, leaf, neg, and, or, next, until, release, ev, gl, Inner, Threshold, counted, Clause}
+use Rattle.grammar.specs.Grammar.{Form, top, leaf, neg, and, or, next, until, release, ev, gl, Inner, Counted, counted, Clause}
 use Rattle.row.specs.Lasso.{nextStep, stepOf}
 use Rattle.cltl.specs.Threshold.{threshold, quota}
 use Rattle.cltl.specs.Meaning.{Rows}
@@ -65,7 +65,7 @@ module _ (P : Rows) where
   unfoldable pub inner : ℕ → Bool → Inner → ℕ → Bool
   inner i p a s = judge (P .h) (P .l) (mark i) p a s
 
-  unfoldable pub count : ℕ → Bool → Threshold → ℕ → Bool
+  unfoldable pub count : ℕ → Bool → Counted → ℕ → Bool
   count d p (counted a k percent) s = quorum (P .h) (P .l) (P .carts) d (quota p (threshold k percent (P .carts)) (P .carts)) (λ i. inner i p a) s
 
   -- a clause with drift d at a step

@@ -5,7 +5,7 @@ use mathlib.Core.Bool.{Bool, true, false}
 use mathlib.Core.Logic.{⊎-elim}
 use native.Mathlib.Omega.{arith}
 use lib.Dec.{T}
-use Rattle.grammar.specs.Grammar.{Inner, Threshold, counted, Clause}
+use Rattle.grammar.specs.Grammar.{Inner, Counted, counted, Clause}
 use Rattle.row.specs.Lasso.{stepOf}
 use Rattle.row.specs.Round.{step-low}
 use Rattle.cltl.specs.Threshold.{threshold, quota}
@@ -39,7 +39,7 @@ module _ (P : Rows) (proper : Proper P) (d : ℕ) (r : Run (P .carts) d) where
       let x = least-at (P .carts) d (proper .some) r t in
       (x .0, x .1, subst (λ (v : ℕ). Val p (Satisfies P (x .0) a v)) (sym (x .2)) (inner-sound P proper (x .0) p a (lo t) (f (x .0) (x .1))))
 
-  pub count-sound : (p : Bool) (x : Threshold) (t : ℕ) → T (count P d p x (S t)) → Val p (Counts P (r .at) x t)
+  pub count-sound : (p : Bool) (x : Counted) (t : ℕ) → T (count P d p x (S t)) → Val p (Counts P (r .at) x t)
   unfolding count quota
   count-sound true (counted a k percent) t y =
       let m : ℕ = threshold k percent (P .carts) in

@@ -6,7 +6,7 @@ use Rattle.refusal.specs.Codes.{codeOf}
 use Rattle.refusal.specs.declared.Code.{Code}
 use Rattle.refusal.specs.declared.Verdict.{Verdict}
 use Rattle.floor.specs.Floor.{readFloor, floorVerdict}
-use Rattle.floor.specs.Numbers.{Numbers}
+use Rattle.floor.specs.Numbers.{FloorNumbers}
 use Rattle.floor.specs.Promises.{FloorWritten}
 use Rattle.plan.specs.Plan.{readBoth}
 use Rattle.plan.specs.Promises.{PlanWritten}
@@ -31,7 +31,7 @@ pub record Coded (Promise : Verdict → Type 0) (c : Code) : Type 0 where
   pub promise : Promise verdict
 
 -- cartplan_write_floor
-abbrev pub FloorWrittenCode : Numbers → List ℕ → Code → List ℕ → Type 0
+abbrev pub FloorWrittenCode : FloorNumbers → List ℕ → Code → List ℕ → Type 0
 FloorWrittenCode n before c after = Coded (λ v. FloorWritten n before v after) c
 
 -- cartplan_write_plan

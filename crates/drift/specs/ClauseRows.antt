@@ -7,12 +7,12 @@ use mathlib.Core.Logic.{⊎-elim}
 use native.Mathlib.Omega.{arith}
 use lib.Dec.{eqb}
 use lib.ListN.{length}
-use Rattle.grammar.specs.Grammar.{Form, top, leaf, Threshold, counted}
+use Rattle.grammar.specs.Grammar.{Form, top, leaf, Counted, counted}
 use Rattle.cltl.specs.Threshold.{threshold, quota}
 use Rattle.cltl.specs.Rules.{judge, count, inner, quorum}
 use Rattle.cltl.specs.Basics.{lt-or-le}
 use Rattle.mask.specs.Mask.{on, Row}
-use Rattle.marks.specs.Table.{rowsIn}
+use Rattle.marks.specs.Table.{tableRows}
 use Rattle.drift.specs.Tree.{oneOf, twoOf, Ordered, innerTree, clauseTree}
 use Rattle.drift.specs.Operator.{under, oneRule, twoRule}
 use Rattle.drift.specs.Answer.{ClauseRow}
@@ -20,13 +20,13 @@ use Rattle.drift.specs.Tree.{kindAt, firstAt, secondAt, thirdAt}
 use Rattle.drift.specs.NodeRows.{at-top, at-mark, at-count, at-one, at-two}
 
 module _ (nodes table : List ℕ) (carts h l d : ℕ) (ok : l < h) (p : Bool) (k r kind x : ℕ) (ek : kind ≡ kindAt nodes k) (ex : x ≡ firstAt nodes k) where
-  abbrev rule : Bool → Threshold → ℕ → Bool
-  rule = count (rowsIn table carts h l) d
+  abbrev rule : Bool → Counted → ℕ → Bool
+  rule = count (tableRows table carts h l) d
 
-  abbrev none : ℕ → Form Threshold
+  abbrev none : ℕ → Form Counted
   none m = top
 
-  abbrev counts : ℕ → ℕ → Bool → Form Threshold
+  abbrev counts : ℕ → ℕ → Bool → Form Counted
   counts i m percent = leaf (counted (innerTree nodes (length nodes) i) m percent)
 
   pub clause-top : kind < 2 → Row h r (λ s. p) → ClauseRow nodes table carts h l d p k r
@@ -37,7 +37,7 @@ module _ (nodes table : List ℕ) (carts h l d : ℕ) (ok : l < h) (p : Bool) (k
 
   pub clause-count : (m : ℕ) → m ≡ secondAt nodes k + 256 * thirdAt nodes k → 10 ≤ kind
       → Row h r
-      (quorum h l carts d (quota p (threshold m (eqb kind 11) carts) carts) (λ i. inner (rowsIn table carts h l) i p (innerTree nodes (length nodes) x)))
+      (quorum h l carts d (quota p (threshold m (eqb kind 11) carts) carts) (λ i. inner (tableRows table carts h l) i p (innerTree nodes (length nodes) x)))
       → ClauseRow nodes table carts h l d p k r
   unfolding clauseTree judge count
   clause-count m em q g = at-count h l ok nodes rule none counts p k r kind x ek ex m em q g

@@ -8,7 +8,7 @@ use Rattle.cltl.specs.Rules.{judge, mark, inner}
 use Rattle.mask.specs.Mask.{on, Row, signed}
 use Rattle.drift.specs.Tree.{oneOf, twoOf, Ordered, innerTree}
 use Rattle.drift.specs.Operator.{under, oneRule, twoRule}
-use Rattle.marks.specs.Table.{markRow, rowsIn}
+use Rattle.marks.specs.Table.{markRow, tableRows}
 use Rattle.drift.specs.Answer.{InnerRow}
 use Rattle.drift.specs.Judged.{row-of}
 use Rattle.drift.specs.Tree.{kindAt, firstAt, secondAt}
@@ -16,7 +16,7 @@ use Rattle.drift.specs.NodeRows.{at-top, at-mark, at-count, at-one, at-t
 
 module _ (nodes table : List ℕ) (h l i : ℕ) (ok : l < h) (p : Bool) (k r kind x : ℕ) (ek : kind ≡ kindAt nodes k) (ex : x ≡ firstAt nodes k) where
   abbrev rule : ℕ → Bool → ℕ → ℕ → Bool
-  rule carts = mark (rowsIn table carts h l) i
+  rule carts = mark (tableRows table carts h l) i
 
   abbrev marks : ℕ → Form ℕ
   marks m = leaf m
@@ -36,7 +36,7 @@ module _ (nodes table : List ℕ) (h l i : ℕ) (ok : l < h) (p : Bool) (k r kin
   unfolding inner innerTree judge mark
   inner-mark e g = λ carts. at-mark h l ok nodes (rule carts) marks none p k r kind x ek ex e (row-of h r _ _ (λ s q. flag carts s p) g)
     where
-      flag : (carts s : ℕ) (p : Bool) → signed p (on (markRow table i x) s) ≡ mark (rowsIn table carts h l) i p x s
+      flag : (carts s : ℕ) (p : Bool) → signed p (on (markRow table i x) s) ≡ mark (tableRows table carts h l) i p x s
       flag carts s true = refl
       flag carts s false = refl
 

@@ -52,29 +52,29 @@ module _ (h l : ℕ) (ok : l < h) (p : Bool) where
 
 module _ (h l : ℕ) (ok : l < h) (block : List ℕ) {L : Type 0} (rule : Bool → L → ℕ → Bool) (mark : ℕ → Form L) (count : ℕ → ℕ → Bool → Form L) where
   -- r is node k's row, or its negation's, however deep the look
-  abbrev pub Judged : Bool → ℕ → ℕ → Type 0
-  Judged p k r = (n : ℕ) → k < n → Row h r (judge h l rule p (tree mark count block n k))
+  abbrev pub RowIs : Bool → ℕ → ℕ → Type 0
+  RowIs p k r = (n : ℕ) → k < n → Row h r (judge h l rule p (tree mark count block n k))
 
   pub node-row : (p : Bool) (k r : ℕ) (x : Node) → nodeAt block k ≡ x
-      → ((n : ℕ) → k ≤ n → Row h r (judge h l rule p (formOf mark count (λ i. tree mark count block n i) x))) → Judged p k r
+      → ((n : ℕ) → k ≤ n → Row h r (judge h l rule p (formOf mark count (λ i. tree mark count block n i) x))) → RowIs p k r
   unfolding tree
   node-row p k r x e f zero q = absurd (omega arith)
   node-row p k r x e f (suc n) q = rw e (f n (omega arith))
 
-  pub one-row : (p : Bool) (k r a : ℕ) (o : Op₁) (i : ℕ) → nodeAt block k ≡ oneN o i → i < k → Judged (under o p) i a
-      → Row h r (oneRule h l p o (on a)) → Judged p k r
+  pub one-row : (p : Bool) (k r a : ℕ) (o : Op₁) (i : ℕ) → nodeAt block k ≡ oneN o i → i < k → RowIs (under o p) i a
+      → Row h r (oneRule h l p o (on a)) → RowIs p k r
   one-row p k r a o i e q f g =
       node-row p k r (oneN o i) e
       (λ n m. row-of h r _ _ (λ s z. one-cong h l ok p o _ _ (f n (omega arith) .at) s z ∙ sym (one-judge h l ok p rule o (tree mark count block n i) s)) g)
 
-  pub two-row : (p : Bool) (k r a b : ℕ) (o : Op₂) (i j : ℕ) → nodeAt block k ≡ twoN o i j → i < k → j < k → Judged p i a → Judged p j b
-      → Row h r (twoRule h l p o (on a) (on b)) → Judged p k r
+  pub two-row : (p : Bool) (k r a b : ℕ) (o : Op₂) (i j : ℕ) → nodeAt block k ≡ twoN o i j → i < k → j < k → RowIs p i a → RowIs p j b
+      → Row h r (twoRule h l p o (on a) (on b)) → RowIs p k r
   two-row p k r a b o i j e q q′ f f′ g =
       node-row p k r (twoN o i j) e
       (λ n m. row-of h r _ _ (λ s z. two-cong h l ok p o _ _ _ _ (f n (omega arith) .at) (f′ n (omega arith) .at) s z ∙ sym
       (two-judge h l ok p rule o (tree mark count block n i) (tree mark count block n j) s)) g)
 
   pub top-row : (p : Bool) (k r : ℕ) (x : Node) → nodeAt block k ≡ x → ((n : ℕ) → formOf mark count (λ i. tree mark count block n i) x ≡ top)
-      → Row h r (λ s. p) → Judged p k r
+      → Row h r (λ s. p) → RowIs p k r
   unfolding judge
   top-row p k r x e t g = node-row p k r x e (λ n m. rw (t n) g)

@@ -12,14 +12,14 @@ use Rattle.grammar.specs.Nodes.{Node, topN, markN, countN, oneN, twoN, next₁,
 use Rattle.cltl.specs.Rules.{judge}
 use Rattle.cltl.specs.Basics.{lt-or-le}
 use Rattle.mask.specs.Mask.{on, Row}
-use Rattle.drift.specs.Tree.{kindAt, firstAt, secondAt, thirdAt, nodeAt, oneOf, twoOf, Below, Ordered}
+use Rattle.drift.specs.Tree.{kindAt, firstAt, secondAt, thirdAt, nodeAt, oneOf, twoOf, OperandsBelow, Ordered}
 use Rattle.drift.specs.Operator.{under, oneRule, twoRule}
-use Rattle.drift.specs.Judged.{Judged, node-row, one-row, two-row, top-row}
+use Rattle.drift.specs.Judged.{RowIs, node-row, one-row, two-row, top-row}
 use Rattle.drift.specs.Kinds.{kind-top, kind-mark, kind-one, kind-two, kind-count}
 
 module _ (block : List ℕ) (k : ℕ) (o : Ordered block (k + 1)) where
-  is-below : (x : Node) → nodeAt block k ≡ x → Below k x
-  is-below x e = subst (Below k) e (o .below k (omega arith))
+  is-below : (x : Node) → nodeAt block k ≡ x → OperandsBelow k x
+  is-below x e = subst (OperandsBelow k) e (o .below k (omega arith))
 
   pub mark-low : kindAt block k ≡ 1 → firstAt block k < 32
   mark-low e = is-below (markN (firstAt block k)) (kind-mark _ _ _ _ e)
@@ -51,7 +51,7 @@ under-other kind p q = rw (ne-eqb kind 2 q) (rest (eqb kind 3) (eqb kind 4))
 
 module _ (h l : ℕ) (ok : l < h) (block : List ℕ) {L : Type 0} (rule : Bool → L → ℕ → Bool) (mark : ℕ → Form L) (count : ℕ → ℕ → Bool → Form L) where
   abbrev J : Bool → ℕ → ℕ → Type 0
-  J p k r = Judged h l ok block rule mark count p k r
+  J p k r = RowIs h l ok block rule mark count p k r
 
   module _ (p : Bool) (k r kind x : ℕ) (ek : kind ≡ kindAt block k) (ex : x ≡ firstAt block k) where
     pub at-top : kind ≡ 0 → Row h r (λ s. p) → J p k r

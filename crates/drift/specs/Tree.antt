@@ -37,17 +37,17 @@ module _ (block : List ℕ) (k : ℕ) where
   nodeAt = nodeOf kindAt firstAt secondAt thirdAt
 
 -- operands have smaller numbers than their operator, marks are below 32
-abbrev pub Below : ℕ → Node → Type 0
-Below k topN = Unit {0}
-Below k (markN m) = m < 32
-Below k (oneN o i) = i < k
-Below k (twoN o i j) = (i < k) × (j < k)
-Below k (countN i m percent) = i < k
+abbrev pub OperandsBelow : ℕ → Node → Type 0
+OperandsBelow k topN = Unit {0}
+OperandsBelow k (markN m) = m < 32
+OperandsBelow k (oneN o i) = i < k
+OperandsBelow k (twoN o i j) = (i < k) × (j < k)
+OperandsBelow k (countN i m percent) = i < k
 
 -- n nodes
 pub record Ordered (block : List ℕ) (n : ℕ) : Type 0 where
   pub room : 4 * n ≤ length block
-  pub below : (k : ℕ) → k < n → Below k (nodeAt block k)
+  pub below : (k : ℕ) → k < n → OperandsBelow k (nodeAt block k)
 
 abbrev pub one : {L : Type 0} → Op₁ → Form L → Form L
 one neg₁ a = neg a

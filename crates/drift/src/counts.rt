@@ -7,7 +7,7 @@ ghost use lib.ListN.{length};
 ghost use Rattle.cltl.specs.Threshold.{threshold as «threshold_of», quota as «quota_of»};
 ghost use Rattle.cltl.specs.Rules.{inner, quorum};
 ghost use Rattle.mask.specs.Mask.{Row};
-ghost use Rattle.marks.specs.Table.{Tabled, rowsIn};
+ghost use Rattle.marks.specs.Table.{Tabled, tableRows};
 ghost use Rattle.drift.specs.Tree.{Ordered, innerTree};
 
 // The number of carts that a count asks for.
@@ -45,7 +45,7 @@ pub fn count_row(nodes: &[u8], table: &[u64], g: Ground, p: bool, m: usize, x: u
     requires { ⌜ (g .l < g .h) × (g .h ≤ 64) × (g .carts ≤ 32) ⌝ }
     requires { ⌜ Ordered (now nodes) (x + 1) ⌝ }
     requires { ⌜ Tabled (now table) (g .carts) (g .h) ⌝ }
-    ensures { λ r. ⌜ Row (g .h) r (quorum (g .h) (g .l) (g .carts) (g .d) m (λ i. inner (rowsIn (now (table .entry)) (g .carts) (g .h) (g .l)) i p (innerTree (now (nodes .entry)) (length (now (nodes .entry))) x))) ⌝ }
+    ensures { λ r. ⌜ Row (g .h) r (quorum (g .h) (g .l) (g .carts) (g .d) m (λ i. inner (tableRows (now (table .entry)) (g .carts) (g .h) (g .l)) i p (innerTree (now (nodes .entry)) (length (now (nodes .entry))) x))) ⌝ }
 {
     let mut planes = [0u64; 7];
     mask::start_planes(&mut planes, capped(m), g.h);

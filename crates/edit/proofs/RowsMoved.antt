@@ -10,7 +10,7 @@ use Rattle.record.specs.Buffer.{stored}
 use Rattle.record.specs.Stored.{stored-front, stored-more, length-stored, stored-nothing}
 use Rattle.record.specs.All.{AllOf, all-of}
 use Rattle.plan.specs.Numbers.{planBytes, planFile}
-use Rattle.plan.specs.Plan.{rowsIn, heldNumbers}
+use Rattle.plan.specs.Plan.{blockRows, heldNumbers}
 use Rattle.plan.specs.Complete.{file-short}
 use Rattle.plan.specs.Valid.{InRange}
 use Rattle.plan.specs.Read.{row-in, length-rows-in, rows-in-more, blockPart, part-is, part-length}
@@ -58,7 +58,7 @@ map-more f (y ∷ xs) x = ap (λ (z : List (List ℕ)). f y ∷ z) (map-more f x
 module _ (h : Head) (s : ℕ) (block : List ℕ) where
   -- the first c rows, moved on
   abbrev pub movedIn : ℕ → List ℕ
-  movedIn c = flatten (map (movedRow (h .steps) (h .stem) s) (rowsIn c (h .steps) block))
+  movedIn c = flatten (map (movedRow (h .steps) (h .stem) s) (blockRows c (h .steps) block))
 
   abbrev pub part : ℕ → List ℕ
   part c = blockPart (h .steps) block c
@@ -70,7 +70,7 @@ module _ (h : Head) (s : ℕ) (block : List ℕ) where
     pub filled : length (movedIn c) ≡ c * size
 
   pub begun : (carts size : ℕ) → Moving carts size (replicate 2048 0) 0
-  unfolding flatten rowsIn
+  unfolding flatten blockRows
   begun carts size = record { within = omega arith; is = sym (stored-nothing (replicate 2048 0) 0); filled = omega arith }
 
   module _ (r : InRange h) (long : length block ≡ 2048) (c size : ℕ) (low : c < 32) (e : size ≡ movedHead s h .steps) where
@@ -82,8 +82,8 @@ module _ (h : Head) (s : ℕ) (block : List ℕ) where
     more : movedIn (suc c) ≡ movedIn c ++ movedRow (h .steps) (h .stem) s (part c)
     more =
         ap (λ (x : List (List ℕ)). flatten (map (movedRow (h .steps) (h .stem) s) x))
-        (rows-in-more c (h .steps) block ∙ ap (λ (x : List ℕ). rowsIn c (h .steps) block ++ (x ∷ [])) (sym (part-is (h .steps) block c)))
-        ∙ ap flatten (map-more (movedRow (h .steps) (h .stem) s) (rowsIn c (h .steps) block) (part c)) ∙ flatten-more _ _
+        (rows-in-more c (h .steps) block ∙ ap (λ (x : List ℕ). blockRows c (h .steps) block ++ (x ∷ [])) (sym (part-is (h .steps) block c)))
+        ∙ ap flatten (map-more (movedRow (h .steps) (h .stem) s) (blockRows c (h .steps) block) (part c)) ∙ flatten-more _ _
 
     -- there is room for the row
     pub room : c * size + size ≤ 2048
@@ -118,14 +118,14 @@ module _ (h : Head) (s : ℕ) (block : List ℕ) where
 
   -- the file of the moved plan, from the rows' front and the head
   module _ (r : InRange h) (long : length block ≡ 2048) (carts : ℕ) (few : carts ≤ 32) where
-    sizes : AllOf (movedHead s h .steps) (map (movedRow (h .steps) (h .stem) s) (rowsIn carts (h .steps) block))
+    sizes : AllOf (movedHead s h .steps) (map (movedRow (h .steps) (h .stem) s) (blockRows carts (h .steps) block))
     sizes =
-        let n : length (map (movedRow (h .steps) (h .stem) s) (rowsIn carts (h .steps) block)) ≡ carts =
-        length-rows-of (movedRow (h .steps) (h .stem) s) (rowsIn carts (h .steps) block) ∙ length-rows-in carts (h .steps) block in
-        all-of (λ (x : List ℕ). length x ≡ movedHead s h .steps) (map (movedRow (h .steps) (h .stem) s) (rowsIn carts (h .steps) block))
+        let n : length (map (movedRow (h .steps) (h .stem) s) (blockRows carts (h .steps) block)) ≡ carts =
+        length-rows-of (movedRow (h .steps) (h .stem) s) (blockRows carts (h .steps) block) ∙ length-rows-in carts (h .steps) block in
+        all-of (λ (x : List ℕ). length x ≡ movedHead s h .steps) [] (map (movedRow (h .steps) (h .stem) s) (blockRows carts (h .steps) block))
         (λ c l.
         let m = length-rows-in carts (h .steps) block in
-        let e = row-of (movedRow (h .steps) (h .stem) s) (rowsIn carts (h .steps) block) c (omega arith) in
+        let e = row-of (movedRow (h .steps) (h .stem) s) (blockRows carts (h .steps) block) c (omega arith) in
         let q = row-in carts (h .steps) block c (omega arith) in
         let k = length-take-le (h .steps) (drop (64 * c) block) (omega (arith, length-drop (64 * c) block, r .steps)) in
         ap length e ∙ row-length s h (r .stem) _ (ap length q ∙ k))
@@ -133,7 +133,7 @@ module _ (h : Head) (s : ℕ) (block : List ℕ) where
     pub file-fits : length (planFile (moved s (heldNumbers carts h block))) ≤ 65536
     file-fits =
         file-short (moved s (heldNumbers carts h block)) (head-moved s h r) sizes
-        (omega (arith, length-rows-of (movedRow (h .steps) (h .stem) s) (rowsIn carts (h .steps) block), length-rows-in carts (h .steps) block))
+        (omega (arith, length-rows-of (movedRow (h .steps) (h .stem) s) (blockRows carts (h .steps) block), length-rows-in carts (h .steps) block))
 
     pub rows-fit : (m : Head) → m ≡ movedHead s h → carts * m .steps ≤ 2048
     rows-fit m e =

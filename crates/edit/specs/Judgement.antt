@@ -10,7 +10,7 @@ use Rattle.edit.specs.Replaced.{replaceRow}
 use Rattle.edit.specs.declared.Replacement.{Replacement}
 
 -- its verdict, what becomes of the plan, and that the row's bytes lie in it
-pub record Judged (floor plan : List ℕ) (c : ℕ) (row : List ℕ) (r : Replacement) : Type 0 where
+pub record ReplacementJudged (floor plan : List ℕ) (c : ℕ) (row : List ℕ) (r : Replacement) : Type 0 where
   pub answer : r .verdict ≡ replaceRow floor plan c row .answer
   pub kept : isAccepted (r .verdict) ≡ false → replaceRow floor plan c row .out ≡ plan
   pub changed : isAccepted (r .verdict) ≡ true → replaceRow floor plan c row .out ≡ stored plan (r .at) row

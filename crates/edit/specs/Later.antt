@@ -11,7 +11,7 @@ use borrow.Author.Tests.{le-leb, lt-leb}
 use Rattle.plan.specs.Numbers.{headOf}
 use Rattle.plan.specs.declared.Head.{Head}
 use Rattle.row.specs.Lasso.{stepOf}
-use Rattle.row.specs.Meaning.{placeOn}
+use Rattle.row.specs.Meaning.{placeAtCounter}
 use Rattle.row.specs.Round.{pick, step-below, step-from, step-shift}
 use Rattle.edit.specs.Moved.{turned, movedRow, movedHead}
 
@@ -87,7 +87,7 @@ module _ (s : ℕ) (h : Head) where
     -- the place at counter v is that at counter s + v
     abbrev pub SameAt : ℕ → Type 0
     SameAt v =
-        placeOn (movedRow (h .steps) (h .stem) s row) (movedHead s h .steps) (movedHead s h .stem) v ≡ placeOn row (h .steps) (h .stem) (s + v)
+        placeAtCounter (movedRow (h .steps) (h .stem) s row) (movedHead s h .steps) (movedHead s h .stem) v ≡ placeAtCounter row (h .steps) (h .stem) (s + v)
 
     pub place-later : (v : ℕ) → SameAt v
     place-later v = pick (h .stem) s (SameAt v) late early

@@ -6,7 +6,7 @@ use lib.Dec.{leb}
 use lib.ListN.{take, drop}
 use Rattle.refusal.specs.Outcome.{Outcome, unchanged, written}
 use Rattle.refusal.specs.declared.Verdict.the-variants.{Plan as AboutPlan}
-use Rattle.plan.specs.Plan.{Numbers}
+use Rattle.plan.specs.Plan.{PlanNumbers}
 use Rattle.plan.specs.Numbers.{headOf, planFile}
 use Rattle.plan.specs.After.{afterReading}
 use Rattle.plan.specs.declared.Head.{Head}
@@ -23,7 +23,7 @@ movedRow h l s row = cond (leb s l) (drop s row) (turned ((s - l) % (h - l)) (dr
 unfoldable pub movedHead : ℕ → Head → Head
 movedHead s h = cond (leb s (h .stem)) (headOf (h .steps - s) (h .stem - s) (h .drift)) (headOf (h .steps - h .stem) 0 (h .drift))
 
-abbrev pub moved : ℕ → Numbers → Numbers
+abbrev pub moved : ℕ → PlanNumbers → PlanNumbers
 moved s p = record { head = movedHead s (p .head); rows = map (movedRow (p .head .steps) (p .head .stem) s) (p .rows) }
 
 -- "floor and plan as for reading; 18 if the lent buffer is shorter than the result"; "starts aren't compared", nor lanes

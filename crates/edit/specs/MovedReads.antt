@@ -13,18 +13,18 @@ use Rattle.refusal.specs.declared.Verdict.the-variants.{Written, Plan as AboutP
 use Rattle.record.specs.All.{AllOf, all-of}
 use Rattle.floor.specs.Located.{accepts}
 use Rattle.floor.specs.declared.Floor.{Floor}
-use Rattle.plan.specs.Plan.{Numbers, accepted, readPlan}
+use Rattle.plan.specs.Plan.{PlanNumbers, accepted, readPlan}
 use Rattle.plan.specs.Numbers.{headOf, planFile}
 use Rattle.plan.specs.After.{ReadAs}
-use Rattle.plan.specs.Valid.{InRange, Valid}
+use Rattle.plan.specs.Valid.{InRange, ValidPlan}
 use Rattle.plan.specs.RoundTrip.{valid}
 use Rattle.plan.specs.Complete.{file-reads, file-length}
-use Rattle.plan.specs.Read.{Went, no-floor, no-plan, on, went, read-on}
+use Rattle.plan.specs.Read.{ReadingCases, floor-refused, plan-refused, both-read, reading-cases, read-on}
 use Rattle.plan.specs.declared.Head.{Head}
 use Rattle.row.specs.Lasso.{stepOf}
 use Rattle.row.specs.Round.{pick, step-low, step-below}
 use Rattle.edit.specs.Moved.{movedRow, movedHead, moved, moveOn}
-use Rattle.edit.specs.Promises.{placeAtCounter, fileLength, Later, MovedOn}
+use Rattle.edit.specs.Promises.{cartPlaceAt, fileLength, Later, MovedOn}
 use Rattle.edit.specs.Later.{head-early, head-late, drift-stays, row-length, place-later}
 
 pub length-rows-of : (f : List ℕ → List ℕ) (rows : List (List ℕ)) → length (map f rows) ≡ length rows
@@ -45,7 +45,7 @@ head-moved s h r =
     (λ p. subst InRange (sym (head-late s h p)) (range-of _ _ _ (omega (arith, r .stem)) (omega (arith, r .steps)) (r .drift)))
     (λ p. subst InRange (sym (head-early s h p)) (range-of _ _ _ (omega (arith, r .stem)) (omega (arith, r .steps)) (r .drift)))
 
-module _ (f : Floor) (p : Numbers) (v : Valid p f) (s : ℕ) where
+module _ (f : Floor) (p : PlanNumbers) (v : ValidPlan p f) (s : ℕ) where
   abbrev h : Head
   h = p .head
 
@@ -55,19 +55,19 @@ module _ (f : Floor) (p : Numbers) (v : Valid p f) (s : ℕ) where
   row-is : (c : ℕ) → c < f .carts → getD (moved s p .rows) c [] ≡ movedRow (h .steps) (h .stem) s (row c)
   row-is c l = row-of (movedRow (h .steps) (h .stem) s) (p .rows) c (omega (arith, v .carts))
 
-  pub place-moved : (c w : ℕ) → c < f .carts → placeAtCounter (moved s p) c w ≡ placeAtCounter p c (s + w)
+  pub place-moved : (c w : ℕ) → c < f .carts → cartPlaceAt (moved s p) c w ≡ cartPlaceAt p c (s + w)
   place-moved c w l =
       ap (λ (x : List ℕ). getD x (stepOf (movedHead s h .steps) (movedHead s h .stem) w) 0) (row-is c l)
       ∙ place-later s h (v .head .stem) (row c) (v .steps c l) w
 
-  pub valid-moved : Valid (moved s p) f
+  pub valid-moved : ValidPlan (moved s p) f
   valid-moved = record {
     head = head-moved s h (v .head);
     carts = length-rows-of (movedRow (h .steps) (h .stem) s) (p .rows) ∙ v .carts;
     steps = λ c l. ap length (row-is c l) ∙ row-length s h (v .head .stem) (row c) (v .steps c l);
     places = λ c j l m.
         let e : stepOf (movedHead s h .steps) (movedHead s h .stem) j ≡ j = step-low (movedHead s h .steps) (movedHead s h .stem) j m in
-        let q : getD (getD (moved s p .rows) c []) j 0 ≡ placeAtCounter p c (s + j) =
+        let q : getD (getD (moved s p .rows) c []) j 0 ≡ cartPlaceAt p c (s + j) =
         ap (λ (i : ℕ). getD (getD (moved s p .rows) c []) i 0) (sym e) ∙ place-moved c j l in
         subst (λ (x : ℕ). x < f .places) (sym q)
         (v .places c (stepOf (h .steps) (h .stem) (s + j)) l (step-below (h .steps) (h .stem) (v .head .stem) (s + j)));
@@ -81,29 +81,29 @@ module _ (f : Floor) (p : Numbers) (v : Valid p f) (s : ℕ) where
       let v = valid-moved in
       let k = moved s p .head .steps in
       let rows = moved s p .rows in
-      let sizes : AllOf k rows = all-of (λ (x : List ℕ). length x ≡ k) rows (λ i l. v .steps i (omega (arith, v .carts))) in
+      let sizes : AllOf k rows = all-of (λ (x : List ℕ). length x ≡ k) [] rows (λ i l. v .steps i (omega (arith, v .carts))) in
       file-length (moved s p) (v .head .some) sizes ∙ ap (λ (n : ℕ). 10 + n * (4 + k)) (v .carts)
 
 module _ (floor plan : List ℕ) (b : Bytes floor) (s : ℕ) (before : List ℕ) (v : Verdict) (after : List ℕ) (g : Gives (moveOn floor plan s before) v after) where
   refuse : Verdict → Outcome
   refuse v = unchanged v before
 
-  step : Floor → Numbers → Outcome
+  step : Floor → PlanNumbers → Outcome
   step f p = written AboutPlan (planFile (moved s p)) before
 
   -- with floor and plan read: the moved plan is written if there is room
-  writes : (f : Floor) (n : Numbers) → ReadAs floor plan f n → Gives (written AboutPlan (planFile (moved s n)) before) v after
+  writes : (f : Floor) (n : PlanNumbers) → ReadAs floor plan f n → Gives (written AboutPlan (planFile (moved s n)) before) v after
   unfolding moveOn refuse step
   writes f n w = subst (λ (o : Outcome). Gives o v after) (read-on refuse step floor plan f n w) g
 
   later : (k : ℕ) → v ≡ Written k → Later floor plan s k after
   unfolding moveOn refuse step
-  later k e = go (went refuse step floor plan)
+  later k e = go (reading-cases refuse step floor plan)
     where
-      go : Went refuse step floor plan → Later floor plan s k after
-      go (no-floor x q) = let u = g .answer ∙ ap (λ (o : Outcome). o .answer) q in let z : _≡_ {A = ℕ} 0 1 = cc in absurd (omega arith)
-      go (no-plan x q) = let u = g .answer ∙ ap (λ (o : Outcome). o .answer) q in let z : _≡_ {A = ℕ} 0 1 = cc in absurd (omega arith)
-      go (on f n w r) =
+      go : ReadingCases refuse step floor plan → Later floor plan s k after
+      go (floor-refused x q) = let u = g .answer ∙ ap (λ (o : Outcome). o .answer) q in let z : _≡_ {A = ℕ} 0 1 = cc in absurd (omega arith)
+      go (plan-refused x q) = let u = g .answer ∙ ap (λ (o : Outcome). o .answer) q in let z : _≡_ {A = ℕ} 0 1 = cc in absurd (omega arith)
+      go (both-read f n w r) =
           let d = valid f plan n (w .plan-read) in
           let few : f .carts ≤ 32 = accepts floor f b (w .floor-read) .valid .few-carts in
           let apart : (x : Refusal) (j : ℕ) → AboutPlan x ≡ Written j → ⊥ = λ x j u. let z : _≡_ {A = ℕ} 0 1 = cc in absurd (omega arith) in
@@ -119,7 +119,7 @@ module _ (floor plan : List ℕ) (b : Bytes floor) (s : ℕ) (before : List ℕ)
             place = λ c i l. place-moved f n d s c i l;
           }
 
-  room : (f : Floor) (p : Numbers) → ReadAs floor plan f p → fileLength f (moved s p) ≤ length before → v ≡ Written (fileLength f (moved s p))
+  room : (f : Floor) (p : PlanNumbers) → ReadAs floor plan f p → fileLength f (moved s p) ≤ length before → v ≡ Written (fileLength f (moved s p))
   room f p w enough =
       let e = length-moved f p (valid f plan p (w .plan-read)) s in
       written-if AboutPlan (planFile (moved s p)) before v after (writes f p w) (omega arith) ∙ ap Written e

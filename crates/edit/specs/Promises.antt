@@ -9,32 +9,32 @@ use Rattle.refusal.specs.Outcome.{Gives}
 use Rattle.refusal.specs.declared.Verdict.{Verdict}
 use Rattle.refusal.specs.declared.Verdict.the-variants.{Accepted, Written}
 use Rattle.floor.specs.declared.Floor.{Floor}
-use Rattle.plan.specs.Plan.{Numbers, accepted, readPlan}
+use Rattle.plan.specs.Plan.{PlanNumbers, accepted, readPlan}
 use Rattle.plan.specs.After.{ReadAs}
 use Rattle.plan.specs.Passed.{RowFits}
-use Rattle.row.specs.Meaning.{placeOn}
+use Rattle.row.specs.Meaning.{placeAtCounter}
 use Rattle.moves.specs.Carts.{checkedMoves}
 use Rattle.moves.specs.Promises.{AllUnending, CartUnending}
 use Rattle.edit.specs.Moved.{moved, moveOn}
 use Rattle.edit.specs.Replaced.{replaced, replaceRow}
 
 -- the place of cart c at a counter
-abbrev pub placeAtCounter : Numbers → ℕ → ℕ → ℕ
-placeAtCounter p c i = placeOn (getD (p .rows) c []) (p .head .steps) (p .head .stem) i
+abbrev pub cartPlaceAt : PlanNumbers → ℕ → ℕ → ℕ
+cartPlaceAt p c i = placeAtCounter (getD (p .rows) c []) (p .head .steps) (p .head .stem) i
 
 -- the length of a plan's file: its head is ten bytes, a row four and one a step
-abbrev pub fileLength : Floor → Numbers → ℕ
+abbrev pub fileLength : Floor → PlanNumbers → ℕ
 fileLength f p = 10 + f .carts * (4 + p .head .steps)
 
 -- what moving on by s left in a buffer of which k bytes were written: a plan that goes on where the first one is after s moves
 pub record Later (floor plan : List ℕ) (s k : ℕ) (after : List ℕ) : Type 0 where
   pub floor-is : Floor
-  pub numbers : Numbers
+  pub numbers : PlanNumbers
   pub read : ReadAs floor plan floor-is numbers
   pub reads : readPlan floor-is (take k after) ≡ accepted (moved s numbers)
   pub size : k ≡ fileLength floor-is (moved s numbers)
   pub drift : moved s numbers .head .drift ≡ numbers .head .drift
-  pub place : (c i : ℕ) → c < floor-is .carts → placeAtCounter (moved s numbers) c i ≡ placeAtCounter numbers c (s + i)
+  pub place : (c i : ℕ) → c < floor-is .carts → cartPlaceAt (moved s numbers) c i ≡ cartPlaceAt numbers c (s + i)
 
 pub record MovedOn (floor plan : List ℕ) (s : ℕ) (before : List ℕ) (v : Verdict) (after : List ℕ) : Type 0 where
   -- the answer and every byte of the buffer, for every floor and plan
@@ -42,12 +42,12 @@ pub record MovedOn (floor plan : List ℕ) (s : ℕ) (before : List ℕ) (v : Ve
   -- the result reads as a plan whose place at counter i is the plan's at counter s + i, for every i
   pub later : (k : ℕ) → v ≡ Written k → Later floor plan s k after
   -- a plan that is read is moved on if there is room
-  pub room : (f : Floor) (p : Numbers) → ReadAs floor plan f p → fileLength f (moved s p) ≤ length before → v ≡ Written (fileLength f (moved s p))
+  pub room : (f : Floor) (p : PlanNumbers) → ReadAs floor plan f p → fileLength f (moved s p) ≤ length before → v ≡ Written (fileLength f (moved s p))
 
 -- what replacing left: a plan that differs in that row alone, and whose moves are accepted as those of the plan before it were
 pub record NewRow (floor before : List ℕ) (c : ℕ) (row after : List ℕ) : Type 0 where
   pub floor-is : Floor
-  pub numbers : Numbers
+  pub numbers : PlanNumbers
   pub read : ReadAs floor before floor-is numbers
   pub cart : c < floor-is .carts
   pub reads : readPlan floor-is after ≡ accepted (replaced c row numbers)
@@ -61,5 +61,5 @@ pub record RowReplaced (floor before : List ℕ) (c : ℕ) (row : List ℕ) (v :
   -- "Lent buffers are unchanged."
   pub kept : isAccepted v ≡ false → after ≡ before
   -- a row that fits a cart of the floor, and whose moves go on without end as those of the plan do, is not refused
-  pub complete : (f : Floor) (p : Numbers) → ReadAs floor before f p → AllUnending floor f p → c < f .carts
+  pub complete : (f : Floor) (p : PlanNumbers) → ReadAs floor before f p → AllUnending floor f p → c < f .carts
       → RowFits (p .head .steps) (f .places) row → CartUnending floor (replaced c row p) c → v ≡ Accepted

@@ -11,7 +11,7 @@ use Rattle.refusal.specs.declared.Verdict.{Verdict}
 use Rattle.refusal.specs.declared.Verdict.the-variants.{Accepted, Plan as AboutPlan}
 use Rattle.record.specs.Buffer.{stored}
 use Rattle.floor.specs.declared.Floor.{Floor}
-use Rattle.plan.specs.Plan.{Numbers, judgedRow}
+use Rattle.plan.specs.Plan.{PlanNumbers, judgedRow}
 use Rattle.plan.specs.After.{afterReading}
 use Rattle.plan.specs.declared.Head.{Head}
 use Rattle.plan.specs.declared.RowAnswer.{RowAnswer}
@@ -19,7 +19,7 @@ use Rattle.plan.specs.declared.RowAnswer.the-variants.{Fits, WrongLength, Absen
 use Rattle.moves.specs.Carts.{cartVerdict, movesVerdict}
 
 -- the plan with another row for cart c
-abbrev pub replaced : ℕ → List ℕ → Numbers → Numbers
+abbrev pub replaced : ℕ → List ℕ → PlanNumbers → PlanNumbers
 replaced c row p = record { head = p .head; rows = set (p .rows) c row }
 
 -- "4 length not h (0, 0), 9 (cart, lowest step)"
@@ -33,11 +33,11 @@ abbrev pub newRowVerdict : List ℕ → Floor → Head → ℕ → List ℕ → 
 newRowVerdict floor f h c row = andThen (placesVerdict c (judgedRow row (h .steps) (f .places))) (cartVerdict floor c row (h .steps) (h .stem))
 
 -- "19 no such cart (cart, 0)", carts being numbered from 0
-abbrev pub cartRowVerdict : List ℕ → Floor → Numbers → ℕ → List ℕ → Verdict
+abbrev pub cartRowVerdict : List ℕ → Floor → PlanNumbers → ℕ → List ℕ → Verdict
 cartRowVerdict floor f p c row = cond (leb (f .carts) c) (AboutPlan (refused 19 c 0)) (newRowVerdict floor f (p .head) c row)
 
 -- the moves of all carts, then the new row
-abbrev pub replaceVerdict : List ℕ → Floor → Numbers → ℕ → List ℕ → Verdict
+abbrev pub replaceVerdict : List ℕ → Floor → PlanNumbers → ℕ → List ℕ → Verdict
 replaceVerdict floor f p c row = andThen (movesVerdict floor f p) (cartRowVerdict floor f p c row)
 
 -- where cart c's row of so many steps lies in a plan's file: behind the head's ten bytes, the rows before it, and its own length and kind

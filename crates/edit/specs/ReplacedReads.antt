@@ -19,14 +19,14 @@ use Rattle.record.specs.All.{AllOf, all-of}
 use Rattle.record.specs.Buffer.{stored}
 use Rattle.floor.specs.Located.{accepts}
 use Rattle.floor.specs.declared.Floor.{Floor}
-use Rattle.plan.specs.Plan.{Numbers, accepted, readPlan, judgedRow}
+use Rattle.plan.specs.Plan.{PlanNumbers, accepted, readPlan, judgedRow}
 use Rattle.plan.specs.Numbers.{planFile}
-use Rattle.plan.specs.Valid.{Valid}
+use Rattle.plan.specs.Valid.{ValidPlan}
 use Rattle.plan.specs.Passed.{RowFits, row-fits}
 use Rattle.plan.specs.RoundTrip.{valid, bytes-back}
 use Rattle.plan.specs.After.{ReadAs}
 use Rattle.plan.specs.Complete.{file-reads, row-accepted}
-use Rattle.plan.specs.Read.{Went, no-floor, no-plan, on, went, read-on}
+use Rattle.plan.specs.Read.{ReadingCases, floor-refused, plan-refused, both-read, reading-cases, read-on}
 use Rattle.plan.specs.declared.RowAnswer.{RowAnswer}
 use Rattle.plan.specs.declared.RowAnswer.the-variants.{Fits, WrongLength, Absent}
 use Rattle.moves.specs.Carts.{cartVerdict, movesVerdict}
@@ -45,13 +45,13 @@ pub fits-if : (c steps places : ℕ) (row : List ℕ) → isAccepted (placesVerd
 fits-if c steps places row e = row-fits steps places row (only-fits c (judgedRow row steps places) (accepted-is _ e))
 
 -- what an accepted replacement says
-pub record Replaces (floor : List ℕ) (f : Floor) (p : Numbers) (c : ℕ) (row : List ℕ) : Type 0 where
+pub record Replaces (floor : List ℕ) (f : Floor) (p : PlanNumbers) (c : ℕ) (row : List ℕ) : Type 0 where
   pub moves : movesVerdict floor f p ≡ Accepted
   pub cart : c < f .carts
   pub fits : RowFits (p .head .steps) (f .places) row
   pub opened : cartVerdict floor c row (p .head .steps) (p .head .stem) ≡ Accepted
 
-module _ (floor : List ℕ) (f : Floor) (p : Numbers) (c : ℕ) (row : List ℕ) where
+module _ (floor : List ℕ) (f : Floor) (p : PlanNumbers) (c : ℕ) (row : List ℕ) where
   pub replaces : replaceVerdict floor f p c row ≡ Accepted → Replaces floor f p c row
   replaces e = go (leb (f .carts) c) refl (stages .1)
     where
@@ -69,7 +69,7 @@ module _ (floor : List ℕ) (f : Floor) (p : Numbers) (c : ℕ) (row : List ℕ)
             opened = w .1;
           }
 
-  module _ (v : Valid p f) (w : Replaces floor f p c row) where
+  module _ (v : ValidPlan p f) (w : Replaces floor f p c row) where
     -- row k of the new plan: the new row, or the old one
     each-row : (P : List ℕ → Type 0) (k : ℕ) → P row → P (getD (p .rows) k []) → P (getD (set (p .rows) c row) k [])
     each-row P k new old = go (eqb k c) refl
@@ -80,7 +80,7 @@ module _ (floor : List ℕ) (f : Floor) (p : Numbers) (c : ℕ) (row : List ℕ)
             (subst P (sym (getD-set-same (p .rows) c row [] (omega (arith, w .cart, v .carts)))) new)
         go false q = subst P (sym (getD-set-other (p .rows) c k row [] (eqb-false k c q))) old
 
-    pub valid-replaced : Valid (replaced c row p) f
+    pub valid-replaced : ValidPlan (replaced c row p) f
     valid-replaced = record {
       head = v .head;
       carts = length-set (p .rows) c row ∙ v .carts;
@@ -108,7 +108,7 @@ module _ (floor : List ℕ) (f : Floor) (p : Numbers) (c : ℕ) (row : List ℕ)
 
     -- its file
     sizes : AllOf (p .head .steps) (p .rows)
-    sizes = all-of (λ (x : List ℕ). length x ≡ p .head .steps) (p .rows) (λ i l. v .steps i (omega (arith, v .carts)))
+    sizes = all-of (λ (x : List ℕ). length x ≡ p .head .steps) [] (p .rows) (λ i l. v .steps i (omega (arith, v .carts)))
 
     pub stored-replaced : stored (planFile p) (rowAt (p .head .steps) c) row ≡ planFile (replaced c row p)
     stored-replaced = row-stored p (v .head .some) sizes c row (omega (arith, w .cart, v .carts)) (w .fits .size)
@@ -120,7 +120,7 @@ module _ (floor : List ℕ) (f : Floor) (p : Numbers) (c : ℕ) (row : List ℕ)
     reads-replaced few = file-reads f (replaced c row p) few valid-replaced
 
 -- and what is enough for it
-pub accepted-row : (floor : List ℕ) (f : Floor) (p : Numbers) (c : ℕ) (row : List ℕ) → Replaces floor f p c row → replaceVerdict floor f p c row ≡ Accepted
+pub accepted-row : (floor : List ℕ) (f : Floor) (p : PlanNumbers) (c : ℕ) (row : List ℕ) → Replaces floor f p c row → replaceVerdict floor f p c row ≡ Accepted
 accepted-row floor f p c row w =
     let h = p .head in
     let fits : placesVerdict c (judgedRow row (h .steps) (f .places)) ≡ Accepted = ap (placesVerdict c) (row-accepted (h .steps) (f .places) row (w .fits)) in
@@ -132,15 +132,15 @@ module _ (floor before : List ℕ) (c : ℕ) (row : List ℕ) (v : Verdict) (aft
   refuse : Verdict → Outcome
   refuse v = unchanged v before
 
-  step : Floor → Numbers → Outcome
+  step : Floor → PlanNumbers → Outcome
   step f p = replacedIn before (p .head .steps) c row (replaceVerdict floor f p c row)
 
   -- with floor and plan read: the verdict on the replacement, and what becomes of the plan
-  verdict : (f : Floor) (p : Numbers) → ReadAs floor before f p → v ≡ replaceVerdict floor f p c row
+  verdict : (f : Floor) (p : PlanNumbers) → ReadAs floor before f p → v ≡ replaceVerdict floor f p c row
   unfolding replaceRow refuse step
   verdict f p w = g .answer ∙ ap (λ (o : Outcome). o .answer) (read-on refuse step floor before f p w)
 
-  left : (f : Floor) (p : Numbers) → ReadAs floor before f p → (b : Bool) → isAccepted v ≡ b
+  left : (f : Floor) (p : PlanNumbers) → ReadAs floor before f p → (b : Bool) → isAccepted v ≡ b
       → after ≡ cond b (stored before (rowAt (p .head .steps) c) row) before
   unfolding replaceRow refuse step
   left f p w b e =
@@ -149,14 +149,14 @@ module _ (floor before : List ℕ) (c : ℕ) (row : List ℕ) (v : Verdict) (aft
 
   kept : isAccepted v ≡ false → after ≡ before
   unfolding replaceRow refuse step
-  kept e = go (went refuse step floor before)
+  kept e = go (reading-cases refuse step floor before)
     where
-      go : Went refuse step floor before → after ≡ before
-      go (no-floor x q) = g .out ∙ ap (λ (o : Outcome). o .out) q
-      go (no-plan x q) = g .out ∙ ap (λ (o : Outcome). o .out) q
-      go (on f n w r) = left f n w false e
+      go : ReadingCases refuse step floor before → after ≡ before
+      go (floor-refused x q) = g .out ∙ ap (λ (o : Outcome). o .out) q
+      go (plan-refused x q) = g .out ∙ ap (λ (o : Outcome). o .out) q
+      go (both-read f n w r) = left f n w false e
 
-  complete : (f : Floor) (p : Numbers) → ReadAs floor before f p → AllUnending floor f p → c < f .carts
+  complete : (f : Floor) (p : PlanNumbers) → ReadAs floor before f p → AllUnending floor f p → c < f .carts
       → RowFits (p .head .steps) (f .places) row → CartUnending floor (replaced c row p) c → v ≡ Accepted
   complete f p w all there fits new =
       let d = valid f before p (w .plan-read) in
@@ -168,12 +168,12 @@ module _ (floor before : List ℕ) (c : ℕ) (row : List ℕ) (v : Verdict) (aft
   module _ (b : Bytes floor) (b′ : Bytes before) where
     new-row : v ≡ Accepted → NewRow floor before c row after
     unfolding replaceRow refuse step
-    new-row e = go (went refuse step floor before)
+    new-row e = go (reading-cases refuse step floor before)
       where
-        go : Went refuse step floor before → NewRow floor before c row after
-        go (no-floor x q) = let u = g .answer ∙ ap (λ (o : Outcome). o .answer) q in let z : _≡_ {A = ℕ} 0 1 = cc in absurd (omega arith)
-        go (no-plan x q) = let u = g .answer ∙ ap (λ (o : Outcome). o .answer) q in let z : _≡_ {A = ℕ} 0 1 = cc in absurd (omega arith)
-        go (on f n u r) =
+        go : ReadingCases refuse step floor before → NewRow floor before c row after
+        go (floor-refused x q) = let u = g .answer ∙ ap (λ (o : Outcome). o .answer) q in let z : _≡_ {A = ℕ} 0 1 = cc in absurd (omega arith)
+        go (plan-refused x q) = let u = g .answer ∙ ap (λ (o : Outcome). o .answer) q in let z : _≡_ {A = ℕ} 0 1 = cc in absurd (omega arith)
+        go (both-read f n u r) =
             let d = valid f before n (u .plan-read) in
             let few : f .carts ≤ 32 = accepts floor f b (u .floor-read) .valid .few-carts in
             let w = replaces floor f n c row (sym (verdict f n u) ∙ e) in

@@ -15,7 +15,7 @@ use Rattle.record.specs.Stored.{stored-behind}
 use Rattle.record.specs.All.{AllOf}
 use Rattle.record.specs.RoundTrip.{length-encoded}
 use Rattle.record.specs.Laid.{parts-flatten}
-use Rattle.plan.specs.Plan.{Numbers}
+use Rattle.plan.specs.Plan.{PlanNumbers}
 use Rattle.plan.specs.Numbers.{headBytes, planFile}
 use Rattle.plan.specs.RoundTrip.{length-head}
 use Rattle.edit.specs.Replaced.{replaced, rowAt}
@@ -59,7 +59,7 @@ sizes-set k [] c row a e = tt
 sizes-set k (x ∷ rows) zero row a e = (e, a .1)
 sizes-set k (x ∷ rows) (suc c) row a e = (a .0, sizes-set k rows c row (a .1) e)
 
-module _ (n : Numbers) (some : 0 < n .head .steps) (sizes : AllOf (n .head .steps) (n .rows)) (c : ℕ) (row : List ℕ) (l : c < length (n .rows))
+module _ (n : PlanNumbers) (some : 0 < n .head .steps) (sizes : AllOf (n .head .steps) (n .rows)) (c : ℕ) (row : List ℕ) (l : c < length (n .rows))
     (e : length row ≡ n .head .steps) where
   file-is : (rows : List (List ℕ)) → AllOf (n .head .steps) rows
       → planFile (record { head = n .head; rows = rows }) ≡ encoded (ofKind 4 (headBytes (n .head))) ++ layout (map (ofKind 5) rows)

@@ -9,7 +9,7 @@ ghost use Rattle.refusal.specs.Outcome.{Gives, written};
 ghost use Rattle.refusal.specs.declared.Verdict.the-variants.{Plan as AboutPlan};
 ghost use Rattle.record.specs.Buffer.{stored};
 ghost use Rattle.plan.specs.Numbers.{planFile};
-ghost use Rattle.plan.specs.Plan.{rowsIn, heldNumbers};
+ghost use Rattle.plan.specs.Plan.{blockRows, heldNumbers};
 ghost use Rattle.plan.specs.Valid.{InRange};
 ghost use Rattle.edit.specs.Moved.{turned, movedRow, movedHead, moved};
 ghost use Rattle.edit.specs.Promises.{MovedOn};
@@ -59,7 +59,7 @@ fn moved_row(row: &[u8], stem: usize, s: usize, out: &mut [u8], at: usize)
 fn moved_rows(carts: usize, h: Head, block: &[u8], s: usize, size: usize) -> [u8; 2048]
     requires { ⌜ InRange h ⌝ }
     requires { ⌜ (carts ≤ 32) × (length (now block) ≡ 2048) × (size ≡ movedHead s h .steps) ⌝ }
-    ensures { λ r. ⌜ take (carts * size) r ≡ flatten (map (movedRow (h .steps) (h .stem) s) (rowsIn carts (h .steps) (now (block .entry)))) ⌝ }
+    ensures { λ r. ⌜ take (carts * size) r ≡ flatten (map (movedRow (h .steps) (h .stem) s) (blockRows carts (h .steps) (now (block .entry)))) ⌝ }
 {
     let steps = h.steps;
     let mut rows = [0u8; 2048];

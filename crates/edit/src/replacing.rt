@@ -7,14 +7,14 @@ use refusal::Verdict;
 ghost use mathlib.Core.Path.{_≡_};
 ghost use Prim.Native.Nat.{ℕ, _<_};
 ghost use lib.ListN.{length};
-ghost use Rattle.floor.specs.Promises.{Accepts};
+ghost use Rattle.floor.specs.Promises.{AcceptedFloor};
 ghost use Rattle.plan.specs.Plan.{heldNumbers};
 ghost use Rattle.plan.specs.Valid.{InRange};
 ghost use Rattle.plan.specs.declared.RowAnswer.the-variants.{Absent};
 ghost use Rattle.row.specs.Moves.{lanesIn};
 ghost use Rattle.row.specs.Chain.{Chained};
 ghost use Rattle.edit.specs.Replaced.{placesVerdict, newRowVerdict, replaceVerdict};
-ghost use Rattle.edit.specs.Judgement.{Judged};
+ghost use Rattle.edit.specs.Judgement.{ReplacementJudged};
 ghost use Rattle.edit.specs.Promises.{RowReplaced};
 
 // A row judged on its places, as a verdict.
@@ -30,7 +30,7 @@ fn verdict_of(c: usize, a: RowAnswer) -> Verdict
 }
 
 // Judges a row for a cart of the floor.
-fn judge_fit<'a>(
+fn judge_new_row<'a>(
     s: &[u8],
     f: Floor,
     first: &'a [u16; 256],
@@ -39,7 +39,7 @@ fn judge_fit<'a>(
     c: usize,
     row: &'a [u8],
 ) -> Verdict
-    requires { ⌜ Accepts (now s) f ⌝ }
+    requires { ⌜ AcceptedFloor (now s) f ⌝ }
     requires { ⌜ Chained (lanesIn (now s)) (now first) (now next) 0 ⌝ }
     requires { ⌜ InRange h ⌝ }
     requires { ⌜ c < f .carts ⌝ }
@@ -49,11 +49,11 @@ fn judge_fit<'a>(
     if !refusal::accepts(v) {
         return v;
     }
-    moves::judge_cart(s, f, first, next, c, row, h.stem)
+    moves::judge_cart_row(s, f, first, next, c, row, h.stem)
 }
 
 // Judges the moves of a plan that is read already, and then a row for a cart.
-fn judge_after<'a>(
+fn judge_moves_and_row<'a>(
     s: &[u8],
     f: Floor,
     h: Head,
@@ -61,7 +61,7 @@ fn judge_after<'a>(
     cart: u32,
     row: &'a [u8],
 ) -> Verdict
-    requires { ⌜ Accepts (now s) f ⌝ }
+    requires { ⌜ AcceptedFloor (now s) f ⌝ }
     requires { ⌜ InRange h ⌝ }
     requires { ⌜ length (now block) ≡ 2048 ⌝ }
     ensures { λ r. ⌜ r ≡ replaceVerdict (now (s .entry)) f (heldNumbers (f .carts) h (now (block .entry))) cart (now (row .entry)) ⌝ }
@@ -76,12 +76,12 @@ fn judge_after<'a>(
     if f.carts <= cart as usize {
         return Verdict::Plan(refusal::refuse(19, cart, 0));
     }
-    judge_fit(s, f, &first, &next, h, cart as usize, row)
+    judge_new_row(s, f, &first, &next, h, cart as usize, row)
 }
 
 // Judges a replacement. It changes nothing.
 fn judge(floor: &[u8], plan: &[u8], cart: u32, row: &[u8]) -> Replacement
-    ensures { λ r. ⌜ Judged (now (floor .entry)) (now (plan .entry)) cart (now (row .entry)) r ⌝ }
+    ensures { λ r. ⌜ ReplacementJudged (now (floor .entry)) (now (plan .entry)) cart (now (row .entry)) r ⌝ }
 {
     let r = plan::read(floor, plan);
     let v = r.verdict;
@@ -91,7 +91,7 @@ fn judge(floor: &[u8], plan: &[u8], cart: u32, row: &[u8]) -> Replacement
     let p = r.plan;
     let h = p.head;
     let block = p.block;
-    let verdict = judge_after(floor, r.floor, h, &block, cart, row);
+    let verdict = judge_moves_and_row(floor, r.floor, h, &block, cart, row);
     Replacement {
         verdict,
         at: 10 + cart as usize * (4 + h.steps) + 4,

@@ -14,8 +14,8 @@ use Rattle.record.specs.Opened.{opened, found-end, found-cut}
 use Rattle.record.specs.declared.Found.the-variants.{End, Cut, Whole}
 use Rattle.floor.specs.Floor.{kindOf, judged, onward, walk, atEnd, readOn, emptyFloor, readFloor}
 use Rattle.floor.specs.declared.Floor.{Floor}
-use Rattle.floor.specs.declared.Judged.{Judged}
-use Rattle.floor.specs.declared.Judged.the-variants.{Good, Fault}
+use Rattle.floor.specs.declared.RecordAnswer.{RecordAnswer}
+use Rattle.floor.specs.declared.RecordAnswer.the-variants.{Good, Fault}
 use Rattle.floor.specs.declared.Walked.the-variants.{At}
 use Rattle.floor.specs.declared.FloorAnswer.the-variants.{Refused}
 
@@ -41,13 +41,13 @@ module _ (s : List ℕ) (f : Floor) (at : ℕ) where
     body = take (e - a) (drop a s)
 
     -- by how the record is judged
-    by : (j : Judged) → judged f (kindOf k) body ≡ j
+    by : (j : RecordAnswer) → judged f (kindOf k) body ≡ j
         → readOn f at (recordsIn (drop at s)) ≡ atEnd (onward j at (λ g. walk g (at + 4 + length body) (recordsIn (drop e s) .records)))
         (recordsIn (drop e s) .cut)
     unfolding walk
     by j q =
         ap (readOn f at) (opened s at k a e found .rest)
-        ∙ ap (λ (j : Judged). atEnd (onward j at (λ g. walk g (at + 4 + length body) (recordsIn (drop e s) .records))) (recordsIn (drop e s) .cut)) q
+        ∙ ap (λ (j : RecordAnswer). atEnd (onward j at (λ g. walk g (at + 4 + length body) (recordsIn (drop e s) .records))) (recordsIn (drop e s) .cut)) q
 
     pub at-fault : (n : ℕ) → judged f (kindOf k) body ≡ Fault n → readOn f at (recordsIn (drop at s)) ≡ Refused (atOffset n at)
     at-fault n q = by (Fault n) q

@@ -8,7 +8,7 @@ use Rattle.record.specs.Record.{layout}
 use Rattle.record.specs.Buffer.{stored}
 use Rattle.record.specs.Stored.{stored-more, stored-front}
 use Rattle.record.specs.Laid.{layout-append}
-use Rattle.floor.specs.Numbers.{Numbers, placeRecords, laneRecords, cartRecords, floorBytes}
+use Rattle.floor.specs.Numbers.{FloorNumbers, placeRecords, laneRecords, cartRecords, floorBytes}
 use Rattle.floor.specs.Walk.{length-three}
 
 three-stored : (out p l c : List ℕ) → length p + (length l + length c) ≤ length out
@@ -20,7 +20,7 @@ three-stored out p l c h =
     let far : length p + length l ≡ 0 + length (p ++ l) = omega (arith, length-append p l) in
     ap₂ (λ (x : List ℕ) (k : ℕ). stored x k c) two far ∙ stored-more out 0 (p ++ l) c (omega (arith, length-append p l))
 
-module _ (n : Numbers) (out : List ℕ) (room : length (floorBytes n) ≤ length out) where
+module _ (n : FloorNumbers) (out : List ℕ) (room : length (floorBytes n) ≤ length out) where
   abbrev p : List ℕ
   p = layout (placeRecords n)
 

@@ -10,8 +10,8 @@ use Rattle.record.specs.Fuel.{parts-none}
 use Rattle.record.specs.Laid.{PartAt}
 use Rattle.floor.specs.Floor.{kindOf, judged, onward, walk}
 use Rattle.floor.specs.declared.Floor.{Floor}
-use Rattle.floor.specs.declared.Judged.{Judged}
-use Rattle.floor.specs.declared.Judged.the-variants.{Good, Fault}
+use Rattle.floor.specs.declared.RecordAnswer.{RecordAnswer}
+use Rattle.floor.specs.declared.RecordAnswer.the-variants.{Good, Fault}
 use Rattle.floor.specs.declared.Walked.{Walked}
 use Rattle.floor.specs.declared.Walked.the-variants.{At, Stopped}
 
@@ -25,13 +25,13 @@ all-walked k size l g next i h =
     ap (λ (x : List (List ℕ)). walk g next (map (ofKind k) x)) (ap (parts size) (drop-of-length-le l h) ∙ parts-none size)
 
 module _ (k size : ℕ) (l : List ℕ) (g : Floor) (next i end : ℕ) (p : PartAt size l i end) where
-  by : (j : Judged) → judged g (kindOf k) (take (end - i) (drop i l)) ≡ j
+  by : (j : RecordAnswer) → judged g (kindOf k) (take (end - i) (drop i l)) ≡ j
       → walkFrom k size l g next i ≡ onward j next (λ h. walkFrom k size l h (next + 4 + (end - i)) end)
   unfolding walk
   by j q =
       ap (λ (x : List (List ℕ)). walk g next (map (ofKind k) x)) (p .step)
       ∙ ap (λ (n : ℕ). onward (judged g (kindOf k) (take (end - i) (drop i l))) next (λ h. walkFrom k size l h (next + 4 + n) end)) (p .size-is)
-      ∙ ap (λ (j : Judged). onward j next (λ h. walkFrom k size l h (next + 4 + (end - i)) end)) q
+      ∙ ap (λ (j : RecordAnswer). onward j next (λ h. walkFrom k size l h (next + 4 + (end - i)) end)) q
 
   pub walk-good : (h : Floor) → judged g (kindOf k) (take (end - i) (drop i l)) ≡ Good h
       → walkFrom k size l g next i ≡ walkFrom k size l h (next + 4 + (end - i)) end

@@ -1,4 +1,4 @@
--- Numbers of the table are accepted: what reading accepts is exactly what is valid.
+-- FloorNumbers of the table are accepted: what reading accepts is exactly what is valid.
 use Prim.Native.Nat.{ℕ, _+_, _*_, _≤_, _<_}
 use native.Mathlib.Nat.{add-zero}
 use native.Mathlib.Omega.{arith}
@@ -11,14 +11,14 @@ use Rattle.record.specs.Parts.{parts, ofKind}
 use Rattle.record.specs.All.{All, AllOf}
 use Rattle.record.specs.Laid.{whole-parts, field-of}
 use Rattle.floor.specs.Floor.{lane, cart, judged, onward, walk, atEnd, emptyFloor, readFloor}
-use Rattle.floor.specs.Numbers.{Numbers, floorBytes, laneRecords, cartRecords, placeRecords}
+use Rattle.floor.specs.Numbers.{FloorNumbers, floorBytes, laneRecords, cartRecords, placeRecords}
 use Rattle.floor.specs.Walked.{walkOn}
-use Rattle.floor.specs.Valid.{Valid}
+use Rattle.floor.specs.Valid.{ValidFloor}
 use Rattle.floor.specs.Sorted.{LaneOk, CartOk}
 use Rattle.floor.specs.Walk.{onlyPlaces, places-fit, length-floor, read-numbers}
 use Rattle.floor.specs.declared.Floor.{Floor}
-use Rattle.floor.specs.declared.Judged.{Judged}
-use Rattle.floor.specs.declared.Judged.the-variants.{Good}
+use Rattle.floor.specs.declared.RecordAnswer.{RecordAnswer}
+use Rattle.floor.specs.declared.RecordAnswer.the-variants.{Good}
 use Rattle.floor.specs.declared.Walked.{Walked}
 use Rattle.floor.specs.declared.Walked.the-variants.{At}
 use Rattle.floor.specs.declared.FloorAnswer.the-variants.{Read}
@@ -45,7 +45,7 @@ lanes-fit (x ∷ xs) p l at h s o =
     let r = lanes-fit xs p (l + 1) (at + 4 + length x) (omega arith) (s .1) (o .1) in
     let e : l + 1 + length xs ≡ l + length (x ∷ xs) = omega arith in (
       r .0,
-      ap (λ (j : Judged). onward j at (λ g. walk g (at + 4 + length x) (map (ofKind 2) xs))) (one-lane p l x (omega arith) (s .0) (o .0))
+      ap (λ (j : RecordAnswer). onward j at (λ g. walk g (at + 4 + length x) (map (ofKind 2) xs))) (one-lane p l x (omega arith) (s .0) (o .0))
           ∙ r .1 ∙ ap (λ (k : ℕ). At (counts p k 0) (r .0)) e,
     )
 
@@ -57,11 +57,11 @@ carts-fit (x ∷ xs) p l c at h s o =
     let r = carts-fit xs p l (c + 1) (at + 4 + length x) (omega arith) (s .1) (o .1) in
     let e : c + 1 + length xs ≡ c + length (x ∷ xs) = omega arith in (
       r .0,
-      ap (λ (j : Judged). onward j at (λ g. walk g (at + 4 + length x) (map (ofKind 3) xs))) (one-cart p l c x (omega arith) (s .0) (o .0))
+      ap (λ (j : RecordAnswer). onward j at (λ g. walk g (at + 4 + length x) (map (ofKind 3) xs))) (one-cart p l c x (omega arith) (s .0) (o .0))
           ∙ r .1 ∙ ap (λ (k : ℕ). At (counts p l k) (r .0)) e,
     )
 
-module _ (n : Numbers) (f : Floor) (v : Valid n f) where
+module _ (n : FloorNumbers) (f : Floor) (v : ValidFloor n f) where
   -- lanes and carts one by one
   lane-ok : (j : ℕ) → j < f .lanes → LaneOk (f .places) (take 3 (drop (3 * j) (n .lanes)))
   lane-ok j l = (

@@ -9,8 +9,8 @@ use Rattle.refusal.specs.declared.Verdict.{Verdict}
 use Rattle.refusal.specs.declared.Verdict.the-variants.{Accepted, Floor as AboutFloor}
 use Rattle.record.specs.Record.{Record, Split, recordsIn}
 use Rattle.floor.specs.declared.Floor.{Floor}
-use Rattle.floor.specs.declared.Judged.{Judged}
-use Rattle.floor.specs.declared.Judged.the-variants.{Good, Fault}
+use Rattle.floor.specs.declared.RecordAnswer.{RecordAnswer}
+use Rattle.floor.specs.declared.RecordAnswer.the-variants.{Good, Fault}
 use Rattle.floor.specs.declared.Walked.{Walked}
 use Rattle.floor.specs.declared.Walked.the-variants.{At, Stopped}
 use Rattle.floor.specs.declared.FloorAnswer.{FloorAnswer}
@@ -64,15 +64,15 @@ counted f cart = record { places = f .places; lanes = f .lanes; carts = f .carts
 counted f unknown = f
 
 -- a record refused, or counted in
-abbrev pub judgedBy : ℕ → Floor → Judged
+abbrev pub judgedBy : ℕ → Floor → RecordAnswer
 judgedBy zero g = Good g
 judgedBy (suc n) g = Fault (suc n)
 
-unfoldable pub judged : Floor → Kind → List ℕ → Judged
+unfoldable pub judged : Floor → Kind → List ℕ → RecordAnswer
 judged f k body = judgedBy (faultOf f k body) (counted f k)
 
 -- on with the floor that a record gives, or a stop at its offset
-abbrev pub onward : Judged → ℕ → (Floor → Walked) → Walked
+abbrev pub onward : RecordAnswer → ℕ → (Floor → Walked) → Walked
 onward (Good g) at next = next g
 onward (Fault n) at next = Stopped (atOffset n at)
 

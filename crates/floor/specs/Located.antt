@@ -15,9 +15,9 @@ use Rattle.record.specs.RoundTrip.{length-encoded, layout-records}
 use Rattle.floor.specs.Floor.{readFloor}
 use Rattle.floor.specs.Numbers.{bodiesOf, numbersOf, placeAt, laneAt, cartAt, bodyAt}
 use Rattle.floor.specs.Sorted.{Sorted, LaneOk, CartOk}
-use Rattle.floor.specs.Valid.{Valid}
+use Rattle.floor.specs.Valid.{ValidFloor}
 use Rattle.floor.specs.RoundTrip.{whole, accepted-sorted, accepted-within, bytes-back}
-use Rattle.floor.specs.Promises.{Accepts}
+use Rattle.floor.specs.Promises.{AcceptedFloor}
 use Rattle.floor.specs.declared.Floor.{Floor}
 use Rattle.floor.specs.declared.FloorAnswer.the-variants.{Read}
 
@@ -128,12 +128,12 @@ module _ (s : List ℕ) (f : Floor) (b : Bytes s) (e : readFloor s ≡ Read f) w
   cart-is n k l m = one-of 2 carts n k (ordered .cart-sizes) (omega (arith, ordered .carts)) m
 
   lane-ok : (j : ℕ) → j < f .lanes → LaneOk (f .places) (getD lanes j [])
-  lane-ok j l = each (LaneOk (f .places)) lanes j (ordered .lanes-ok) (omega (arith, ordered .lanes))
+  lane-ok j l = each (LaneOk (f .places)) [] lanes j (ordered .lanes-ok) (omega (arith, ordered .lanes))
 
   cart-ok : (n : ℕ) → n < f .carts → CartOk (f .places) (getD carts n [])
-  cart-ok n l = each (CartOk (f .places)) carts n (ordered .carts-ok) (omega (arith, ordered .carts))
+  cart-ok n l = each (CartOk (f .places)) [] carts n (ordered .carts-ok) (omega (arith, ordered .carts))
 
-  valid : Valid (numbersOf s) f
+  valid : ValidFloor (numbersOf s) f
   valid =
       let w = whole s f e in
       let m = accepted-within s f e in
@@ -154,5 +154,5 @@ module _ (s : List ℕ) (f : Floor) (b : Bytes s) (e : readFloor s ≡ Read f) w
         cart-start = λ n l. rw (cart-is n 1 l (omega arith)) (cart-ok n l .1);
       }
 
-  pub accepts : Accepts s f
+  pub accepts : AcceptedFloor s f
   accepts = record { valid = valid; writes-back = bytes-back s f b e; place = place-located; lane = lane-located; cart = cart-located }

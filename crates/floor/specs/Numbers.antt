@@ -15,13 +15,13 @@ use Rattle.floor.specs.declared.FloorAnswer.{FloorAnswer}
 use Rattle.floor.specs.declared.FloorAnswer.the-variants.{Read, Refused}
 
 -- "Places and carts are numbered from 0 in file order": the marks of each place; from, to and classes of each lane; class and start of each cart
-pub record Numbers : Type 0 where
+pub record FloorNumbers : Type 0 where
   pub places : List ℕ
   pub lanes : List ℕ
   pub carts : List ℕ
 
 -- the three lists that a caller lends
-abbrev pub numbers : List ℕ → List ℕ → List ℕ → Numbers
+abbrev pub numbers : List ℕ → List ℕ → List ℕ → FloorNumbers
 numbers places lanes carts = record { places = places; lanes = lanes; carts = carts }
 
 -- "4 bytes: one bit for each mark m0 (lowest) to m31"
@@ -29,19 +29,19 @@ abbrev pub placeRecord : ℕ → Record
 placeRecord marks = ofKind 1 (bytes 4 marks)
 
 -- the numbers laid out as records: a lane to each three bytes, a cart to each two; bytes left over are a record of wrong length
-abbrev pub placeRecords : Numbers → List Record
+abbrev pub placeRecords : FloorNumbers → List Record
 placeRecords n = map placeRecord (n .places)
 
-abbrev pub laneRecords : Numbers → List Record
+abbrev pub laneRecords : FloorNumbers → List Record
 laneRecords n = map (ofKind 2) (parts 3 (n .lanes))
 
-abbrev pub cartRecords : Numbers → List Record
+abbrev pub cartRecords : FloorNumbers → List Record
 cartRecords n = map (ofKind 3) (parts 2 (n .carts))
 
-abbrev pub floorRecords : Numbers → List Record
+abbrev pub floorRecords : FloorNumbers → List Record
 floorRecords n = placeRecords n ++ (laneRecords n ++ cartRecords n)
 
-abbrev pub floorBytes : Numbers → List ℕ
+abbrev pub floorBytes : FloorNumbers → List ℕ
 floorBytes n = layout (floorRecords n)
 
 -- the bodies of the records of one kind, in file order
@@ -50,10 +50,10 @@ bodiesOf k [] = []
 bodiesOf k (r ∷ rs) = cond (eqb (r .kind) k) (r .body ∷ bodiesOf k rs) (bodiesOf k rs)
 
 -- the numbers that a file holds
-abbrev pub numbersIn : List Record → Numbers
+abbrev pub numbersIn : List Record → FloorNumbers
 numbersIn rs = record { places = map value (bodiesOf 1 rs); lanes = flatten (bodiesOf 2 rs); carts = flatten (bodiesOf 3 rs) }
 
-abbrev pub numbersOf : List ℕ → Numbers
+abbrev pub numbersOf : List ℕ → FloorNumbers
 numbersOf s = numbersIn (recordsIn s .records)
 
 -- the offset of a place's, a lane's and a cart's record
@@ -74,10 +74,10 @@ bodyAt size at s = take size (drop (at + 4) s)
 abbrev pub Words : List ℕ → Type 0
 Words l = (i : ℕ) → getD l i 0 < 2 ^ 32
 
--- "Numbers that no file could give are refused as reading their file would be (fields are no wider than the file's), then 18 as below"
+-- "FloorNumbers that no file could give are refused as reading their file would be (fields are no wider than the file's), then 18 as below"
 abbrev pub byReading : FloorAnswer → List ℕ → List ℕ → Outcome
 byReading (Refused r) file out = unchanged (AboutFloor r) out
 byReading (Read f) file out = written AboutFloor file out
 
-unfoldable pub writeFloor : Numbers → List ℕ → Outcome
+unfoldable pub writeFloor : FloorNumbers → List ℕ → Outcome
 writeFloor n out = byReading (readFloor (floorBytes n)) (floorBytes n) out

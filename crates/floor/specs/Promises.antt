@@ -8,15 +8,15 @@ use Rattle.refusal.specs.Outcome.{Gives, written}
 use Rattle.refusal.specs.declared.Verdict.{Verdict}
 use Rattle.refusal.specs.declared.Verdict.the-variants.{Written, Floor as AboutFloor}
 use Rattle.floor.specs.Floor.{readFloor}
-use Rattle.floor.specs.Numbers.{Numbers, floorBytes, numbersOf, placeAt, laneAt, cartAt, bodyAt, writeFloor}
-use Rattle.floor.specs.Valid.{Valid}
+use Rattle.floor.specs.Numbers.{FloorNumbers, floorBytes, numbersOf, placeAt, laneAt, cartAt, bodyAt, writeFloor}
+use Rattle.floor.specs.Valid.{ValidFloor}
 use Rattle.floor.specs.declared.Floor.{Floor}
 use Rattle.floor.specs.declared.FloorAnswer.{FloorAnswer}
 use Rattle.floor.specs.declared.FloorAnswer.the-variants.{Read}
 
 -- an accepted floor: its numbers are those of the table, they write back as the same bytes, and they lie at fixed offsets
-pub record Accepts (s : List ℕ) (f : Floor) : Type 0 where
-  pub valid : Valid (numbersOf s) f
+pub record AcceptedFloor (s : List ℕ) (f : Floor) : Type 0 where
+  pub valid : ValidFloor (numbersOf s) f
   pub writes-back : floorBytes (numbersOf s) ≡ s
   pub place : (i : ℕ) → i < f .places → value (bodyAt 4 (placeAt i) s) ≡ getD (numbersOf s .places) i 0
   pub lane : (j : ℕ) → j < f .lanes → bodyAt 3 (laneAt f j) s ≡ take 3 (drop (3 * j) (numbersOf s .lanes))
@@ -26,12 +26,12 @@ pub record FloorRead (s : List ℕ) (r : FloorAnswer) : Type 0 where
   -- the answer, for every file
   pub answer : r ≡ readFloor s
   -- "floor and plan files read and write back to the same bytes"
-  pub accepted : (f : Floor) → r ≡ Read f → Accepts s f
+  pub accepted : (f : Floor) → r ≡ Read f → AcceptedFloor s f
 
-pub record FloorWritten (n : Numbers) (before : List ℕ) (v : Verdict) (after : List ℕ) : Type 0 where
+pub record FloorWritten (n : FloorNumbers) (before : List ℕ) (v : Verdict) (after : List ℕ) : Type 0 where
   -- the answer and every byte of the buffer, for all numbers
   pub outcome : Gives (writeFloor n before) v after
   -- numbers of the table are refused only for want of room
-  pub complete : (f : Floor) → Valid n f → Gives (written AboutFloor (floorBytes n) before) v after
+  pub complete : (f : Floor) → ValidFloor n f → Gives (written AboutFloor (floorBytes n) before) v after
   -- "What is written reads back as the same numbers."
   pub reads-back : (k : ℕ) → v ≡ Written k → (f : Floor) × (readFloor (take k after) ≡ Read f) × (numbersOf (take k after) ≡ n)

@@ -21,7 +21,7 @@ use Rattle.refusal.specs.declared.Refusal.{Refusal}
 use Rattle.refusal.specs.declared.Verdict.{Verdict}
 use Rattle.refusal.specs.declared.Verdict.the-variants.{Written, Floor as AboutFloor}
 use Rattle.floor.specs.Floor.{walk, atEnd, emptyFloor, readOn, readFloor}
-use Rattle.floor.specs.Numbers.{Numbers, Words, placeRecord, floorRecords, floorBytes, bodiesOf, numbersIn, numbersOf, byReading, writeFloor}
+use Rattle.floor.specs.Numbers.{FloorNumbers, Words, placeRecord, floorRecords, floorBytes, bodiesOf, numbersIn, numbersOf, byReading, writeFloor}
 use Rattle.floor.specs.Sorted.{Sorted, Within, sorted}
 use Rattle.floor.specs.declared.Floor.{Floor}
 use Rattle.floor.specs.declared.Walked.{Walked}
@@ -34,7 +34,7 @@ places-encodable : (ms : List ℕ) → AllEncodable (map placeRecord ms)
 places-encodable [] = tt
 places-encodable (m ∷ ms) = (record { kind = omega arith; size = omega (arith, length-bytes 4 m) }, places-encodable ms)
 
-pub floor-encodable : (n : Numbers) → AllEncodable (floorRecords n)
+pub floor-encodable : (n : FloorNumbers) → AllEncodable (floorRecords n)
 floor-encodable n =
     encodable-append (map placeRecord (n .places)) _ (places-encodable (n .places))
     (encodable-append (map (ofKind 2) (parts 3 (n .lanes))) _ (parts-encodable 2 3 (n .lanes) (omega arith) (omega arith) (omega arith))
@@ -86,7 +86,7 @@ module _ (a b c : List (List ℕ)) where
   third = of-three 3 [] [] c (bodies-other 3 1 a refl) (bodies-other 3 2 b refl) (bodies-own 3 c)
 
 same : {a b c x y z : List ℕ} → a ≡ x → b ≡ y → c ≡ z
-    → _≡_ {A = Numbers} (record { places = a; lanes = b; carts = c }) (record { places = x; lanes = y; carts = z })
+    → _≡_ {A = FloorNumbers} (record { places = a; lanes = b; carts = c }) (record { places = x; lanes = y; carts = z })
 same {c = c} {x = x} {y = y} p q r =
     ap₂ (λ (a b : List ℕ). record { places = a; lanes = b; carts = c }) p q ∙ ap (λ (c : List ℕ). record { places = x; lanes = y; carts = c }) r
 
@@ -99,7 +99,7 @@ values-back [] w = refl
 values-back (m ∷ ms) w = ap₂ _∷_ (value-bytes 4 m (w 0)) (values-back ms (λ i. w (suc i)))
 
 -- the numbers are found again among their records, and so in their bytes
-numbers-back : (n : Numbers) → Words (n .places) → numbersIn (floorRecords n) ≡ n
+numbers-back : (n : FloorNumbers) → Words (n .places) → numbersIn (floorRecords n) ≡ n
 numbers-back n w =
     let a = map (bytes 4) (n .places) in
     let b = parts 3 (n .lanes) in
@@ -110,7 +110,7 @@ numbers-back n w =
     (ap flatten (second a b c) ∙ flatten-parts 3 (n .lanes) (omega arith))
     (ap flatten (third a b c) ∙ flatten-parts 2 (n .carts) (omega arith))
 
-pub numbers-written : (n : Numbers) → Words (n .places) → numbersOf (floorBytes n) ≡ n
+pub numbers-written : (n : FloorNumbers) → Words (n .places) → numbersOf (floorBytes n) ≡ n
 numbers-written n w = ap (λ (x : Split). numbersIn (x .records)) (records-layout (floorRecords n) (floor-encodable n)) ∙ numbers-back n w
 
 -- an accepted file is walked to its end, and is not cut short
@@ -185,7 +185,7 @@ bytes-back s f b e =
 about-floor : (r : Refusal) (k : ℕ) → AboutFloor r ≡ Written k → ⊥
 about-floor r k e = let z : _≡_ {A = ℕ} 0 1 = cc in omega arith
 
-pub reads-back : (n : Numbers) (before : List ℕ) (v : Verdict) (after : List ℕ) → Words (n .places) → Gives (writeFloor n before) v after
+pub reads-back : (n : FloorNumbers) (before : List ℕ) (v : Verdict) (after : List ℕ) → Words (n .places) → Gives (writeFloor n before) v after
     → (k : ℕ) → v ≡ Written k → (f : Floor) × (readFloor (take k after) ≡ Read f) × (numbersOf (take k after) ≡ n)
 unfolding writeFloor
 reads-back n before v after w g k e = go (readFloor (floorBytes n)) refl g

@@ -14,8 +14,8 @@ use Rattle.record.specs.All.{All, AllOf}
 use Rattle.floor.specs.Floor.{Kind, place, lane, cart, unknown, kindOf, outOfPlace, sizeOf, full, badField, faultOf, counted, judgedBy, judged, onward, walk}
 use Rattle.floor.specs.Numbers.{bodiesOf}
 use Rattle.floor.specs.declared.Floor.{Floor}
-use Rattle.floor.specs.declared.Judged.{Judged}
-use Rattle.floor.specs.declared.Judged.the-variants.{Good, Fault}
+use Rattle.floor.specs.declared.RecordAnswer.{RecordAnswer}
+use Rattle.floor.specs.declared.RecordAnswer.the-variants.{Good, Fault}
 use Rattle.floor.specs.declared.Walked.the-variants.{At}
 
 -- a record that is counted in passed every test
@@ -203,7 +203,7 @@ sorted [] f at g n e =
     }
 sorted (r ∷ rs) f at g n e = go (judged f (kindOf (r .kind)) (r .body)) refl (λ h. sorted rs h (at + 4 + length (r .body)) g n) e
   where
-    go : (j : Judged) → judged f (kindOf (r .kind)) (r .body) ≡ j
+    go : (j : RecordAnswer) → judged f (kindOf (r .kind)) (r .body) ≡ j
         → ((h : Floor) → walk h (at + 4 + length (r .body)) rs ≡ At g n → Sorted h g rs)
         → onward j at (λ h. walk h (at + 4 + length (r .body)) rs) ≡ At g n → Sorted f g (r ∷ rs)
     go (Good h) q ih e = by-kind r rs f h g q (ih h e) _ _ _ refl refl refl

@@ -2,10 +2,10 @@
 use Prim.Native.Nat.{ℕ, _+_, _*_, _≤_, _<_}
 use mathlib.Core.Path.{_≡_}
 use lib.ListN.{length, getD}
-use Rattle.floor.specs.Numbers.{Numbers}
+use Rattle.floor.specs.Numbers.{FloorNumbers}
 use Rattle.floor.specs.declared.Floor.{Floor}
 
-pub record Valid (n : Numbers) (f : Floor) : Type 0 where
+pub record ValidFloor (n : FloorNumbers) (f : Floor) : Type 0 where
   -- "1 to 256" places, "0 to 1,024" lanes of three bytes, "1 to 32" carts of two
   pub places : length (n .places) ≡ f .places
   pub lanes : length (n .lanes) ≡ 3 * f .lanes

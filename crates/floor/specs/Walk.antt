@@ -16,11 +16,11 @@ use Rattle.record.specs.Parts.{partCount}
 use Rattle.record.specs.RoundTrip.{length-encoded, records-layout}
 use Rattle.floor.specs.Floor.{kindOf, place, judged, onward, walk, atEnd, readOn, emptyFloor, readFloor}
 use Rattle.floor.specs.Walked.{walkOn, UpTo}
-use Rattle.floor.specs.Numbers.{Numbers, placeRecord, placeRecords, laneRecords, cartRecords, floorRecords, floorBytes}
+use Rattle.floor.specs.Numbers.{FloorNumbers, placeRecord, placeRecords, laneRecords, cartRecords, floorRecords, floorBytes}
 use Rattle.floor.specs.RoundTrip.{floor-encodable}
 use Rattle.floor.specs.declared.Floor.{Floor}
-use Rattle.floor.specs.declared.Judged.{Judged}
-use Rattle.floor.specs.declared.Judged.the-variants.{Good, Fault}
+use Rattle.floor.specs.declared.RecordAnswer.{RecordAnswer}
+use Rattle.floor.specs.declared.RecordAnswer.the-variants.{Good, Fault}
 use Rattle.floor.specs.declared.Walked.{Walked}
 use Rattle.floor.specs.declared.Walked.the-variants.{At, Stopped}
 use Rattle.floor.specs.declared.FloorAnswer.the-variants.{Refused}
@@ -30,7 +30,7 @@ unfolding walk
 walk-append f at [] ts = refl
 walk-append f at (r ∷ rs) ts = go (judged f (kindOf (r .kind)) (r .body)) (λ g. walk-append g (at + 4 + length (r .body)) rs ts)
   where
-    go : (j : Judged) → ((g : Floor) → walk g (at + 4 + length (r .body)) (rs ++ ts) ≡ walkOn (walk g (at + 4 + length (r .body)) rs) ts)
+    go : (j : RecordAnswer) → ((g : Floor) → walk g (at + 4 + length (r .body)) (rs ++ ts) ≡ walkOn (walk g (at + 4 + length (r .body)) rs) ts)
         → onward j at (λ g. walk g (at + 4 + length (r .body)) (rs ++ ts)) ≡ walkOn (onward j at (λ g. walk g (at + 4 + length (r .body)) rs)) ts
     go (Good g) h = h g
     go (Fault n) h = refl
@@ -56,7 +56,7 @@ place-next : (m : ℕ) (ms : List ℕ) (n at : ℕ) → n < 256
 unfolding walk
 place-next m ms n at h =
     let far : at + 4 + length (bytes 4 m) ≡ at + 8 = omega (arith, length-bytes 4 m) in
-    ap (λ (j : Judged). onward j at (λ g. walk g (at + 4 + length (bytes 4 m)) (map placeRecord ms))) (one-place n m h)
+    ap (λ (j : RecordAnswer). onward j at (λ g. walk g (at + 4 + length (bytes 4 m)) (map placeRecord ms))) (one-place n m h)
     ∙ ap (λ (x : ℕ). walk (onlyPlaces (n + 1)) x (map placeRecord ms)) far
 
 -- up to 256 of them are counted; the next is one too many
@@ -85,7 +85,7 @@ places-over (m ∷ ms) n at h k = go (leb 256 n) refl (places-over ms (n + 1) (a
     go true e f =
         let l = leb-true 256 n e in
         let a : at ≡ at + 8 * (256 - n) = omega arith in
-        ap (λ (j : Judged). onward j at (λ g. walk g (at + 4 + length (bytes 4 m)) (map placeRecord ms))) (full-place n m l)
+        ap (λ (j : RecordAnswer). onward j at (λ g. walk g (at + 4 + length (bytes 4 m)) (map placeRecord ms))) (full-place n m l)
         ∙ ap (λ (x : ℕ). Stopped (atOffset 5 x)) a
     go false e f =
         let l : n < 256 = leb-false 256 n e in
@@ -98,7 +98,7 @@ unfolding walk layout
 walk-offset [] f at g n e = let q : at ≡ n = cc in omega arith
 walk-offset (r ∷ rs) f at g n e = go (judged f (kindOf (r .kind)) (r .body)) (λ h. walk-offset rs h (at + 4 + length (r .body)) g n) e
   where
-    go : (j : Judged) → ((h : Floor) → walk h (at + 4 + length (r .body)) rs ≡ At g n → n ≡ at + 4 + length (r .body) + length (layout rs))
+    go : (j : RecordAnswer) → ((h : Floor) → walk h (at + 4 + length (r .body)) rs ≡ At g n → n ≡ at + 4 + length (r .body) + length (layout rs))
         → onward j at (λ h. walk h (at + 4 + length (r .body)) rs) ≡ At g n → n ≡ at + length (encoded r ++ layout rs)
     go (Good h) ih e =
         let a = ih h e in
@@ -130,7 +130,7 @@ length-places (m ∷ ms) =
     let d = length-places ms in
     omega arith
 
-module _ (n : Numbers) where
+module _ (n : FloorNumbers) where
   pub length-three : length (floorBytes n) ≡ length (layout (placeRecords n)) + (length (layout (laneRecords n)) + length (layout (cartRecords n)))
   length-three =
       ap length

@@ -1,72 +1,72 @@
 // One record of a floor, judged behind those already counted.
 use crate::Floor;
-use crate::Judged;
+use crate::RecordAnswer;
 ghost use mathlib.Core.Path.{_≡_};
 ghost use Rattle.floor.specs.Floor.{place, lane, cart, kindOf, judged};
 
-fn judge_place(f: Floor, body: &[u8]) -> Judged
+fn judge_place(f: Floor, body: &[u8]) -> RecordAnswer
     ensures { λ r. ⌜ r ≡ judged f place (now (body .entry)) ⌝ }
 {
     if 0 < f.lanes {
-        return Judged::Fault(3);
+        return RecordAnswer::Fault(3);
     }
     if 0 < f.carts {
-        return Judged::Fault(3);
+        return RecordAnswer::Fault(3);
     }
     if body.len() != 4 {
-        return Judged::Fault(4);
+        return RecordAnswer::Fault(4);
     }
     if 256 <= f.places {
-        return Judged::Fault(5);
+        return RecordAnswer::Fault(5);
     }
-    Judged::Good(Floor {
+    RecordAnswer::Good(Floor {
         places: f.places + 1,
         lanes: f.lanes,
         carts: f.carts,
     })
 }
 
-fn judge_lane(f: Floor, body: &[u8]) -> Judged
+fn judge_lane(f: Floor, body: &[u8]) -> RecordAnswer
     ensures { λ r. ⌜ r ≡ judged f lane (now (body .entry)) ⌝ }
 {
     if 0 < f.carts {
-        return Judged::Fault(3);
+        return RecordAnswer::Fault(3);
     }
     if body.len() != 3 {
-        return Judged::Fault(4);
+        return RecordAnswer::Fault(4);
     }
     if 1024 <= f.lanes {
-        return Judged::Fault(5);
+        return RecordAnswer::Fault(5);
     }
     if f.places <= endian::wide(body[0]) {
-        return Judged::Fault(6);
+        return RecordAnswer::Fault(6);
     }
     if f.places <= endian::wide(body[1]) {
-        return Judged::Fault(6);
+        return RecordAnswer::Fault(6);
     }
-    Judged::Good(Floor {
+    RecordAnswer::Good(Floor {
         places: f.places,
         lanes: f.lanes + 1,
         carts: f.carts,
     })
 }
 
-fn judge_cart(f: Floor, body: &[u8]) -> Judged
+fn judge_cart(f: Floor, body: &[u8]) -> RecordAnswer
     ensures { λ r. ⌜ r ≡ judged f cart (now (body .entry)) ⌝ }
 {
     if body.len() != 2 {
-        return Judged::Fault(4);
+        return RecordAnswer::Fault(4);
     }
     if 32 <= f.carts {
-        return Judged::Fault(5);
+        return RecordAnswer::Fault(5);
     }
     if 7 < body[0] {
-        return Judged::Fault(6);
+        return RecordAnswer::Fault(6);
     }
     if f.places <= endian::wide(body[1]) {
-        return Judged::Fault(6);
+        return RecordAnswer::Fault(6);
     }
-    Judged::Good(Floor {
+    RecordAnswer::Good(Floor {
         places: f.places,
         lanes: f.lanes,
         carts: f.carts + 1,
@@ -74,7 +74,7 @@ fn judge_cart(f: Floor, body: &[u8]) -> Judged
 }
 
 // Judges a record by its kind and body, behind those already counted.
-pub(crate) fn judge(f: Floor, kind: u16, body: &[u8]) -> Judged
+pub(crate) fn judge(f: Floor, kind: u16, body: &[u8]) -> RecordAnswer
     ensures { λ r. ⌜ r ≡ judged f (kindOf kind) (now (body .entry)) ⌝ }
 {
     if kind == 1 {
@@ -86,5 +86,5 @@ pub(crate) fn judge(f: Floor, kind: u16, body: &[u8]) -> Judged
     if kind == 3 {
         return judge_cart(f, body);
     }
-    Judged::Fault(3)
+    RecordAnswer::Fault(3)
 }

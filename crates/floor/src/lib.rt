@@ -16,7 +16,7 @@ pub struct Floor {
 }
 
 // A record judged: the floor with it counted in, or the number of its refusal.
-pub enum Judged {
+pub enum RecordAnswer {
     Good(Floor),
     Fault(u32),
 }

@@ -1,7 +1,7 @@
 // Reading a floor.
 use crate::Floor;
 use crate::FloorAnswer;
-use crate::Judged;
+use crate::RecordAnswer;
 use crate::judging::judge;
 use record::Found;
 use refusal::Verdict;
@@ -48,11 +48,11 @@ pub fn read(s: &[u8]) -> FloorAnswer
                 return FloorAnswer::Refused(refusal::at_offset(2, at as u32));
             }
             Found::Whole { kind, start, end } => match judge(f, kind, &s[start..end]) {
-                Judged::Good(g) => {
+                RecordAnswer::Good(g) => {
                     f = g;
                     at = end;
                 }
-                Judged::Fault(n) => {
+                RecordAnswer::Fault(n) => {
                     return FloorAnswer::Refused(refusal::at_offset(n, at as u32));
                 }
             },

@@ -1,7 +1,7 @@
 // Writing a floor.
 use crate::Floor;
 use crate::FloorAnswer;
-use crate::Judged;
+use crate::RecordAnswer;
 use crate::Walked;
 use crate::judging::judge;
 use crate::reading::at_end;
@@ -33,12 +33,12 @@ fn walk_parts(f: Floor, at: usize, kind: u16, size: usize, bodies: &[u8]) -> Wal
     while i < bodies.len() {
         let end = record::part_end(i, size, bodies.len());
         match judge(g, kind, &bodies[i..end]) {
-            Judged::Good(h) => {
+            RecordAnswer::Good(h) => {
                 g = h;
                 next = next + 4 + (end - i);
                 i = end;
             }
-            Judged::Fault(n) => {
+            RecordAnswer::Fault(n) => {
                 return Walked::Stopped(refusal::at_offset(n, next as u32));
             }
         }

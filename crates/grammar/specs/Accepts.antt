@@ -8,10 +8,10 @@ use native.Mathlib.Omega.{arith}
 use lib.ListN.{length, take, drop}
 use lib.Dec.{leb, ltb, eqb}
 use borrow.Author.Tests.{ltb-false, leb-true, leb-false, eqb-true}
-use Rattle.grammar.specs.Grammar.{Form, top, Spaces, none, Number, nought, Percent, without, Rank, small, Part, word, one-small, one-until, one-and, Mark, mark, Inner, Threshold, counted, Count, count, Clause, Sheet, done, line}
+use Rattle.grammar.specs.Grammar.{Form, top, Spaces, none, Number, nought, Percent, without, Rank, small, Part, word, one-small, one-until, one-and, Mark, mark, Inner, Counted, counted, Count, count, Clause, Sheet, done, line}
 use Rattle.grammar.specs.Limits.{level, nodes, InRange, markLevel, markNodes, MarkOk, countLevel, countNodes, CountOk, most, Ranged, Fits}
-use Rattle.grammar.specs.Reader.{Got, no, bind, skip, expect, number, percent, ors, markBy, marks, inners, threshold, countBy, counts, clauses, clauseLine, lines, accepted, refused, outcome, start, readSheet}
-use Rattle.grammar.specs.Answers.{Accepted, Code, Begins, BeginsInRange, Token, Allowed, Large, OutOfRange}
+use Rattle.grammar.specs.Reader.{Got, no, bind, skip, expect, number, percent, ors, markBy, marks, inners, countEnd, countBy, counts, clauses, clauseLine, lines, accepted, refused, outcome, start, readSheet}
+use Rattle.grammar.specs.Answers.{Accepted, InSheet, Begins, BeginsInRange, Token, Allowed, Large, OutOfRange}
 use Rattle.grammar.specs.Ends.{Swap, here, there, Mode, near, whole, not-near, Keeps, keeps-near, keeps-13, keeps-14, keeps-15, swap-trans, swap-short, Framed, frame-spaces, frame-token, frame-number, frame-percent, frame, frame-mark, frame-count}
 use Rattle.grammar.specs.Each.{Each, gives, denies, each-bind, each-map, each-node, either, never, skip-spaces, each-expect, each-number, each-percent}
 use Rattle.grammar.specs.Sound.{spaces-short, Refuses, Completed, modes, Good, LeafReads, GoodLeaf, byte-refuses, true-near, true-refuses, part-short, ors-good}
@@ -77,7 +77,7 @@ unfolding inners
 inners-good l = ors-good Mark markLevel markNodes MarkOk frame-mark (λ i. marks) marks-good l
 
 ---- Counts.
-abbrev GivesCount : ℕ → ℕ → List ℕ → Threshold → ℕ → List ℕ → Type 0
+abbrev GivesCount : ℕ → ℕ → List ℕ → Counted → ℕ → List ℕ → Type 0
 GivesCount = LeafReads Count countLevel countNodes CountOk
 
 abbrev LateCount : List ℕ → ℕ → List ℕ → Type 0
@@ -117,8 +117,8 @@ module _ (a : Inner) (s s₁ s₂ s₃ s₄ : List ℕ) (o : Spaces s (91 ∷ s�
       )
 
   count-rest : (l n m : ℕ) → level Mark markLevel p ≤ l → n ≡ suc (m + nodes markNodes a) → InRange MarkOk a
-      → Each (GivesCount (suc l) n s) (LateCount s) (threshold a m s₄)
-  unfolding threshold
+      → Each (GivesCount (suc l) n s) (LateCount s) (countEnd a m s₄)
+  unfolding countEnd
   count-rest l n m h e ok =
       let h₄ = swap-short (ahead [] .1) in
       each-bind (number m s₄) _
@@ -361,7 +361,7 @@ begins-at {v = v} {cs = cs} x d = (v, cs, rw (swap-take x) d)
 near-at : {u v s t : List ℕ} {cs : List Clause} → Swap u v s t → (d : Sheet t cs) → Ranged d → BeginsInRange (take (length s - length u) s)
 near-at {v = v} {cs = cs} x d ok = let z = subst (λ (y : List ℕ). (c : Sheet y cs) × Ranged c) (sym (swap-take x)) (d, ok) in (v, cs, z .0, z .1)
 
-code-not : (n w : ℕ) → (13 ≤ n → n ≤ 15 → ⊥) → Code w → w ≡ n → ⊥
+code-not : (n w : ℕ) → (13 ≤ n → n ≤ 15 → ⊥) → InSheet w → w ≡ n → ⊥
 code-not n w h c e = ⊎-elim (λ i. h (omega arith) (omega arith)) (⊎-elim (λ i. h (omega arith) (omega arith)) (λ i. h (omega arith) (omega arith))) c
 
 append-nil : (l : List ℕ) → l ++ [] ≡ l
@@ -376,7 +376,7 @@ goes-near s w r (on x d (keeps-14 e o y) i) = near-at x d (i refl)
 goes-near s w r (on x d (keeps-15 e f o y) i) = not-near (sym e)
 goes-near s w r (full x d e f h i) = near-at x d i
 
-pub before-in-range : (s : List ℕ) (w k : ℕ) → Code w → readSheet s ≡ refused w k → (k ≤ length s) × BeginsInRange (take k s)
+pub before-in-range : (s : List ℕ) (w k : ℕ) → InSheet w → readSheet s ≡ refused w k → (k ≤ length s) × BeginsInRange (take k s)
 before-in-range s w k c e =
     let q = refusal s w k (λ z. code-not 7 w (λ i j. omega arith) c z) (λ z. code-not 12 w (λ i j. omega arith) c z) e in
     let i = q .at in
@@ -403,14 +403,14 @@ swap-any here w = (w, here)
 swap-any (there {c = c} x) w = let y = swap-any x w in (c ∷ y .0, there (y .1))
 
 -- the same number with another end, and no sheet is fine with it
-record Never (q r₁ t : List ℕ) : Type 0 where
+record NeverWith (q r₁ t : List ℕ) : Type 0 where
   byte : ℕ
   text : List ℕ
   key : (byte ≡ 109) ⊎ (byte ≡ 44)
   swap : Swap r₁ t q (byte ∷ text)
   never : Fine (byte ∷ text) → ⊥
 
-large-never : {q r r₁ : List ℕ} → Large q r r₁ → (t : List ℕ) → Never q r₁ t
+large-never : {q r r₁ : List ℕ} → Large q r r₁ → (t : List ℕ) → NeverWith q r₁ t
 large-never (Large.mark y h) t =
     let w = frame-number (y .number) t in record { byte = 109; text = w .0; key = inl refl; swap = there (w .1); never = mark-never (w .2) h }
 large-never (Large.count c y z h) t =

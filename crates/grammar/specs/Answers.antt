@@ -17,12 +17,12 @@ pub record Accepted (s : List ℕ) (cs : List Clause) : Type 0 where
   pub short : FewBytes s
 
 -- the refusals within a sheet
-abbrev pub Code : ℕ → Type 0
-Code w = (w ≡ 13) ⊎ ((w ≡ 14) ⊎ (w ≡ 15))
+abbrev pub InSheet : ℕ → Type 0
+InSheet w = (w ≡ 13) ⊎ ((w ≡ 14) ⊎ (w ≡ 15))
 
 -- 12 for what is too long, before all else; 7 for the empty sheet; else 13, 14 or 15
-abbrev pub Coded : List ℕ → ℕ → ℕ → Type 0
-Coded s w k = ((w ≡ 12) × (k ≡ 0) × (FewBytes s → ⊥)) ⊎ (((w ≡ 7) × (k ≡ 0) × (length s ≡ 0)) ⊎ Code w)
+abbrev pub RefusedBy : List ℕ → ℕ → ℕ → Type 0
+RefusedBy s w k = ((w ≡ 12) × (k ≡ 0) × (FewBytes s → ⊥)) ⊎ (((w ≡ 7) × (k ≡ 0) × (length s ≡ 0)) ⊎ InSheet w)
 
 -- a sheet of the grammar begins with this text
 abbrev pub Begins : List ℕ → Type 0

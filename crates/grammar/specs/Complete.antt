@@ -10,8 +10,8 @@ use lib.Dec.{leb, ltb, eqb}
 use borrow.Author.Tests.{ltb-true, leb-false, ne-eqb, le-ltb, lt-ltb}
 use Rattle.grammar.specs.Grammar.{Spaces, Number, nought, other, Percent, without, sign, Rank, Part, Mark, mark, Inner, counted, Count, count, Clause, Sheet, done, line}
 use Rattle.grammar.specs.Limits.{level, nodes, InRange, markLevel, markNodes, MarkOk, countLevel, countNodes, CountOk, most, Sized, Ranged, Fits, FewLines, FewBytes}
-use Rattle.grammar.specs.Reader.{pick, Got, got, no, bind, skip, isDigit, expect, number, percent, ors, markBy, marks, inners, threshold, countBy, counts, clauses, clauseLine, lines, accepted, refused, outcome, start, readSheet}
-use Rattle.grammar.specs.Answers.{Coded, Code, Never, Beyond, Token}
+use Rattle.grammar.specs.Reader.{pick, Got, got, no, bind, skip, isDigit, expect, number, percent, ors, markBy, marks, inners, countEnd, countBy, counts, clauses, clauseLine, lines, accepted, refused, outcome, start, readSheet}
+use Rattle.grammar.specs.Answers.{RefusedBy, InSheet, Never, Beyond, Token}
 use Rattle.grammar.specs.Ends.{Swap, here, there, whole, not-near, keeps-near, keeps-13, keeps-14, keeps-15, swap-short, frame-count}
 use Rattle.grammar.specs.Each.{Each, gives, denies, each-bind, each-map, each-both, each-node, either, number-keeps}
 use Rattle.grammar.specs.Sound.{spaces-short, part-short}
@@ -67,8 +67,8 @@ module _ (u u' : List ℕ) (same : SameHead u u') where
   threshold-agrees : {F G : Type 0} (a : Inner) (n m : ℕ) (s s₄' s₅' s₆' t' : List ℕ) (k : ℕ) (p : Bool) → Number s₄' s₅' k → Percent s₅' s₆' p
       → Spaces s₆' (93 ∷ t') → Close u u' same s s₄'
       → n ≡ suc (m + nodes markNodes a) → (G → k ≤ most p)
-      → Each (Match u u' same n (counted a k p) (suc (nodes markNodes a)) t') (Fault u u' same F G) (threshold a m s)
-  unfolding threshold
+      → Each (Match u u' same n (counted a k p) (suc (nodes markNodes a)) t') (Fault u u' same F G) (countEnd a m s)
+  unfolding countEnd
   threshold-agrees {F} {G} a n m s s₄' s₅' s₆' t' k p e f g close h ok =
       let c : ℕ = suc (nodes markNodes a) in
       each-bind (number m s) _
@@ -123,7 +123,7 @@ module _ (u u' : List ℕ) (same : SameHead u u') where
       (λ w.
       subst
       (λ (b : Inner). Each (Match u u' same n (counted a k p) cost t')
-      (Fault u u' same ((suc (level Mark markLevel i) ≤ suc l) × (cost ≤ n)) (InRange MarkOk a × (k ≤ most p))) (threshold b m₂ (skip r₂)))
+      (Fault u u' same ((suc (level Mark markLevel i) ≤ suc l) × (cost ≤ n)) (InRange MarkOk a × (k ≤ most p))) (countEnd b m₂ (skip r₂)))
       (sym (w .0 ∙ y .0))
       (threshold-agrees a n m₂ (skip r₂) s₄' s₅' s₆' t' k p e f g (arrive u u' same (number-head e) (w .2) d) (omega (arith, w .1, y .1)) (λ v. v .1)))
       (λ w. let o = skip-short r₂ in beyond u u' same cost (length r₂) w (threshold-short a₂ (length r₂) m₂ (skip r₂) o))
@@ -247,7 +247,7 @@ swap-on {b} {w} (there {c = c} {s = s} y) x =
     let e : suc (length s) - suc (length w) ≡ suc (length s - suc (length w)) = omega arith in
     rw e (there (swap-on y x))
 
-pub record Refused (s : List ℕ) (k w : ℕ) : Type 0 where
+pub record RefusedAt (s : List ℕ) (k w : ℕ) : Type 0 where
   -- no sheet of the grammar begins with the first k bytes and the byte at k; nor is this text one
   pub stuck : w ≡ 13 → k < length s → Never (take (suc k) s)
   pub ends : w ≡ 13 → (cs : List Clause) → Sheet s cs → ⊥
@@ -264,7 +264,7 @@ none-of s w r e i cs d =
     let z = denied y .past i in
     omega arith
 
-at-byte : (s : List ℕ) (w : ℕ) (r : List ℕ) → lines 32 s ≡ no w r → (v t : List ℕ) → Swap r v s t → (w ≡ 14 → 0 < length r) → Refused s (length s - length r) w
+at-byte : (s : List ℕ) (w : ℕ) (r : List ℕ) → lines 32 s ≡ no w r → (v t : List ℕ) → Swap r v s t → (w ≡ 14 → 0 < length r) → RefusedAt s (length s - length r) w
 at-byte s w [] e v t x f =
     record { stuck = λ i j. absurd (omega arith); ends = none-of s w [] e; over = λ i. absurd (omega (arith, f i)); there = λ i. absurd (omega (arith, f i)) }
 at-byte s w (b ∷ q) e v t x f = record {
@@ -289,16 +289,16 @@ token-some (Token.reach o) = omega arith
 token-some Token.and = omega arith
 token-some Token.or = omega arith
 
-goes-refused : (s : List ℕ) (w : ℕ) (r : List ℕ) → (w ≡ 15 → ⊥) → lines 32 s ≡ no w r → GoesOn whole 32 s w r → Refused s (length s - length r) w
+goes-refused : (s : List ℕ) (w : ℕ) (r : List ℕ) → (w ≡ 15 → ⊥) → lines 32 s ≡ no w r → GoesOn whole 32 s w r → RefusedAt s (length s - length r) w
 goes-refused s w r h e (on x d (keeps-near i) o) = not-near i
 goes-refused s w r h e (on {v = v} {s' = t} x d (keeps-13 i) a) = at-byte s w r e v t x (λ j. omega arith)
 goes-refused s w r h e (on {v = v} {s' = t} x d (keeps-14 i o y) a) = at-byte s w r e v t x (λ j. token-some o)
 goes-refused s w r h e (on x d (keeps-15 m i o y) a) = absurd (h i)
 goes-refused s w r h e (full {s' = t} x d i j k a) = at-byte s w r e [] t x (λ i. k)
 
-refused-at : (s : List ℕ) (w k : ℕ) → (w ≡ 7 → ⊥) → (w ≡ 12 → ⊥) → (w ≡ 15 → ⊥) → readSheet s ≡ refused w k → Refused s k w
+refused-at : (s : List ℕ) (w k : ℕ) → (w ≡ 7 → ⊥) → (w ≡ 12 → ⊥) → (w ≡ 15 → ⊥) → readSheet s ≡ refused w k → RefusedAt s k w
 refused-at s w k h i j e =
-    let q = refusal s w k h i e in subst (λ (n : ℕ). Refused s n w) (q .at) (goes-refused s w (q .rest) j (q .read) (q .refuses .goes whole))
+    let q = refusal s w k h i e in subst (λ (n : ℕ). RefusedAt s n w) (q .at) (goes-refused s w (q .rest) j (q .read) (q .refuses .goes whole))
 
 -- (c) the other half: no sheet of the grammar begins with the bytes up to one that is refused by 13; at the text's end, the text is none.
 pub stuck-13 : (s : List ℕ) (k : ℕ) → readSheet s ≡ refused 13 k → (k < length s → Never (take (suc k) s)) × ((cs : List Clause) → Sheet s cs → ⊥)
@@ -309,22 +309,22 @@ pub over-14 : (s : List ℕ) (k : ℕ) → readSheet s ≡ refused 14 k → (k <
 over-14 s k e = let r = refused-at s 14 k (λ z. omega arith) (λ z. omega arith) (λ z. omega arith) e in (r .there refl, r .over refl)
 
 ---- No other refusals.
-outcome-code : (len w k : ℕ) (g : Got (List Clause)) (N : ℕ) → Each (λ cs m r. Unit {0}) (λ v r. (length r ≤ N) × Code v) g
-    → outcome len g ≡ refused w k → Code w
+outcome-code : (len w k : ℕ) (g : Got (List Clause)) (N : ℕ) → Each (λ cs m r. Unit {0}) (λ v r. (length r ≤ N) × InSheet v) g
+    → outcome len g ≡ refused w k → InSheet w
 unfolding outcome
 outcome-code len w k g N (gives p) e = let z : _≡_ {A = ℕ} 0 1 = cc in absurd (omega arith)
-outcome-code len w k g N (denies {w = v} q) e = let i : v ≡ w = cc in subst Code i (q .1)
+outcome-code len w k g N (denies {w = v} q) e = let i : v ≡ w = cc in subst InSheet i (q .1)
 
-start-code : (s : List ℕ) (w k : ℕ) → start s ≡ refused w k → Coded s w k
+start-code : (s : List ℕ) (w k : ℕ) → start s ≡ refused w k → RefusedBy s w k
 unfolding start
 start-code [] w k e = let i : 7 ≡ w = cc in let j : 0 ≡ k = cc in inr (inl (sym i, sym j, refl))
 start-code (b ∷ s) w k e =
     inr (inr (outcome-code (length (b ∷ s)) w k (lines 32 (b ∷ s)) (length (b ∷ s)) (lines-short 32 (length (b ∷ s)) (b ∷ s) (omega arith)) e))
 
-pub codes : (s : List ℕ) (w k : ℕ) → readSheet s ≡ refused w k → Coded s w k
+pub codes : (s : List ℕ) (w k : ℕ) → readSheet s ≡ refused w k → RefusedBy s w k
 unfolding readSheet
 codes s w k =
-    either (λ x. x ≡ refused w k → Coded s w k) (ltb 16384 (length s)) (refused 12 0) (start s)
+    either (λ x. x ≡ refused w k → RefusedBy s w k) (ltb 16384 (length s)) (refused 12 0) (start s)
     (λ h e. let i : 12 ≡ w = cc in let j : 0 ≡ k = cc in let l = ltb-true 16384 (length s) h in inl (sym i, sym j, λ f. omega arith))
     (λ h e. start-code s w k e)
 

@@ -5,7 +5,7 @@ use mathlib.Core.Bool.{Bool}
 use mathlib.Core.List.{List, [], _∷_, _++_}
 use native.Mathlib.Omega.{arith}
 use lib.ListN.{length}
-use Rattle.grammar.specs.Grammar.{Form, Spaces, none, space, Digits, end, digit, Number, nought, other, Percent, without, sign, Rank, Part, word, parens, prefix, one-small, reach, one-until, one-and, Mark, mark, Threshold, Count, count}
+use Rattle.grammar.specs.Grammar.{Form, Spaces, none, space, Digits, end, digit, Number, nought, other, Percent, without, sign, Rank, Part, word, parens, prefix, one-small, reach, one-until, one-and, Mark, mark, Counted, Count, count}
 use Rattle.grammar.specs.Answers.{Token, Large}
 
 -- the second text is the first with its end u replaced by v
@@ -93,7 +93,7 @@ module _ {L : Type 0} (Leaf : List ℕ → List ℕ → L → Type 0) (frame-lea
 pub frame-mark : (s r : List ℕ) (k : ℕ) → Mark s r k → Framed (λ s r. Mark s r k) s r
 frame-mark s r k (mark x n) t = let b = frame-number n t in let a = frame-token x (b .0) in (a .0, swap-trans (a .1) (b .1), mark (a .2) (b .2))
 
-pub frame-count : (s r : List ℕ) (x : Threshold) → Count s r x → Framed (λ s r. Count s r x) s r
+pub frame-count : (s r : List ℕ) (x : Counted) → Count s r x → Framed (λ s r. Count s r x) s r
 frame-count s r x (count o p c d e f g) t =
     let g' = frame-token g t in
     let f' = frame-percent f (g' .0) in

@@ -7,7 +7,7 @@ use mathlib.Core.Bool.{true, false}
 use mathlib.Core.List.{List, [], _∷_, _++_}
 use Rattle.grammar.specs.Grammar.{Part, word, parens, one-small, one-until, one-and, Spaces.none, Rank, top, leaf, neg, and, or, until, Inner, counted, Count}
 use Rattle.grammar.specs.Limits.{level, countLevel}
-use Rattle.grammar.specs.Reader.{bind, node, skip, expectAt, expect, literal, digits, number, percent, chainAt, chainMore, chain, andChain, orChain, byKind, smallAt, smallOf, byOnward, untilAt, untilOf, deeper, smalls, untils, ors, markBy, marks, inners, threshold, countBy, counts, clauses, clauseLine, lines, Read, accepted, refused, outcome, start, readSheet}
+use Rattle.grammar.specs.Reader.{bind, node, skip, expectAt, expect, literal, digits, number, percent, chainAt, chainMore, chain, andChain, orChain, byKind, smallAt, smallOf, byOnward, untilAt, untilOf, deeper, smalls, untils, ors, markBy, marks, inners, countEnd, countBy, counts, clauses, clauseLine, lines, Read, accepted, refused, outcome, start, readSheet}
 
 -- a text's bytes
 abbrev bytes : String → List ℕ
@@ -23,7 +23,7 @@ times (suc k) s = bytes s ++ times k s
 reading : List ℕ → Read
 unfolding
     bind node skip expectAt expect literal digits number percent chainAt chainMore chain andChain orChain byKind smallAt smallOf byOnward untilAt untilOf deeper smalls untils ors markBy marks inners
-    threshold countBy counts clauses clauseLine lines outcome start readSheet
+    countEnd countBy counts clauses clauseLine lines outcome start readSheet
 reading s = readSheet s
 
 abbrev one : Inner → Read

@@ -4,7 +4,7 @@ use mathlib.Core.Path.{_≡_}
 use mathlib.Core.Bool.{Bool}
 use mathlib.Core.List.{List, [], _∷_, _++_}
 use lib.ListN.{getD}
-use Rattle.grammar.specs.Grammar.{Form, top, leaf, neg, and, or, next, until, release, ev, gl, Inner, Threshold, counted, Clause}
+use Rattle.grammar.specs.Grammar.{Form, top, leaf, neg, and, or, next, until, release, ev, gl, Inner, Counted, counted, Clause}
 use Rattle.grammar.specs.Limits.{nodes, markNodes, countNodes}
 
 pub data Op₁ : Type 0 where
@@ -44,7 +44,7 @@ flatMark k b = markN k ∷ []
 unfoldable pub flatInner : Inner → ℕ → List Node
 flatInner a b = flat markNodes flatMark a b
 
-unfoldable pub flatCount : Threshold → ℕ → List Node
+unfoldable pub flatCount : Counted → ℕ → List Node
 flatCount (counted a n p) b = flatInner a b ++ (countN ((b + nodes markNodes a) - 1) n p ∷ [])
 
 unfoldable pub flatClause : Clause → ℕ → List Node
@@ -70,5 +70,5 @@ module _ {L : Type 0} (Leaf : List Node → ℕ → L → Type 0) where
 abbrev pub StandsMark : List Node → ℕ → ℕ → Type 0
 StandsMark ns i k = node ns i ≡ markN k
 
-abbrev pub StandsCount : List Node → ℕ → Threshold → Type 0
+abbrev pub StandsCount : List Node → ℕ → Counted → Type 0
 StandsCount ns i (counted a n p) = (j : ℕ) × (j < i) × (node ns i ≡ countN j n p) × Stands StandsMark ns j a

@@ -10,7 +10,7 @@ use Rattle.grammar.specs.Limits.{nodes, countNodes, Fits, FewLines, FewB
 use Rattle.grammar.specs.Nodes.{Node, flatClause, Stands, StandsCount}
 use Rattle.grammar.specs.Standing.{clause-stands, clause-length}
 use Rattle.grammar.specs.Reader.{accepted, refused, readSheet}
-use Rattle.grammar.specs.Answers.{Accepted, Code, Coded, BeginsInRange, Never, Beyond, Allowed, OutOfRange}
+use Rattle.grammar.specs.Answers.{Accepted, InSheet, RefusedBy, BeginsInRange, Never, Beyond, Allowed, OutOfRange}
 use Rattle.grammar.specs.Accepts.{sound, before-in-range, allowed-14, out-15}
 use Rattle.grammar.specs.Complete.{complete, stuck-13, over-14, codes, long-12}
 
@@ -23,9 +23,9 @@ pub record Promises (s : List ℕ) : Type 0 where
   pub standing : (c : Clause) (q : List Node) → Stands StandsCount (flatClause c 0 ++ q) (nodes countNodes c - 1) c
   -- 12 for what is too long, before all else; no refusals but 7, 12, 13, 14 and 15
   pub long-12 : (FewBytes s → ⊥) → readSheet s ≡ refused 12 0
-  pub codes : (w k : ℕ) → readSheet s ≡ refused w k → Coded s w k
+  pub codes : (w k : ℕ) → readSheet s ≡ refused w k → RefusedBy s w k
   -- 13, 14 and 15: with the bytes before it a sheet of the grammar begins whose numbers are all in range
-  pub before : (w k : ℕ) → Code w → readSheet s ≡ refused w k → (k ≤ length s) × BeginsInRange (take k s)
+  pub before : (w k : ℕ) → InSheet w → readSheet s ≡ refused w k → (k ≤ length s) × BeginsInRange (take k s)
   -- 13: the first byte that no sheet of the grammar could have after the bytes before it, or the length
   pub stuck-13 : (k : ℕ) → readSheet s ≡ refused 13 k → (k < length s → Never (take (suc k) s)) × ((cs : List Clause) → Sheet s cs → ⊥)
   -- 14: a whole token that the grammar allows there, or the 33rd line; with its first byte every sheet is past the limit on levels, nodes or lines

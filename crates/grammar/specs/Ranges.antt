@@ -5,7 +5,7 @@ use mathlib.Core.Logic.{_⊎_, inl, inr, ⊎-elim}
 use mathlib.Core.Bool.{Bool, true, false}
 use mathlib.Core.List.{List, [], _∷_}
 use native.Mathlib.Omega.{arith}
-use Rattle.grammar.specs.Grammar.{Form, Spaces, none, space, Digits, end, digit, Number, nought, other, Percent, without, sign, Prefix, not, next, finally, globally, prefixByte, Reach, U, R, reachByte, Rank, Part, word, parens, prefix, one-small, reach, one-until, one-and, Mark, mark, Threshold, Count, count, Clause, Sheet, done, line}
+use Rattle.grammar.specs.Grammar.{Form, Spaces, none, space, Digits, end, digit, Number, nought, other, Percent, without, sign, Prefix, not, next, finally, globally, prefixByte, Reach, U, R, reachByte, Rank, Part, word, parens, prefix, one-small, reach, one-until, one-and, Mark, mark, Counted, Count, count, Clause, Sheet, done, line}
 use Rattle.grammar.specs.Limits.{InRange, MarkOk, CountOk, most, Ranged}
 use Rattle.grammar.specs.Reader.{skip, isDigit}
 use Rattle.grammar.specs.Ends.{Swap, here, there}
@@ -103,7 +103,7 @@ module _ (h : ℕ) (x : List ℕ) (key : (h ≡ 109) ⊎ (h ≡ 44)) where
   mark-fine : (s r : List ℕ) (k : ℕ) → Mark s r k → Plain r → k ≤ 31 → Behind s → Passes r
   mark-fine s r k (mark y n) d ok t = ⊎-elim (λ e. inr (in-mark e n d ok)) (λ t₁. inl (number-past n t₁)) (spaces-past y t)
 
-  count-fine : (s r : List ℕ) (y : Threshold) → Count s r y → Plain r → CountOk y → Behind s → Passes r
+  count-fine : (s r : List ℕ) (y : Counted) → Count s r y → Plain r → CountOk y → Behind s → Passes r
   count-fine s r y (count o p c a e f g) d ok t =
       ⊎-elim
       (λ t₁.

@@ -4,7 +4,7 @@ use mathlib.Core.Bool.{Bool, true, false, _&&_}
 use mathlib.Core.List.{List, [], _∷_}
 use lib.ListN.{length}
 use lib.Dec.{leb, ltb, eqb}
-use Rattle.grammar.specs.Grammar.{Form, top, leaf, and, or, Prefix, not, next, finally, globally, prefixed, Reach, U, R, reached, Inner, Threshold, counted, Clause}
+use Rattle.grammar.specs.Grammar.{Form, top, leaf, and, or, Prefix, not, next, finally, globally, prefixed, Reach, U, R, reached, Inner, Counted, counted, Clause}
 use Rattle.grammar.specs.Limits.{most}
 
 abbrev pub pick : {A : Type 0} → Bool → A → A → A
@@ -167,16 +167,16 @@ unfoldable pub inners : ℕ → Reader Inner
 inners l = ors (λ i. marks) l
 
 -- a number at its first byte, and the `]`
-unfoldable pub threshold : Inner → Reader Threshold
-threshold a n s = bind (number n s) (λ k m r. bind (percent m r) (λ p m₁ r₁. pick (leb k (most p)) (expect 93 (counted a k p) m₁ r₁) (no 15 s)))
+unfoldable pub countEnd : Inner → Reader Counted
+countEnd a n s = bind (number n s) (λ k m r. bind (percent m r) (λ p m₁ r₁. pick (leb k (most p)) (expect 93 (counted a k p) m₁ r₁) (no 15 s)))
 
 -- a count, at its first byte
-unfoldable pub countBy : ℕ → Bool → ℕ → ℕ → List ℕ → Got Threshold
+unfoldable pub countBy : ℕ → Bool → ℕ → ℕ → List ℕ → Got Counted
 countBy l false n b r = no 13 (b ∷ r)
 countBy zero true n b r = no 14 (b ∷ r)
-countBy (suc l) true n b r = node (b ∷ r) n (λ m. bind (bind (inners l m r) (λ a m₁ r₁. expect 44 a m₁ r₁)) (λ a m₁ r₁. threshold a m₁ (skip r₁)))
+countBy (suc l) true n b r = node (b ∷ r) n (λ m. bind (bind (inners l m r) (λ a m₁ r₁. expect 44 a m₁ r₁)) (λ a m₁ r₁. countEnd a m₁ (skip r₁)))
 
-unfoldable pub counts : ℕ → Reader Threshold
+unfoldable pub counts : ℕ → Reader Counted
 counts l n [] = no 13 []
 counts l n (b ∷ r) = countBy l (eqb b 91) n b r
 

@@ -7,32 +7,32 @@ use mathlib.Core.List.{List, [], _∷_}
 use native.Mathlib.Omega.{arith}
 use lib.ListN.{length}
 use lib.Dec.{leb, eqb}
-use Rattle.grammar.specs.Grammar.{Form, Inner, Threshold, counted}
+use Rattle.grammar.specs.Grammar.{Form, Inner, Counted, counted}
 use Rattle.grammar.specs.Limits.{most}
-use Rattle.grammar.specs.Reader.{Got, got, no, Reader, bind, node, skip, expectAt, expect, literal, isDigit, digits, number, percent, Kind, kind, Onward, stop, onward, Deeper, shut, open', chainAt, chainMore, chain, andChain, orChain, byKind, smallAt, smallOf, byOnward, untilAt, untilOf, deeper, smalls, untils, ors, markBy, marks, inners, threshold, countBy, counts, clauses, clauseLine, lines}
-use Rattle.grammar.specs.Answers.{Code}
+use Rattle.grammar.specs.Reader.{Got, got, no, Reader, bind, node, skip, expectAt, expect, literal, isDigit, digits, number, percent, Kind, kind, Onward, stop, onward, Deeper, shut, open', chainAt, chainMore, chain, andChain, orChain, byKind, smallAt, smallOf, byOnward, untilAt, untilOf, deeper, smalls, untils, ors, markBy, marks, inners, countEnd, countBy, counts, clauses, clauseLine, lines}
+use Rattle.grammar.specs.Answers.{InSheet}
 use Rattle.grammar.specs.Each.{Each, gives, denies, each-bind, each-map, each-node, either, skip-spaces}
 use Rattle.grammar.specs.Sound.{spaces-short}
 
 pub skip-short : (s : List ℕ) → length (skip s) ≤ length s
 skip-short s = spaces-short (skip-spaces s)
 
-c13 : Code 13
+c13 : InSheet 13
 c13 = inl refl
 
-c14 : Code 14
+c14 : InSheet 14
 c14 = inr (inl refl)
 
-c15 : Code 15
+c15 : InSheet 15
 c15 = inr (inr refl)
 
 -- no outcome's text is longer than N: what is left, behind spaces, and what is refused
 abbrev pub Within : {A : Type 0} → ℕ → Got A → Type 0
-Within {A} N g = Each (λ (a : A) m r. length (skip r) ≤ N) (λ w r. (length r ≤ N) × Code w) g
+Within {A} N g = Each (λ (a : A) m r. length (skip r) ≤ N) (λ w r. (length r ≤ N) × InSheet w) g
 
 -- and without the spaces
 abbrev pub Inside : {A : Type 0} → ℕ → Got A → Type 0
-Inside {A} N g = Each (λ (a : A) m r. length r ≤ N) (λ w r. (length r ≤ N) × Code w) g
+Inside {A} N g = Each (λ (a : A) m r. length r ≤ N) (λ w r. (length r ≤ N) × InSheet w) g
 
 pub inside-within : {A : Type 0} {N : ℕ} {g : Got A} → Inside N g → Within N g
 inside-within x = each-map x (λ a m r h. let i = skip-short r in omega arith) (λ w r h. h)
@@ -208,8 +208,8 @@ pub inners-short : (l : ℕ) → Shrinks (inners l)
 unfolding inners
 inners-short l = ors-short (λ i. marks) (λ i. marks-short) l
 
-pub threshold-short : (a : Inner) → Shrinks₁ (threshold a)
-unfolding threshold
+pub threshold-short : (a : Inner) → Shrinks₁ (countEnd a)
+unfolding countEnd
 threshold-short a N n s h =
     each-bind (number n s) _
     (each-map (number-short N n s h)
@@ -217,7 +217,7 @@ threshold-short a N n s h =
     each-bind (percent m r) _
     (each-map (percent-short N m r i)
     (λ p m₁ r₁ j.
-    either (λ (g : Got Threshold). Within N g) (leb k (most p)) (expect 93 (counted a k p) m₁ r₁) (no 15 s)
+    either (λ (g : Got Counted). Within N g) (leb k (most p)) (expect 93 (counted a k p) m₁ r₁) (no 15 s)
     (λ e. expect-short 93 (counted a k p) N m₁ r₁ (let z = skip-short r₁ in omega arith)) (λ e. denies {r = s} (h, c15)))
     (λ w r₁ j. j)))
     (λ w r i. i))
@@ -245,7 +245,7 @@ pub clauses-short : (l : ℕ) → Shrinks (clauses l)
 unfolding clauses
 clauses-short l = ors-short counts counts-short l
 
-pub lines-short : (k N : ℕ) (s : List ℕ) → length s ≤ N → Each (λ cs m r. Unit {0}) (λ w r. (length r ≤ N) × Code w) (lines k s)
+pub lines-short : (k N : ℕ) (s : List ℕ) → length s ≤ N → Each (λ cs m r. Unit {0}) (λ w r. (length r ≤ N) × InSheet w) (lines k s)
 unfolding lines clauseLine
 lines-short zero N [] h = gives tt
 lines-short zero N (b ∷ s) h = denies (h, c14)

@@ -5,7 +5,7 @@ use mathlib.Core.List.{List, [], _∷_, _++_, append-assoc}
 use native.Mathlib.Omega.{arith}
 use lib.ListN.{length, length-append}
 use lib.Seq.{getD-at}
-use Rattle.grammar.specs.Grammar.{Form, top, leaf, neg, and, or, next, until, release, ev, gl, Inner, Threshold, counted, Clause}
+use Rattle.grammar.specs.Grammar.{Form, top, leaf, neg, and, or, next, until, release, ev, gl, Inner, Counted, counted, Clause}
 use Rattle.grammar.specs.Limits.{nodes, markNodes, countNodes}
 use Rattle.grammar.specs.Nodes.{neg₁, next₁, ev₁, gl₁, and₂, or₂, until₂, release₂, Node, topN, markN, countN, oneN, twoN, flat, flatMark, flatInner, flatCount, flatClause, node, Stands, StandsMark, StandsCount}
 
@@ -151,16 +151,16 @@ pub inner-stands : (a : Inner) (p q : List Node) → Stands StandsMark ((p ++ fl
 unfolding flatInner
 inner-stands a p q = flat-stands markNodes flatMark StandsMark (λ k. omega arith) mark-length mark-stands a p q
 
-count-length : (x : Threshold) (b : ℕ) → length (flatCount x b) ≡ countNodes x
+count-length : (x : Counted) (b : ℕ) → length (flatCount x b) ≡ countNodes x
 unfolding flatCount flatInner
 count-length (counted a n c) b =
     one-length markNodes flatMark StandsMark (λ k. omega arith) mark-length mark-stands a b _
     (flat-length markNodes flatMark StandsMark (λ k. omega arith) mark-length mark-stands a b)
 
-count-some : (x : Threshold) → 1 ≤ countNodes x
+count-some : (x : Counted) → 1 ≤ countNodes x
 count-some (counted a n c) = omega arith
 
-count-stands : (x : Threshold) (p q : List Node) → StandsCount ((p ++ flatCount x (length p)) ++ q) ((length p + countNodes x) - 1) x
+count-stands : (x : Counted) (p q : List Node) → StandsCount ((p ++ flatCount x (length p)) ++ q) ((length p + countNodes x) - 1) x
 unfolding flatCount flatInner
 count-stands (counted a n c) p q =
     one-stands markNodes flatMark StandsMark (λ k. omega arith) mark-length mark-stands (λ j. countN j n c) a p q

@@ -15,18 +15,18 @@ unfoldable pub marksOf : List ℕ → ℕ → ℕ
 marksOf floor q = value (bodyAt 4 (placeAt q) floor)
 
 -- the place on step s of cart i: "cart n's row beginning at 64 times n"
-abbrev pub placeOn : List ℕ → ℕ → ℕ → ℕ
-placeOn block i s = getD block (64 * i + s) 0
+abbrev pub blockPlace : List ℕ → ℕ → ℕ → ℕ
+blockPlace block i s = getD block (64 * i + s) 0
 
 abbrev pub bearing : List ℕ → List ℕ → ℕ → ℕ → ℕ → Bool
-bearing floor block i s k = on (marksOf floor (placeOn block i s)) k
+bearing floor block i s k = on (marksOf floor (blockPlace block i s)) k
 
 abbrev pub rowsOf : List ℕ → List ℕ → ℕ → ℕ → ℕ → Rows
 rowsOf floor block carts h l = record { carts = carts; h = h; l = l; bears = bearing floor block }
 
 -- cart i's places have their records in the floor's bytes
 pub record OnFloor (floor block : List ℕ) (h i : ℕ) : Type 0 where
-  pub inside : (s : ℕ) → s < h → 8 * placeOn block i s + 8 ≤ length floor
+  pub inside : (s : ℕ) → s < h → 8 * blockPlace block i s + 8 ≤ length floor
 
 pub record Placed (floor block : List ℕ) (carts h : ℕ) : Type 0 where
   pub row : (i : ℕ) → i < carts → OnFloor floor block h i

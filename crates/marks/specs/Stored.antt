@@ -5,7 +5,7 @@ use mathlib.Core.List.{List}
 use lib.Bits.{bitOr}
 use lib.ListN.{getD, length}
 use Rattle.mask.specs.Mask.{on, Row}
-use Rattle.marks.specs.Bears.{marksOf, placeOn, bearing}
+use Rattle.marks.specs.Bears.{marksOf, blockPlace, bearing}
 
 -- n numbers stored from an offset on, number k with P k; the others are left alone
 pub record Stored (P : ℕ → ℕ → Type 0) (at n : ℕ) (before after : List ℕ) : Type 0 where
@@ -16,7 +16,7 @@ pub record Stored (P : ℕ → ℕ → Type 0) (at n : ℕ) (before after : List
 
 -- the word of a step: the marks of its place
 abbrev pub WordAt : List ℕ → List ℕ → ℕ → ℕ → ℕ → Type 0
-WordAt floor block i s x = x ≡ marksOf floor (placeOn block i s)
+WordAt floor block i s x = x ≡ marksOf floor (blockPlace block i s)
 
 -- the row of mark k over the words of h steps
 abbrev pub RowIn : ℕ → List ℕ → ℕ → ℕ → Type 0

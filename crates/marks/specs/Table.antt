@@ -9,8 +9,8 @@ abbrev pub markRow : List ℕ → ℕ → ℕ → ℕ
 markRow table i k = getD table (i * 32 + k) 0
 
 -- what the rules see of a table
-abbrev pub rowsIn : List ℕ → ℕ → ℕ → ℕ → Rows
-rowsIn table carts h l = record { carts = carts; h = h; l = l; bears = λ i s k. on (markRow table i k) s }
+abbrev pub tableRows : List ℕ → ℕ → ℕ → ℕ → Rows
+tableRows table carts h l = record { carts = carts; h = h; l = l; bears = λ i s k. on (markRow table i k) s }
 
 pub record Tabled (table : List ℕ) (carts h : ℕ) : Type 0 where
   pub room : carts * 32 ≤ length table

@@ -2,7 +2,7 @@
 ghost use Prim.Native.Nat.{_+_, _*_, _≤_, _<_};
 ghost use mathlib.Core.Path.{_≡_};
 ghost use lib.ListN.{length};
-ghost use Rattle.marks.specs.Bears.{marksOf, placeOn, OnFloor};
+ghost use Rattle.marks.specs.Bears.{marksOf, blockPlace, OnFloor};
 ghost use Rattle.marks.specs.Stored.{Stored, WordAt, joined};
 
 fn wide(b: u8) -> u64
@@ -26,7 +26,7 @@ fn marks_of(floor: &[u8], place: u8) -> u64
 fn place_on(block: &[u8], i: usize, s: usize) -> u8
     requires { ⌜ length (now block) ≡ 2048 ⌝ }
     requires { ⌜ (i < 32) × (s < 64) ⌝ }
-    ensures { λ r. ⌜ r ≡ placeOn (now (block .entry)) i s ⌝ }
+    ensures { λ r. ⌜ r ≡ blockPlace (now (block .entry)) i s ⌝ }
 {
     block[64 * i + s]
 }

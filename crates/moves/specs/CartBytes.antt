@@ -6,12 +6,12 @@ use mathlib.Core.List.{List}
 use lib.ListN.{getD}
 use Rattle.record.specs.Laid.{part-of, field-of}
 use Rattle.floor.specs.Numbers.{numbersOf, cartAt}
-use Rattle.floor.specs.Promises.{Accepts}
+use Rattle.floor.specs.Promises.{AcceptedFloor}
 use Rattle.floor.specs.declared.Floor.{Floor}
 use Rattle.row.specs.FloorBytes.{cart-byte}
 use Rattle.moves.specs.Carts.{classOf, startOf}
 
-module _ (s : List ℕ) (f : Floor) (w : Accepts s f) (c : ℕ) (l : c < f .carts) where
+module _ (s : List ℕ) (f : Floor) (w : AcceptedFloor s f) (c : ℕ) (l : c < f .carts) where
   pub class-at : (at : ℕ) → at ≡ f .places * 8 + f .lanes * 7 + c * 6 + 4 → classOf s c ≡ getD s at 0
   class-at at e =
       let q : cartAt f c + 4 + 0 ≡ at = omega arith in

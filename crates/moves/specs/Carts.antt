@@ -7,7 +7,7 @@ use Rattle.refusal.specs.Stages.{andThen}
 use Rattle.refusal.specs.declared.Verdict.{Verdict}
 use Rattle.refusal.specs.declared.Verdict.the-variants.{Accepted, Plan as AboutPlan}
 use Rattle.floor.specs.declared.Floor.{Floor}
-use Rattle.plan.specs.Plan.{Numbers}
+use Rattle.plan.specs.Plan.{PlanNumbers}
 use Rattle.plan.specs.After.{afterReading}
 use Rattle.row.specs.Moves.{lanesIn, cartsIn, judgedMoves}
 use Rattle.row.specs.declared.MoveAnswer.{MoveAnswer}
@@ -30,16 +30,16 @@ verdictOf c (Shut s) = AboutPlan (refused 11 c s)
 abbrev pub cartVerdict : List ℕ → ℕ → List ℕ → ℕ → ℕ → Verdict
 cartVerdict floor c row h l = verdictOf c (judgedMoves (lanesIn floor) (classOf floor c) (startOf floor c) row h l)
 
-abbrev pub rowVerdict : List ℕ → Numbers → ℕ → Verdict
+abbrev pub rowVerdict : List ℕ → PlanNumbers → ℕ → Verdict
 rowVerdict floor p c = cartVerdict floor c (getD (p .rows) c []) (p .head .steps) (p .head .stem)
 
 -- n carts from cart c on
-unfoldable pub judgedCarts : List ℕ → Numbers → ℕ → ℕ → Verdict
+unfoldable pub judgedCarts : List ℕ → PlanNumbers → ℕ → ℕ → Verdict
 judgedCarts floor p zero c = Accepted
 judgedCarts floor p (suc n) c = andThen (rowVerdict floor p c) (judgedCarts floor p n (suc c))
 
 -- all carts of the floor
-abbrev pub movesVerdict : List ℕ → Floor → Numbers → Verdict
+abbrev pub movesVerdict : List ℕ → Floor → PlanNumbers → Verdict
 movesVerdict floor f p = judgedCarts floor p (f .carts) 0
 
 -- the floor's and the plan's refusals, then the moves

@@ -6,10 +6,10 @@ use mathlib.Core.Bool.{Bool, true, false, cond}
 use mathlib.Core.List.{List}
 use Rattle.refusal.specs.Stages.{isAccepted}
 use Rattle.refusal.specs.declared.Verdict.the-variants.{Accepted}
-use Rattle.plan.specs.Plan.{Numbers}
+use Rattle.plan.specs.Plan.{PlanNumbers}
 use Rattle.moves.specs.Carts.{rowVerdict, judgedCarts}
 
-module _ (floor : List ℕ) (p : Numbers) (n : ℕ) where
+module _ (floor : List ℕ) (p : PlanNumbers) (n : ℕ) where
   -- the cart judged, by whether it is accepted
   step : (c : ℕ) (t : Bool) → c < n → isAccepted (rowVerdict floor p c) ≡ t
       → judgedCarts floor p (n - c) c ≡ cond t (judgedCarts floor p (n - suc c) (suc c)) (rowVerdict floor p c)

@@ -8,7 +8,7 @@ use Rattle.refusal.specs.Stages.{isAccepted}
 use Rattle.refusal.specs.declared.Verdict.{Verdict}
 use Rattle.refusal.specs.declared.Verdict.the-variants.{Accepted}
 use Rattle.floor.specs.declared.Floor.{Floor}
-use Rattle.plan.specs.Plan.{Numbers}
+use Rattle.plan.specs.Plan.{PlanNumbers}
 use Rattle.plan.specs.After.{ReadAs}
 use Rattle.row.specs.Moves.{lanesIn}
 use Rattle.row.specs.Meaning.{Unending, Lowest}
@@ -16,25 +16,25 @@ use Rattle.row.specs.declared.MoveAnswer.the-variants.{Shut}
 use Rattle.moves.specs.Carts.{classOf, startOf, verdictOf, rowVerdict, checkedMoves}
 
 -- cart c begins at its start, and its move at every counter is open to its class
-abbrev pub CartUnending : List ℕ → Numbers → ℕ → Type 0
+abbrev pub CartUnending : List ℕ → PlanNumbers → ℕ → Type 0
 CartUnending floor p c = Unending (lanesIn floor) (classOf floor c) (startOf floor c) (getD (p .rows) c []) (p .head .steps) (p .head .stem)
 
-abbrev pub AllUnending : List ℕ → Floor → Numbers → Type 0
+abbrev pub AllUnending : List ℕ → Floor → PlanNumbers → Type 0
 AllUnending floor f p = (c : ℕ) → c < f .carts → CartUnending floor p c
 
 -- step k is the lowest of cart c's that is left by a move that is not open
-abbrev pub LowestLeft : List ℕ → Numbers → ℕ → ℕ → Type 0
+abbrev pub LowestLeft : List ℕ → PlanNumbers → ℕ → ℕ → Type 0
 LowestLeft floor p c k = Lowest (lanesIn floor) (classOf floor c) (getD (p .rows) c []) (p .head .steps) (p .head .stem) 0 k
 
 -- floor and plan are read, and every cart's moves go on without end
 pub record Moving (floor plan : List ℕ) : Type 0 where
   pub floor-is : Floor
-  pub numbers : Numbers
+  pub numbers : PlanNumbers
   pub read : ReadAs floor plan floor-is numbers
   pub unending : AllUnending floor floor-is numbers
 
 -- a verdict that is the first cart's of those refused
-pub record FirstRefused (floor : List ℕ) (f : Floor) (p : Numbers) (v : Verdict) : Type 0 where
+pub record FirstRefused (floor : List ℕ) (f : Floor) (p : PlanNumbers) (v : Verdict) : Type 0 where
   pub cart : ℕ
   pub there : cart < f .carts
   pub refused : rowVerdict floor p cart ≡ v
@@ -49,4 +49,4 @@ pub record MovesChecked (floor plan : List ℕ) (v : Verdict) : Type 0 where
   pub sound : v ≡ Accepted → Moving floor plan
   pub complete : Moving floor plan → v ≡ Accepted
   -- "carts in order": with floor and plan read, a refusal is that of the first cart refused
-  pub first : (f : Floor) (p : Numbers) → ReadAs floor plan f p → isAccepted v ≡ false → FirstRefused floor f p v
+  pub first : (f : Floor) (p : PlanNumbers) → ReadAs floor plan f p → isAccepted v ≡ false → FirstRefused floor f p v

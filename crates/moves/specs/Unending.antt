@@ -12,10 +12,10 @@ use Rattle.refusal.specs.Codes.{codeOf}
 use Rattle.refusal.specs.declared.Verdict.{Verdict}
 use Rattle.refusal.specs.declared.Verdict.the-variants.{Accepted}
 use Rattle.floor.specs.declared.Floor.{Floor}
-use Rattle.plan.specs.Plan.{Numbers, accepted, readPlan}
+use Rattle.plan.specs.Plan.{PlanNumbers, accepted, readPlan}
 use Rattle.plan.specs.After.{ReadAs}
 use Rattle.plan.specs.RoundTrip.{valid}
-use Rattle.plan.specs.Read.{Went, no-floor, no-plan, on, went, read-on}
+use Rattle.plan.specs.Read.{ReadingCases, floor-refused, plan-refused, both-read, reading-cases, read-on}
 use Rattle.row.specs.Unending.{unending, accepts-all, refused-step}
 use Rattle.row.specs.declared.MoveAnswer.{MoveAnswer}
 use Rattle.row.specs.declared.MoveAnswer.the-variants.{Open, Elsewhere, Shut}
@@ -32,7 +32,7 @@ only-shut c k Open e = let z = ap (λ (v : Verdict). codeOf v .number) e in absu
 only-shut c k Elsewhere e = let z = ap (λ (v : Verdict). codeOf v .number) e in absurd (omega arith)
 only-shut c k (Shut s) e = ap Shut (ap (λ (v : Verdict). codeOf v .second) e)
 
-module _ (floor : List ℕ) (p : Numbers) where
+module _ (floor : List ℕ) (p : PlanNumbers) where
   -- cart c's row is not refused
   abbrev pub Passes : ℕ → Type 0
   Passes c = rowVerdict floor p c ≡ Accepted
@@ -112,22 +112,22 @@ module _ (floor : List ℕ) (p : Numbers) where
                 (only-shut (w .cart) k _ (w .refused ∙ q)) .1;
           }
 
-stem-low : (f : Floor) (plan : List ℕ) (n : Numbers) → readPlan f plan ≡ accepted n → n .head .stem < n .head .steps
+stem-low : (f : Floor) (plan : List ℕ) (n : PlanNumbers) → readPlan f plan ≡ accepted n → n .head .stem < n .head .steps
 stem-low f plan n e = valid f plan n e .head .stem
 
 -- with floor and plan read, the moves decide
-pub moves-read : (floor plan : List ℕ) (f : Floor) (p : Numbers) → ReadAs floor plan f p → checkedMoves floor plan ≡ movesVerdict floor f p
+pub moves-read : (floor plan : List ℕ) (f : Floor) (p : PlanNumbers) → ReadAs floor plan f p → checkedMoves floor plan ≡ movesVerdict floor f p
 unfolding checkedMoves
 moves-read floor plan f p w = read-on (λ v. v) (movesVerdict floor) floor plan f p w
 
 pub sound : (floor plan : List ℕ) → checkedMoves floor plan ≡ Accepted → Moving floor plan
 unfolding checkedMoves
-sound floor plan e = go (went (λ v. v) (movesVerdict floor) floor plan)
+sound floor plan e = go (reading-cases (λ v. v) (movesVerdict floor) floor plan)
   where
-    go : Went (λ (v : Verdict). v) (movesVerdict floor) floor plan → Moving floor plan
-    go (no-floor x q) = let z : _≡_ {A = ℕ} 0 1 = cc in absurd (omega arith)
-    go (no-plan x q) = let z : _≡_ {A = ℕ} 0 1 = cc in absurd (omega arith)
-    go (on f n w r) = record {
+    go : ReadingCases (λ (v : Verdict). v) (movesVerdict floor) floor plan → Moving floor plan
+    go (floor-refused x q) = let z : _≡_ {A = ℕ} 0 1 = cc in absurd (omega arith)
+    go (plan-refused x q) = let z : _≡_ {A = ℕ} 0 1 = cc in absurd (omega arith)
+    go (both-read f n w r) = record {
       floor-is = f;
       numbers = n;
       read = w;
@@ -139,7 +139,7 @@ complete floor plan m =
     moves-read floor plan (m .floor-is) (m .numbers) (m .read)
     ∙ all-accepted floor (m .numbers) (stem-low (m .floor-is) plan (m .numbers) (m .read .plan-read)) (m .floor-is) (m .unending)
 
-first : (floor plan : List ℕ) (f : Floor) (p : Numbers) → ReadAs floor plan f p → isAccepted (checkedMoves floor plan) ≡ false
+first : (floor plan : List ℕ) (f : Floor) (p : PlanNumbers) → ReadAs floor plan f p → isAccepted (checkedMoves floor plan) ≡ false
     → FirstRefused floor f p (checkedMoves floor plan)
 first floor plan f p w e =
     let q = moves-read floor plan f p w in

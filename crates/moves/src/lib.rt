@@ -6,7 +6,7 @@ use row::MoveAnswer;
 ghost use mathlib.Core.Path.{_≡_};
 ghost use Prim.Native.Nat.{ℕ, _≤_, _<_};
 ghost use lib.ListN.{length};
-ghost use Rattle.floor.specs.Promises.{Accepts};
+ghost use Rattle.floor.specs.Promises.{AcceptedFloor};
 ghost use Rattle.plan.specs.Plan.{heldNumbers};
 ghost use Rattle.row.specs.Moves.{lanesIn};
 ghost use Rattle.row.specs.Chain.{Chained};
@@ -27,7 +27,7 @@ fn verdict_of(c: usize, a: MoveAnswer) -> Verdict
 }
 
 // Judges a row as a cart's.
-pub fn judge_cart<'a>(
+pub fn judge_cart_row<'a>(
     s: &[u8],
     f: Floor,
     first: &'a [u16; 256],
@@ -36,7 +36,7 @@ pub fn judge_cart<'a>(
     row: &'a [u8],
     stem: usize,
 ) -> Verdict
-    requires { ⌜ Accepts (now s) f ⌝ }
+    requires { ⌜ AcceptedFloor (now s) f ⌝ }
     requires { ⌜ Chained (lanesIn (now s)) (now first) (now next) 0 ⌝ }
     requires { ⌜ (c < f .carts) × (stem < length (now row)) × (length (now row) ≤ 64) ⌝ }
     ensures { λ r. ⌜ r ≡ cartVerdict (now (s .entry)) c (now (row .entry)) (length (now (row .entry))) stem ⌝ }
@@ -55,7 +55,7 @@ pub fn judge_carts<'a>(
     h: Head,
     block: &'a [u8],
 ) -> Verdict
-    requires { ⌜ Accepts (now s) f ⌝ }
+    requires { ⌜ AcceptedFloor (now s) f ⌝ }
     requires { ⌜ Chained (lanesIn (now s)) (now first) (now next) 0 ⌝ }
     requires { ⌜ (h .stem < h .steps) × (h .steps ≤ 64) × (length (now block) ≡ 2048) ⌝ }
     ensures { λ r. ⌜ r ≡ judgedCarts (now (s .entry)) (heldNumbers (f .carts) h (now (block .entry))) (f .carts) 0 ⌝ }
@@ -65,7 +65,7 @@ pub fn judge_carts<'a>(
     while c < f.carts {
         let from = c * 64;
         let end = from + steps;
-        let v = judge_cart(s, f, first, next, c, &block[from..end], h.stem);
+        let v = judge_cart_row(s, f, first, next, c, &block[from..end], h.stem);
         if !refusal::accepts(v) {
             return v;
         }
@@ -76,7 +76,7 @@ pub fn judge_carts<'a>(
 
 // Judges the rows of an accepted plan.
 pub fn judge_plan(floor: &[u8], f: Floor, h: Head, block: &[u8]) -> Verdict
-    requires { ⌜ Accepts (now floor) f ⌝ }
+    requires { ⌜ AcceptedFloor (now floor) f ⌝ }
     requires { ⌜ (h .stem < h .steps) × (h .steps ≤ 64) × (length (now block) ≡ 2048) ⌝ }
     ensures { λ r. ⌜ r ≡ judgedCarts (now (floor .entry)) (heldNumbers (f .carts) h (now (block .entry))) (f .carts) 0 ⌝ }
 {

@@ -1,4 +1,4 @@
--- Numbers of the table are accepted: what reading accepts is exactly what is valid.
+-- PlanNumbers of the table are accepted: what reading accepts is exactly what is valid.
 use Prim.Native.Nat.{ℕ, suc, _+_, _*_, _≤_, _<_}
 use native.Mathlib.Nat.{suc-mul, mul-le-mul}
 use native.Mathlib.Omega.{arith}
@@ -13,9 +13,9 @@ use Rattle.record.specs.All.{All, AllOf, all-of}
 use Rattle.record.specs.Laid.{parts-flatten}
 use Rattle.record.specs.RoundTrip.{length-encoded}
 use Rattle.floor.specs.declared.Floor.{Floor}
-use Rattle.plan.specs.Plan.{Numbers, accepted, outOfRange, judgedPlaces, judgedRow, rowFaultBy, rowFault, onward, readRows, readPlan}
+use Rattle.plan.specs.Plan.{PlanNumbers, accepted, outOfRange, judgedPlaces, judgedRow, rowFaultBy, rowFault, onward, readRows, readPlan}
 use Rattle.plan.specs.Numbers.{Narrow, planBytes, planFile}
-use Rattle.plan.specs.Valid.{InRange, Valid}
+use Rattle.plan.specs.Valid.{InRange, ValidPlan}
 use Rattle.plan.specs.RoundTrip.{length-plan}
 use Rattle.plan.specs.Passed.{RowFits}
 use Rattle.plan.specs.Judged.{good-head}
@@ -72,14 +72,14 @@ length-rows k (x ∷ xs) s =
 few-rows : (k n : ℕ) → k ≤ 64 → n ≤ 32 → n * (4 + k) ≤ 32 * 68
 few-rows k n a b = mul-le-mul {n₁ = n} {m₁ = 4 + k} {m₂ = 68} b (omega arith)
 
-pub complete : (f : Floor) (h : Head) (rows : List ℕ) → f .carts ≤ 32 → Valid (record { head = h; rows = parts (h .steps) rows }) f
+pub complete : (f : Floor) (h : Head) (rows : List ℕ) → f .carts ≤ 32 → ValidPlan (record { head = h; rows = parts (h .steps) rows }) f
     → readPlan f (planBytes h rows) ≡ accepted (record { head = h; rows = parts (h .steps) rows })
 complete f h rows m v =
     let xs = parts (h .steps) rows in
     let r = v .head in
-    let sizes : AllOf (h .steps) xs = all-of (λ (x : List ℕ). length x ≡ h .steps) xs (λ i l. v .steps i (omega (arith, v .carts))) in
+    let sizes : AllOf (h .steps) xs = all-of (λ (x : List ℕ). length x ≡ h .steps) [] xs (λ i l. v .steps i (omega (arith, v .carts))) in
     let places : All (λ (row : List ℕ). judgedPlaces (f .places) 0 row ≡ Fits) xs =
-    all-of (λ (row : List ℕ). judgedPlaces (f .places) 0 row ≡ Fits) xs
+    all-of (λ (row : List ℕ). judgedPlaces (f .places) 0 row ≡ Fits) [] xs
     (λ i l. fits-all (f .places) 0 (getD xs i []) (λ s k. v .places i s (omega (arith, v .carts)) (omega (arith, v .steps i (omega (arith, v .carts)))))) in
     let short : length (planBytes h rows) ≤ 65536 =
     omega (arith, length-plan h rows, length-rows (h .steps) xs sizes, few-rows (h .steps) (length xs) (r .steps) (omega (arith, v .carts))) in
@@ -87,22 +87,22 @@ complete f h rows m v =
     good-head f h rows narrow short (in-range h r) ∙ rows-fit f h xs [] 10 sizes places (omega (arith, v .carts))
 
 -- the file of a plan's numbers, if they are those of the table
-pub file-reads : (f : Floor) (n : Numbers) → f .carts ≤ 32 → Valid n f → readPlan f (planFile n) ≡ accepted n
+pub file-reads : (f : Floor) (n : PlanNumbers) → f .carts ≤ 32 → ValidPlan n f → readPlan f (planFile n) ≡ accepted n
 file-reads f n few v =
-    let sizes : AllOf (n .head .steps) (n .rows) = all-of (λ (x : List ℕ). length x ≡ n .head .steps) (n .rows) (λ i l. v .steps i (omega (arith, v .carts))) in
+    let sizes : AllOf (n .head .steps) (n .rows) = all-of (λ (x : List ℕ). length x ≡ n .head .steps) [] (n .rows) (λ i l. v .steps i (omega (arith, v .carts))) in
     let e : record { head = n .head; rows = parts (n .head .steps) (flatten (n .rows)) } ≡ n =
     ap (λ (x : List (List ℕ)). record { head = n .head; rows = x }) (parts-flatten (n .head .steps) (n .rows) (v .head .some) sizes) in
-    complete f (n .head) (flatten (n .rows)) few (subst (λ (x : Numbers). Valid x f) (sym e) v) ∙ ap accepted e
+    complete f (n .head) (flatten (n .rows)) few (subst (λ (x : PlanNumbers). ValidPlan x f) (sym e) v) ∙ ap accepted e
 
 -- it has a head of ten bytes, and for each row four and its steps
-pub file-length : (n : Numbers) → 0 < n .head .steps → AllOf (n .head .steps) (n .rows) → length (planFile n) ≡ 10 + length (n .rows) * (4 + n .head .steps)
+pub file-length : (n : PlanNumbers) → 0 < n .head .steps → AllOf (n .head .steps) (n .rows) → length (planFile n) ≡ 10 + length (n .rows) * (4 + n .head .steps)
 file-length n some sizes =
     let k = n .head .steps in
     let e : length (laid 5 k (flatten (n .rows))) ≡ length (layout (map (ofKind 5) (n .rows))) =
     ap (λ (x : List (List ℕ)). length (layout (map (ofKind 5) x))) (parts-flatten k (n .rows) some sizes) in
     omega (arith, length-plan (n .head) (flatten (n .rows)), length-rows k (n .rows) sizes)
 
-pub file-short : (n : Numbers) → InRange (n .head) → AllOf (n .head .steps) (n .rows) → length (n .rows) ≤ 32 → length (planFile n) ≤ 65536
+pub file-short : (n : PlanNumbers) → InRange (n .head) → AllOf (n .head .steps) (n .rows) → length (n .rows) ≤ 32 → length (planFile n) ≤ 65536
 file-short n r sizes few = omega (arith, file-length n (r .some) sizes, few-rows (n .head .steps) (length (n .rows)) (r .steps) few)
 
 -- a row of the table's is not refused

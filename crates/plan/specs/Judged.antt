@@ -16,7 +16,7 @@ use Rattle.record.specs.Laid.{PartAt, length-laid, length-whole, laid-none}
 use Rattle.record.specs.Parts.{partCount}
 use Rattle.record.specs.RoundTrip.{records-layout}
 use Rattle.floor.specs.declared.Floor.{Floor}
-use Rattle.plan.specs.Plan.{Numbers, PlanAnswer, accepted, rejected, outOfRange, headBy, judgedHead, rowFault, rowsEnd, onward, readRows, behindHead, readRecords, readPlan}
+use Rattle.plan.specs.Plan.{PlanNumbers, PlanAnswer, accepted, rejected, outOfRange, headBy, judgedHead, rowFault, rowsEnd, onward, readRows, behindHead, readRecords, readPlan}
 use Rattle.plan.specs.Numbers.{Narrow, judgedNumbers, headBytes, rowRecords, planRecords, planBytes}
 use Rattle.plan.specs.RoundTrip.{whole, numbers-back, head-read, length-head, length-plan, plan-encodable}
 use Rattle.plan.specs.declared.Head.{Head}
@@ -27,12 +27,12 @@ use Rattle.plan.specs.declared.NumbersAnswer.the-variants.{Good as Numbe
 module _ (h : Head) (rows : List ℕ) where
   pub length-empty : length rows ≡ 0 → length (planBytes h rows) ≡ 10
   length-empty e =
-      let a = ap length (ap (laid 5 (h .steps)) (emptyFloor rows e) ∙ laid-none 5 (h .steps)) in
+      let a = ap length (ap (laid 5 (h .steps)) (length-zero rows e) ∙ laid-none 5 (h .steps)) in
       length-plan h rows ∙ omega arith
     where
-      emptyFloor : (l : List ℕ) → length l ≡ 0 → l ≡ []
-      emptyFloor [] e = refl
-      emptyFloor (b ∷ l) e = absurd (omega arith)
+      length-zero : (l : List ℕ) → length l ≡ 0 → l ≡ []
+      length-zero [] e = refl
+      length-zero (b ∷ l) e = absurd (omega arith)
 
   pub length-zero : h .steps ≡ 0 → 0 < length rows → length (planBytes h rows) ≡ 14 + length rows
   length-zero e p =
@@ -105,7 +105,7 @@ module _ (f : Floor) (h : Head) (rows : List ℕ) where
 
 -- numbers judged good are accepted, and such as a file can hold
 pub record Writable (f : Floor) (h : Head) (rows : List ℕ) : Type 0 where
-  pub numbers : Numbers
+  pub numbers : PlanNumbers
   pub reads : readPlan f (planBytes h rows) ≡ accepted numbers
   pub short : length (planBytes h rows) ≤ 65536
   pub some : 0 < h .steps

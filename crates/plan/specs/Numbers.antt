@@ -9,7 +9,7 @@ use Rattle.record.specs.Parts.{parts, ofKind}
 use Rattle.floor.specs.Floor.{readFloor}
 use Rattle.floor.specs.declared.FloorAnswer.{FloorAnswer}
 use Rattle.floor.specs.declared.FloorAnswer.the-variants.{Read as FloorAccepted, Refused as FloorRefused}
-use Rattle.plan.specs.Plan.{Numbers, PlanAnswer, accepted, rejected, readPlan}
+use Rattle.plan.specs.Plan.{PlanNumbers, PlanAnswer, accepted, rejected, readPlan}
 use Rattle.floor.specs.declared.Floor.{Floor}
 use Rattle.plan.specs.declared.Head.{Head}
 use Rattle.plan.specs.declared.NumbersAnswer.{NumbersAnswer}
@@ -40,7 +40,7 @@ abbrev pub planBytes : Head → List ℕ → List ℕ
 planBytes h rows = layout (planRecords h rows)
 
 -- the file of a plan's numbers
-abbrev pub planFile : Numbers → List ℕ
+abbrev pub planFile : PlanNumbers → List ℕ
 planFile n = planBytes (n .head) (flatten (n .rows))
 
 -- whether reading accepts, or its refusal
@@ -48,7 +48,7 @@ abbrev pub judgedNumbers : PlanAnswer → NumbersAnswer
 judgedNumbers (accepted n) = Good
 judgedNumbers (rejected r) = Refused r
 
--- "Numbers that no file could give are refused as reading their file would be (fields are no wider than the file's), then 18 as below"
+-- "PlanNumbers that no file could give are refused as reading their file would be (fields are no wider than the file's), then 18 as below"
 abbrev pub byReading : PlanAnswer → List ℕ → List ℕ → Outcome
 byReading (accepted n) file out = written AboutPlan file out
 byReading (rejected r) file out = unchanged (AboutPlan r) out

@@ -23,7 +23,7 @@ use Rattle.plan.specs.declared.Plan.{Plan}
 use Rattle.plan.specs.declared.PlanRead.{PlanRead}
 
 -- the numbers that a plan holds: its head, and for each cart in file order a row of places
-pub record Numbers : Type 0 where
+pub record PlanNumbers : Type 0 where
   pub head : Head
   pub rows : List (List ℕ)
 
@@ -79,7 +79,7 @@ rowFault f h n kind body = rowFaultBy (judgedRow body (h .steps) (f .places)) f 
 
 -- the answer: the plan's numbers or its refusal
 pub data PlanAnswer : Type 0 where
-  accepted : Numbers → PlanAnswer
+  accepted : PlanNumbers → PlanAnswer
   rejected : Refusal → PlanAnswer
 
 -- behind the last whole record: 2 "cut short", or 7 "at the end for .. too few rows"
@@ -128,17 +128,17 @@ padded row = row ++ zeros (64 - length row)
 unfoldable pub blockOf : List (List ℕ) → List ℕ
 blockOf rows = flatten (map padded rows) ++ zeros (64 * (32 - length rows))
 
-abbrev pub planOf : Numbers → Plan
+abbrev pub planOf : PlanNumbers → Plan
 planOf n = record { head = n .head; carts = length (n .rows); block = blockOf (n .rows) }
 
 -- n rows of so many steps that a block holds
-unfoldable pub rowsIn : ℕ → ℕ → List ℕ → List (List ℕ)
-rowsIn zero steps block = []
-rowsIn (suc n) steps block = take steps block ∷ rowsIn n steps (drop 64 block)
+unfoldable pub blockRows : ℕ → ℕ → List ℕ → List (List ℕ)
+blockRows zero steps block = []
+blockRows (suc n) steps block = take steps block ∷ blockRows n steps (drop 64 block)
 
 -- the numbers of a plan with so many carts whose head and block are these
-abbrev pub heldNumbers : ℕ → Head → List ℕ → Numbers
-heldNumbers carts h block = record { head = h; rows = rowsIn carts (h .steps) block }
+abbrev pub heldNumbers : ℕ → Head → List ℕ → PlanNumbers
+heldNumbers carts h block = record { head = h; rows = blockRows carts (h .steps) block }
 
 -- what reading gives: the verdict, and the floor and plan, or zeros where it refuses
 abbrev pub noPlan : Plan
@@ -147,11 +147,11 @@ noPlan = record { head = record { steps = 0; stem = 0; drift = 0 }; carts = 0; b
 abbrev pub refusedRead : Verdict → PlanRead
 refusedRead v = record { verdict = v; floor = emptyFloor; plan = noPlan }
 
-abbrev pub acceptedRead : Floor → Numbers → PlanRead
+abbrev pub acceptedRead : Floor → PlanNumbers → PlanRead
 acceptedRead f n = record { verdict = Accepted; floor = f; plan = planOf n }
 
 -- by the floor's answer and then the plan's: a refusal, or what is done with the floor and the plan's numbers
-module _ {A : Type 0} (refuse : Verdict → A) (go : Floor → Numbers → A) where
+module _ {A : Type 0} (refuse : Verdict → A) (go : Floor → PlanNumbers → A) where
   abbrev pub afterPlan : Floor → PlanAnswer → A
   afterPlan f (accepted n) = go f n
   afterPlan f (rejected r) = refuse (AboutPlan r)

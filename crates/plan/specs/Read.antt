@@ -16,9 +16,9 @@ use Rattle.floor.specs.Floor.{readFloor}
 use Rattle.floor.specs.declared.Floor.{Floor}
 use Rattle.floor.specs.declared.FloorAnswer.{FloorAnswer}
 use Rattle.floor.specs.declared.FloorAnswer.the-variants.{Read as FloorAccepted, Refused as FloorRefused}
-use Rattle.plan.specs.Plan.{Numbers, PlanAnswer, accepted, rejected, readPlan, rowsIn, heldNumbers, afterPlan, afterFloor, planRead, onFloor, readBoth}
+use Rattle.plan.specs.Plan.{PlanNumbers, PlanAnswer, accepted, rejected, readPlan, blockRows, heldNumbers, afterPlan, afterFloor, planRead, onFloor, readBoth}
 use Rattle.plan.specs.After.{afterReading, ReadAs}
-use Rattle.plan.specs.Promises.{Accepts, PlanReads}
+use Rattle.plan.specs.Promises.{AcceptedPlan, PlanReads}
 use Rattle.plan.specs.Valid.{InRange}
 use Rattle.plan.specs.Block.{length-block, short-all}
 use Rattle.plan.specs.declared.Head.{Head}
@@ -26,28 +26,28 @@ use Rattle.plan.specs.declared.Plan.{Plan}
 use Rattle.plan.specs.declared.PlanRead.{PlanRead}
 
 -- row c of the block
-pub row-in : (n steps : ℕ) (block : List ℕ) (c : ℕ) → c < n → getD (rowsIn n steps block) c [] ≡ take steps (drop (64 * c) block)
-unfolding rowsIn
+pub row-in : (n steps : ℕ) (block : List ℕ) (c : ℕ) → c < n → getD (blockRows n steps block) c [] ≡ take steps (drop (64 * c) block)
+unfolding blockRows
 row-in zero steps block c l = absurd (omega arith)
 row-in (suc n) steps block zero l = refl
 row-in (suc n) steps block (suc c) l =
     let e : 64 + 64 * c ≡ 64 * suc c = omega arith in
     row-in n steps (drop 64 block) c (omega arith) ∙ ap (take steps) (drop-drop (64 * c) 64 block ∙ ap (λ (k : ℕ). drop k block) e)
 
-pub length-rows-in : (n steps : ℕ) (block : List ℕ) → length (rowsIn n steps block) ≡ n
-unfolding rowsIn
+pub length-rows-in : (n steps : ℕ) (block : List ℕ) → length (blockRows n steps block) ≡ n
+unfolding blockRows
 length-rows-in zero steps block = refl
 length-rows-in (suc n) steps block = ap suc (length-rows-in n steps (drop 64 block))
 
 -- one row more
-pub rows-in-more : (n steps : ℕ) (block : List ℕ) → rowsIn (suc n) steps block ≡ rowsIn n steps block ++ (take steps (drop (64 * n) block) ∷ [])
-unfolding rowsIn
+pub rows-in-more : (n steps : ℕ) (block : List ℕ) → blockRows (suc n) steps block ≡ blockRows n steps block ++ (take steps (drop (64 * n) block) ∷ [])
+unfolding blockRows
 rows-in-more zero steps block = refl
 rows-in-more (suc n) steps block =
     let e : 64 + 64 * n ≡ 64 * suc n = omega arith in
     ap (λ (x : List (List ℕ)). take steps block ∷ x)
     (rows-in-more n steps (drop 64 block)
-    ∙ ap (λ (x : List ℕ). rowsIn n steps (drop 64 block) ++ (take steps x ∷ [])) (drop-drop (64 * n) 64 block ∙ ap (λ (k : ℕ). drop k block) e))
+    ∙ ap (λ (x : List ℕ). blockRows n steps (drop 64 block) ++ (take steps x ∷ [])) (drop-drop (64 * n) 64 block ∙ ap (λ (k : ℕ). drop k block) e))
 
 -- the part of the block that is handed on as cart c's row
 abbrev pub blockPart : ℕ → List ℕ → ℕ → List ℕ
@@ -72,7 +72,7 @@ same-rows (x ∷ xs) (y ∷ ys) e f =
     ap₂ (λ (a : List ℕ) (l : List (List ℕ)). a ∷ l) (f 0 (omega arith)) (same-rows xs ys (omega arith) (λ c l. f (suc c) (omega arith)))
 
 -- an accepted plan holds the numbers of its file
-module _ (floor s : List ℕ) (r : PlanRead) (w : Accepts floor s r) where
+module _ (floor s : List ℕ) (r : PlanRead) (w : AcceptedPlan floor s r) where
   pub held-head : r .plan .head ≡ w .numbers .head
   held-head = ap (λ (p : Plan). p .head) (w .held)
 
@@ -80,7 +80,7 @@ module _ (floor s : List ℕ) (r : PlanRead) (w : Accepts floor s r) where
   held-numbers =
       let n = w .numbers in
       let c = r .floor .carts in
-      let rows : rowsIn c (n .head .steps) (r .plan .block) ≡ n .rows =
+      let rows : blockRows c (n .head .steps) (r .plan .block) ≡ n .rows =
       same-rows _ (n .rows) (length-rows-in c (n .head .steps) (r .plan .block) ∙ sym (w .valid .carts))
       (λ i l. let m : i < c = omega (arith, w .valid .carts) in row-in c (n .head .steps) (r .plan .block) i m ∙ w .row i m) in
       ap (λ (h : Head). heldNumbers c h (r .plan .block)) held-head ∙ ap (λ (x : List (List ℕ)). record { head = n .head; rows = x }) rows
@@ -93,39 +93,39 @@ module _ (floor s : List ℕ) (r : PlanRead) (w : Accepts floor s r) where
       let n = w .numbers in
       let v = w .valid in
       let sizes : AllOf (n .head .steps) (n .rows) =
-      all-of (λ (x : List ℕ). length x ≡ n .head .steps) (n .rows) (λ i l. v .steps i (omega (arith, v .carts))) in
+      all-of (λ (x : List ℕ). length x ≡ n .head .steps) [] (n .rows) (λ i l. v .steps i (omega (arith, v .carts))) in
       ap (λ (p : Plan). length (p .block)) (w .held)
       ∙ length-block (n .rows) (short-all (n .head .steps) (n .rows) (v .head .steps) sizes) (omega (arith, v .carts))
 
-pub accepts-if : (floor s : List ℕ) (r : PlanRead) → PlanReads floor s r → isAccepted (r .verdict) ≡ true → Accepts floor s r
+pub accepts-if : (floor s : List ℕ) (r : PlanRead) → PlanReads floor s r → isAccepted (r .verdict) ≡ true → AcceptedPlan floor s r
 accepts-if floor s r w e = w .accepted (accepted-is _ e)
 
-module _ {A : Type 0} (refuse : Verdict → A) (go : Floor → Numbers → A) (floor s : List ℕ) where
-  pub read-on : (f : Floor) (n : Numbers) → ReadAs floor s f n → afterReading refuse go floor s ≡ go f n
+module _ {A : Type 0} (refuse : Verdict → A) (go : Floor → PlanNumbers → A) (floor s : List ℕ) where
+  pub read-on : (f : Floor) (n : PlanNumbers) → ReadAs floor s f n → afterReading refuse go floor s ≡ go f n
   unfolding afterReading
   read-on f n w = ap (λ (a : FloorAnswer). afterFloor refuse go a s) (w .floor-read) ∙ ap (afterPlan refuse go f) (w .plan-read)
 
   -- how it goes: refused, or on with what was read
-  pub data Went : Type 0 where
-    no-floor : (x : Refusal) → afterReading refuse go floor s ≡ refuse (AboutFloor x) → Went
-    no-plan : (x : Refusal) → afterReading refuse go floor s ≡ refuse (AboutPlan x) → Went
-    on : (f : Floor) (n : Numbers) → ReadAs floor s f n → afterReading refuse go floor s ≡ go f n → Went
+  pub data ReadingCases : Type 0 where
+    floor-refused : (x : Refusal) → afterReading refuse go floor s ≡ refuse (AboutFloor x) → ReadingCases
+    plan-refused : (x : Refusal) → afterReading refuse go floor s ≡ refuse (AboutPlan x) → ReadingCases
+    both-read : (f : Floor) (n : PlanNumbers) → ReadAs floor s f n → afterReading refuse go floor s ≡ go f n → ReadingCases
 
-  pub went : Went
+  pub reading-cases : ReadingCases
   unfolding afterReading
-  went = on-floor (readFloor floor) refl
+  reading-cases = on-floor (readFloor floor) refl
     where
-      on-plan : (f : Floor) → readFloor floor ≡ FloorAccepted f → (a : PlanAnswer) → readPlan f s ≡ a → Went
-      on-plan f p (accepted n) q = let w : ReadAs floor s f n = record { floor-read = p; plan-read = q } in on f n w (read-on f n w)
-      on-plan f p (rejected x) q = no-plan x (ap (λ (a : FloorAnswer). afterFloor refuse go a s) p ∙ ap (afterPlan refuse go f) q)
+      on-plan : (f : Floor) → readFloor floor ≡ FloorAccepted f → (a : PlanAnswer) → readPlan f s ≡ a → ReadingCases
+      on-plan f p (accepted n) q = let w : ReadAs floor s f n = record { floor-read = p; plan-read = q } in both-read f n w (read-on f n w)
+      on-plan f p (rejected x) q = plan-refused x (ap (λ (a : FloorAnswer). afterFloor refuse go a s) p ∙ ap (afterPlan refuse go f) q)
 
-      on-floor : (a : FloorAnswer) → readFloor floor ≡ a → Went
+      on-floor : (a : FloorAnswer) → readFloor floor ≡ a → ReadingCases
       on-floor (FloorAccepted f) p = on-plan f p (readPlan f s) refl
-      on-floor (FloorRefused x) p = no-floor x (ap (λ (a : FloorAnswer). afterFloor refuse go a s) p)
+      on-floor (FloorRefused x) p = floor-refused x (ap (λ (a : FloorAnswer). afterFloor refuse go a s) p)
 
   module _ (r : PlanRead) where
     -- accepted: on with its numbers
-    pub after-accepted : (w : Accepts floor s r) → afterReading refuse go floor s ≡ go (r .floor) (w .numbers)
+    pub after-accepted : (w : AcceptedPlan floor s r) → afterReading refuse go floor s ≡ go (r .floor) (w .numbers)
     after-accepted w = read-on (r .floor) (w .numbers) (record { floor-read = w .floor-read; plan-read = w .plan-read })
 
     -- refused: as reading is

@@ -25,11 +25,11 @@ use Rattle.floor.specs.Floor.{readFloor}
 use Rattle.floor.specs.declared.FloorAnswer.{FloorAnswer}
 use Rattle.floor.specs.declared.FloorAnswer.the-variants.{Read as FloorAccepted, Refused as FloorRefused}
 use Rattle.floor.specs.declared.Floor.{Floor}
-use Rattle.plan.specs.Plan.{Numbers, PlanAnswer, accepted, rejected, headFrom, judgedPlaces, judgedHead, rowFault, onward, readRows, behindHead, readRecords, readPlan, blockOf, planRead, onFloor, readBoth}
+use Rattle.plan.specs.Plan.{PlanNumbers, PlanAnswer, accepted, rejected, headFrom, judgedPlaces, judgedHead, rowFault, onward, readRows, behindHead, readRecords, readPlan, blockOf, planRead, onFloor, readBoth}
 use Rattle.plan.specs.Numbers.{Narrow, headBytes, rowRecords, planRecords, planBytes, byReading, byFloor, writePlan}
-use Rattle.plan.specs.Promises.{Accepts}
+use Rattle.plan.specs.Promises.{AcceptedPlan}
 use Rattle.plan.specs.declared.PlanRead.{PlanRead}
-use Rattle.plan.specs.Valid.{InRange, Valid}
+use Rattle.plan.specs.Valid.{InRange, ValidPlan}
 use Rattle.plan.specs.Block.{row-at, short-all}
 use Rattle.plan.specs.Passed.{all-on-floor, head-passed, row-passed}
 use Rattle.plan.specs.declared.Head.{Head}
@@ -42,7 +42,7 @@ abbrev AllOn : ℕ → List (List ℕ) → Type 0
 AllOn places rows = All (λ (row : List ℕ). judgedPlaces places 0 row ≡ Fits) rows
 
 -- the records behind an accepted head are rows, one for each cart, of the head's steps
-pub record Rows (f : Floor) (h : Head) (done : List (List ℕ)) (rs : List Record) (cut : Bool) (n : Numbers) : Type 0 where
+pub record Rows (f : Floor) (h : Head) (done : List (List ℕ)) (rs : List Record) (cut : Bool) (n : PlanNumbers) : Type 0 where
   pub bodies : List (List ℕ)
   pub records : rs ≡ map (ofKind 5) bodies
   pub sizes : AllOf (h .steps) bodies
@@ -51,7 +51,7 @@ pub record Rows (f : Floor) (h : Head) (done : List (List ℕ)) (rs : List Recor
   pub uncut : cut ≡ false
   pub carts : length done ≤ f .carts → length (done ++ bodies) ≡ f .carts
 
-pub rows-read : (f : Floor) (h : Head) (rs : List Record) (done : List (List ℕ)) (at : ℕ) (cut : Bool) (n : Numbers)
+pub rows-read : (f : Floor) (h : Head) (rs : List Record) (done : List (List ℕ)) (at : ℕ) (cut : Bool) (n : PlanNumbers)
     → readRows f h done at rs cut ≡ accepted n → Rows f h done rs cut n
 unfolding readRows
 rows-read f h [] done at true n e = let z : _≡_ {A = ℕ} 0 1 = cc in absurd (omega arith)
@@ -94,7 +94,7 @@ rows-read f h (r ∷ rs) done at cut n e =
         }
 
 -- an accepted plan is a head and rows
-pub record Whole (f : Floor) (s : List ℕ) (n : Numbers) : Type 0 where
+pub record Whole (f : Floor) (s : List ℕ) (n : PlanNumbers) : Type 0 where
   pub short : length s ≤ 65536
   pub body : List ℕ
   pub size : length body ≡ 6
@@ -106,7 +106,7 @@ pub record Whole (f : Floor) (s : List ℕ) (n : Numbers) : Type 0 where
   pub uncut : recordsIn s .cut ≡ false
   pub carts : length (n .rows) ≡ f .carts
 
-from-records : (f : Floor) (s : List ℕ) (n : Numbers) (rs : List Record) (cut : Bool) → length s ≤ 65536 → recordsIn s .records ≡ rs
+from-records : (f : Floor) (s : List ℕ) (n : PlanNumbers) (rs : List Record) (cut : Bool) → length s ≤ 65536 → recordsIn s .records ≡ rs
     → recordsIn s .cut ≡ cut
     → readRecords f rs cut ≡ accepted n → Whole f s n
 from-records f s n [] true l p q e = let z : _≡_ {A = ℕ} 0 1 = cc in absurd (omega arith)
@@ -118,8 +118,8 @@ from-records f s n (r ∷ rs) cut l p q e = go (judgedHead (r .kind) (r .body)) 
     go (Good h) j e =
         let w = rows-read f h rs [] 10 cut n e in
         let g = head-passed (r .kind) (r .body) h j in
-        let head : h ≡ n .head = sym (ap (λ (x : Numbers). x .head) (w .numbers)) in
-        let rows : w .bodies ≡ n .rows = sym (ap (λ (x : Numbers). x .rows) (w .numbers)) in
+        let head : h ≡ n .head = sym (ap (λ (x : PlanNumbers). x .head) (w .numbers)) in
+        let rows : w .bodies ≡ n .rows = sym (ap (λ (x : PlanNumbers). x .rows) (w .numbers)) in
         record {
           short = l;
           body = r .body;
@@ -133,7 +133,7 @@ from-records f s n (r ∷ rs) cut l p q e = go (judgedHead (r .kind) (r .body)) 
           carts = ap length (sym rows) ∙ w .carts (omega arith);
         }
 
-pub whole : (f : Floor) (s : List ℕ) (n : Numbers) → readPlan f s ≡ accepted n → Whole f s n
+pub whole : (f : Floor) (s : List ℕ) (n : PlanNumbers) → readPlan f s ≡ accepted n → Whole f s n
 unfolding readPlan
 whole f s n e = go (ltb 65536 (length s)) refl e
   where
@@ -155,7 +155,7 @@ head-back b h e =
     ∙ take-append-drop 2 b
 
 -- what was read writes back as the same bytes
-pub bytes-back : (f : Floor) (s : List ℕ) (n : Numbers) → Bytes s → readPlan f s ≡ accepted n → planBytes (n .head) (flatten (n .rows)) ≡ s
+pub bytes-back : (f : Floor) (s : List ℕ) (n : PlanNumbers) → Bytes s → readPlan f s ≡ accepted n → planBytes (n .head) (flatten (n .rows)) ≡ s
 bytes-back f s n b e =
     let w = whole f s n e in
     let all : Bytes (w .body) × AllBytes (map (ofKind 5) (n .rows)) = subst AllBytes (w .records) (records-bytes s b) in
@@ -193,7 +193,7 @@ bodies-of k xs ys e = sym (only xs) ∙ ap (map (λ (r : Record). r .body)) e �
     only = elim [ [] ↦ refl | z ∷ (zs → ih) ↦ ap (λ (t : List (List ℕ)). z ∷ t) ih ]
 
 -- what is laid out and accepted holds the same numbers
-pub numbers-back : (f : Floor) (h : Head) (rows : List ℕ) (n : Numbers) → Narrow h → readPlan f (planBytes h rows) ≡ accepted n
+pub numbers-back : (f : Floor) (h : Head) (rows : List ℕ) (n : PlanNumbers) → Narrow h → readPlan f (planBytes h rows) ≡ accepted n
     → (n .head ≡ h) × (flatten (n .rows) ≡ rows)
 numbers-back f h rows n w e =
     let g = whole f (planBytes h rows) n e in
@@ -216,7 +216,7 @@ about-plan r k e = let z : _≡_ {A = ℕ} 0 1 = cc in omega arith
 module _ (floor : List ℕ) (h : Head) (rows before : List ℕ) (v : Verdict) (after : List ℕ) (w : Narrow h) (k : ℕ) (e : v ≡ Written k) where
   abbrev Back : Type 0
   Back =
-      (f : Floor) × (n : Numbers) × (readFloor floor ≡ FloorAccepted f) × (readPlan f (take k after) ≡ accepted n) × (n .head ≡ h) × (flatten (n .rows) ≡ rows)
+      (f : Floor) × (n : PlanNumbers) × (readFloor floor ≡ FloorAccepted f) × (readPlan f (take k after) ≡ accepted n) × (n .head ≡ h) × (flatten (n .rows) ≡ rows)
 
   by-plan : (f : Floor) → readFloor floor ≡ FloorAccepted f → (a : PlanAnswer) → readPlan f (planBytes h rows) ≡ a
       → Gives (byReading a (planBytes h rows) before) v after → Back
@@ -234,22 +234,22 @@ module _ (floor : List ℕ) (h : Head) (rows before : List ℕ) (v : Verdict) (a
   unfolding writePlan
   reads-back g = by-floor (readFloor floor) refl g
 
-pub valid : (f : Floor) (s : List ℕ) (n : Numbers) → readPlan f s ≡ accepted n → Valid n f
+pub valid : (f : Floor) (s : List ℕ) (n : PlanNumbers) → readPlan f s ≡ accepted n → ValidPlan n f
 valid f s n e =
     let w = whole f s n e in
     let size : (c : ℕ) → c < f .carts → length (getD (n .rows) c []) ≡ n .head .steps =
-    λ c l. each (λ (row : List ℕ). length row ≡ n .head .steps) (n .rows) c (w .sizes) (omega (arith, w .carts)) in
+    λ c l. each (λ (row : List ℕ). length row ≡ n .head .steps) [] (n .rows) c (w .sizes) (omega (arith, w .carts)) in
     record {
       head = w .range;
       carts = w .carts;
       steps = size;
       places =
           λ c t l m. all-on-floor (f .places) 0 (getD (n .rows) c [])
-          (each (λ (row : List ℕ). judgedPlaces (f .places) 0 row ≡ Fits) (n .rows) c (w .places) (omega (arith, w .carts))) t
+          (each (λ (row : List ℕ). judgedPlaces (f .places) 0 row ≡ Fits) [] (n .rows) c (w .places) (omega (arith, w .carts))) t
           (omega (arith, size c l));
     }
 
-pub row-located : (f : Floor) (s : List ℕ) (n : Numbers) → readPlan f s ≡ accepted n → (c : ℕ) → c < f .carts
+pub row-located : (f : Floor) (s : List ℕ) (n : PlanNumbers) → readPlan f s ≡ accepted n → (c : ℕ) → c < f .carts
     → take (n .head .steps) (drop (64 * c) (blockOf (n .rows))) ≡ getD (n .rows) c []
 row-located f s n e c l =
     let w = whole f s n e in
@@ -257,7 +257,7 @@ row-located f s n e c l =
 
 -- an accepted plan writes back as the same bytes
 module _ (floor s : List ℕ) (r : PlanRead) (b : Bytes s) (v : r .verdict ≡ Accepted) where
-  on-plan : (f : Floor) → readFloor floor ≡ FloorAccepted f → (a : PlanAnswer) → readPlan f s ≡ a → r ≡ planRead f a → Accepts floor s r
+  on-plan : (f : Floor) → readFloor floor ≡ FloorAccepted f → (a : PlanAnswer) → readPlan f s ≡ a → r ≡ planRead f a → AcceptedPlan floor s r
   on-plan f p (rejected x) q e =
       let z : AboutPlan x ≡ Accepted = sym (ap (λ (y : PlanRead). y .verdict) e) ∙ v in let y : _≡_ {A = ℕ} 0 1 = cc in absurd (omega arith)
   on-plan f p (accepted n) q e =
@@ -267,19 +267,19 @@ module _ (floor s : List ℕ) (r : PlanRead) (b : Bytes s) (v : r .verdict ≡ A
         floor-read = p ∙ ap FloorAccepted g;
         plan-read = subst (λ (x : Floor). readPlan x s ≡ accepted n) g q;
         held = ap (λ (y : PlanRead). y .plan) e;
-        valid = subst (Valid n) g (valid f s n q);
+        valid = subst (ValidPlan n) g (valid f s n q);
         writes-back = bytes-back f s n b q;
         row =
             λ c l. ap (λ (y : PlanRead). take (n .head .steps) (drop (64 * c) (y .plan .block))) e
             ∙ row-located f s n q c (subst (λ (x : Floor). c < x .carts) (sym g) l);
       }
 
-  on-floor : (a : FloorAnswer) → readFloor floor ≡ a → r ≡ onFloor a s → Accepts floor s r
+  on-floor : (a : FloorAnswer) → readFloor floor ≡ a → r ≡ onFloor a s → AcceptedPlan floor s r
   on-floor (FloorRefused x) p e =
       let z : AboutFloor x ≡ Accepted = sym (ap (λ (y : PlanRead). y .verdict) e)
       ∙ v in let y : _≡_ {A = ℕ} 0 1 = cc in absurd (omega arith)
   on-floor (FloorAccepted f) p e = on-plan f p (readPlan f s) refl e
 
-  pub accepts : r ≡ readBoth floor s → Accepts floor s r
+  pub accepts : r ≡ readBoth floor s → AcceptedPlan floor s r
   unfolding readBoth
   accepts e = on-floor (readFloor floor) refl e

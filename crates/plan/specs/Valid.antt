@@ -4,7 +4,7 @@ use mathlib.Core.Path.{_≡_}
 use mathlib.Core.List.{[]}
 use lib.ListN.{length, getD}
 use Rattle.floor.specs.declared.Floor.{Floor}
-use Rattle.plan.specs.Plan.{Numbers}
+use Rattle.plan.specs.Plan.{PlanNumbers}
 use Rattle.plan.specs.declared.Head.{Head}
 
 -- "steps 1 to 64, first step of the lap (below h), drift 0 to 16"
@@ -14,7 +14,7 @@ pub record InRange (h : Head) : Type 0 where
   pub stem : h .stem < h .steps
   pub drift : h .drift ≤ 16
 
-pub record Valid (n : Numbers) (f : Floor) : Type 0 where
+pub record ValidPlan (n : PlanNumbers) (f : Floor) : Type 0 where
   pub head : InRange (n .head)
   -- rows: "one a cart", "h bytes, one place a step"
   pub carts : length (n .rows) ≡ f .carts

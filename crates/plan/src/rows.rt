@@ -25,7 +25,7 @@ pub fn judge_row(body: &[u8], steps: usize, places: usize) -> RowAnswer
 }
 
 // 5 if no cart is left for another row behind n, else the number given.
-fn if_room(f: Floor, n: usize, otherwise: u32) -> u32
+fn five_if_full(f: Floor, n: usize, otherwise: u32) -> u32
     ensures { λ r. ⌜ r ≡ cond (leb (f .carts) n) 5 otherwise ⌝ }
 {
     if f.carts <= n { 5 } else { otherwise }
@@ -40,7 +40,7 @@ pub(crate) fn row_fault(f: Floor, h: Head, n: usize, kind: u16, body: &[u8]) -> 
     }
     match judge_row(body, h.steps, f.places) {
         RowAnswer::WrongLength => 4,
-        RowAnswer::Absent(_) => if_room(f, n, 9),
-        RowAnswer::Fits => if_room(f, n, 0),
+        RowAnswer::Absent(_) => five_if_full(f, n, 9),
+        RowAnswer::Fits => five_if_full(f, n, 0),
     }
 }

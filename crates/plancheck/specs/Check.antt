@@ -11,7 +11,7 @@ use Rattle.refusal.specs.declared.Verdict.{Verdict}
 use Rattle.refusal.specs.declared.Verdict.the-variants.{Accepted, Rules as AboutRules}
 use Rattle.floor.specs.Numbers.{numbersOf}
 use Rattle.floor.specs.declared.Floor.{Floor}
-use Rattle.plan.specs.Plan.{Numbers}
+use Rattle.plan.specs.Plan.{PlanNumbers}
 use Rattle.plan.specs.After.{afterReading}
 use Rattle.row.specs.Moves.{bit}
 use Rattle.moves.specs.Carts.{movesVerdict}
@@ -28,12 +28,12 @@ abbrev pub marksAt : List ℕ → ℕ → ℕ
 marksAt floor q = getD (numbersOf floor .places) q 0
 
 -- the place on step s of cart i's row
-abbrev pub placeOn : Numbers → ℕ → ℕ → ℕ
-placeOn p i s = getD (getD (p .rows) i []) s 0
+abbrev pub placeOnStep : PlanNumbers → ℕ → ℕ → ℕ
+placeOnStep p i s = getD (getD (p .rows) i []) s 0
 
 -- "Rows and marks are those of the files"
-abbrev pub planRows : List ℕ → Floor → Numbers → Rows
-planRows floor f p = record { carts = f .carts; h = p .head .steps; l = p .head .stem; bears = λ i s k. bit k (marksAt floor (placeOn p i s)) }
+abbrev pub planRows : List ℕ → Floor → PlanNumbers → Rows
+planRows floor f p = record { carts = f .carts; h = p .head .steps; l = p .head .stem; bears = λ i s k. bit k (marksAt floor (placeOnStep p i s)) }
 
 -- a sheet's clauses; a refused one has none
 abbrev pub clausesOf : Read → List Clause
@@ -60,7 +60,7 @@ module _ (P : Rows) (d : ℕ) where
   clausesVerdict cs = andThen (cond (eqb d 0) Accepted (nextVerdict 0 cs)) (keptVerdict 0 cs)
 
 -- the stages in order, once floor and plan are read
-abbrev pub stages : List ℕ → List ℕ → Floor → Numbers → Verdict
+abbrev pub stages : List ℕ → List ℕ → Floor → PlanNumbers → Verdict
 stages floor sheet f p =
     andThen (movesVerdict floor f p) (andThen (rulesVerdict sheet) (clausesVerdict (planRows floor f p) (p .head .drift) (clausesOf (readSheet sheet))))
 

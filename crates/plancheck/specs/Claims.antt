@@ -8,14 +8,14 @@ use lib.Dec.{T}
 use Rattle.endian.specs.Little.{bytes, Bytes}
 use Rattle.refusal.specs.declared.Verdict.{Verdict}
 use Rattle.refusal.specs.declared.Verdict.the-variants.{Accepted}
-use Rattle.record.specs.All.{All}
+use Rattle.record.specs.All.{All, all-map, all-both}
 use Rattle.record.specs.Record.{encoded, layout}
 use Rattle.record.specs.Buffer.{stored}
 use Rattle.floor.specs.Located.{accepts}
 use Rattle.floor.specs.declared.Floor.{Floor}
-use Rattle.plan.specs.Plan.{Numbers, readPlan}
+use Rattle.plan.specs.Plan.{PlanNumbers, readPlan}
 use Rattle.plan.specs.Plan as plan
-use Rattle.plan.specs.Valid.{Valid}
+use Rattle.plan.specs.Valid.{ValidPlan}
 use Rattle.plan.specs.Numbers.{headOf, planFile}
 use Rattle.plan.specs.After.{ReadAs}
 use Rattle.plan.specs.Complete.{file-reads}
@@ -26,45 +26,37 @@ use Rattle.cltl.specs.Meaning.{Proper, Run, TrueOf, TrueInStep}
 use Rattle.cltl.specs.Rules.{rules}
 use Rattle.cltl.specs.Promises as cltl
 use Rattle.plancheck.specs.Check.{planRows, clausesOf, checked}
-use Rattle.plancheck.specs.Promises.{Plain, Readable, PlanChecked}
+use Rattle.plancheck.specs.Promises.{Plain, ReadAndOpen, PlanChecked}
 use Rattle.plancheck.specs.Stages.{Kept, accepted-as, as-accepted, accepted-read}
 
-all-map : {Q R : Clause → Type 0} → ((c : Clause) → Q c → R c) → (cs : List Clause) → All Q cs → All R cs
-all-map f [] a = tt
-all-map f (c ∷ cs) a = (f c (a .0), all-map f cs (a .1))
-
-all-both : {Q R S : Clause → Type 0} → ((c : Clause) → Q c → R c → S c) → (cs : List Clause) → All Q cs → All R cs → All S cs
-all-both f [] a b = tt
-all-both f (c ∷ cs) a b = (f c (a .0) (b .0), all-both f cs (a .1) (b .1))
-
 -- the plan with another drift
-abbrev drifted : Numbers → ℕ → Numbers
+abbrev drifted : PlanNumbers → ℕ → PlanNumbers
 drifted p d = record { head = headOf (p .head .steps) (p .head .stem) d; rows = p .rows }
 
-drifted-file : (p : Numbers) (d : ℕ) → stored (planFile p) 8 (bytes 2 d) ≡ planFile (drifted p d)
+drifted-file : (p : PlanNumbers) (d : ℕ) → stored (planFile p) 8 (bytes 2 d) ≡ planFile (drifted p d)
 unfolding layout encoded bytes
 drifted-file p d = refl
 
 module _ (floor s sheet : List ℕ) (fb : Bytes floor) (pb : Bytes s) where
-  proper : (f : Floor) (p : Numbers) → ReadAs floor s f p → Proper (planRows floor f p)
+  proper : (f : Floor) (p : PlanNumbers) → ReadAs floor s f p → Proper (planRows floor f p)
   proper f p files = record { some = accepts floor f fb (files .floor-read) .valid .some-cart; lap = valid f s p (files .plan-read) .head .stem }
 
   same-clauses : (cs cs′ : List Clause) → readSheet sheet ≡ accepted cs → readSheet sheet ≡ accepted cs′ → cs ≡ cs′
   same-clauses cs cs′ e e′ = ap clausesOf (sym e ∙ e′)
 
-  module _ (f : Floor) (p : Numbers) (files : ReadAs floor s f p) (yes : checked floor s sheet ≡ Accepted) where
+  module _ (f : Floor) (p : PlanNumbers) (files : ReadAs floor s f p) (yes : checked floor s sheet ≡ Accepted) where
     all-kept : (cs : List Clause) → readSheet sheet ≡ accepted cs → All (Kept (planRows floor f p) (p .head .drift)) cs
     all-kept cs e =
         let a = accepted-as floor s sheet f p files yes in
         subst (All (Kept (planRows floor f p) (p .head .drift))) (same-clauses (a .0) cs (a .1 .readable .clauses) e) (a .2)
 
-    in-runs : (cs : List Clause) → Readable floor s sheet f p cs → All Plain cs → (r : Run (f .carts) (p .head .drift)) → All (TrueOf (planRows floor f p) r) cs
+    in-runs : (cs : List Clause) → ReadAndOpen floor s sheet f p cs → All Plain cs → (r : Run (f .carts) (p .head .drift)) → All (TrueOf (planRows floor f p) r) cs
     in-runs cs w plain r = all-both (λ c n k. cltl.runs (planRows floor f p) (proper f p files) (p .head .drift) c n k r) cs plain (all-kept cs (w .clauses))
 
     drifted-read : (d : ℕ) → d ≤ p .head .drift → ReadAs floor (stored s 8 (bytes 2 d)) f (drifted p d)
     drifted-read d less =
         let v = valid f s p (files .plan-read) in
-        let v′ : Valid (drifted p d) f =
+        let v′ : ValidPlan (drifted p d) f =
         record {
           head = record { some = v .head .some; steps = v .head .steps; stem = v .head .stem; drift = let x = v .head .drift in omega arith };
           carts
@@ -88,12 +80,12 @@ module _ (floor s sheet : List ℕ) (fb : Bytes floor) (pb : Bytes s) where
         as-accepted floor (stored s 8 (bytes 2 d)) sheet f (drifted p d) (a .0)
         (record {
           readable = record { files = drifted-read d less; moves = w .moves; clauses = w .clauses };
-          steady = ⊎-elim (λ z. inl (omega arith))
-              (λ x. inr x) (a .1 .steady);
+          no-16 = ⊎-elim (λ z. inl (omega arith))
+              (λ x. inr x) (a .1 .no-16);
         })
         (all-map (λ c k. cltl.smaller (planRows floor f p) (proper f p files) (p .head .drift) d less c 0 k) (a .0) (a .2))
 
-  module _ (f : Floor) (p : Numbers) (files : ReadAs floor s f p) (none : p .head .drift ≡ 0) where
+  module _ (f : Floor) (p : PlanNumbers) (files : ReadAs floor s f p) (none : p .head .drift ≡ 0) where
     step-kept : (c : Clause) → TrueInStep (planRows floor f p) c → Kept (planRows floor f p) (p .head .drift) c
     step-kept c t = subst (λ (d : ℕ). T (rules (planRows floor f p) d c 0)) (sym none) (cltl.in-step (planRows floor f p) (proper f p files) c .1 t)
 
@@ -105,7 +97,7 @@ module _ (floor s sheet : List ℕ) (fb : Bytes floor) (pb : Bytes s) where
     verdict = e;
     in-step = λ f p files none. (
       λ yes. let a = accepted-as floor s sheet f p files (sym e ∙ yes) in (a .0, a .1 .readable, all-map (kept-step f p files none) (a .0) (a .2)),
-      λ w. e ∙ as-accepted floor s sheet f p (w .0) (record { readable = w .1; steady = inl none }) (all-map (step-kept f p files none) (w .0) (w .2)),
+      λ w. e ∙ as-accepted floor s sheet f p (w .0) (record { readable = w .1; no-16 = inl none }) (all-map (step-kept f p files none) (w .0) (w .2)),
     );
     kept = λ f p cs a. (λ yes. all-kept f p (a .readable .files) (sym e ∙ yes) cs (a .readable .clauses), λ k. e ∙ as-accepted floor s sheet f p cs a k);
     runs = λ yes f p cs w plain r. in-runs f p (w .files) (sym e ∙ yes) cs w plain r;

@@ -11,7 +11,7 @@ use Rattle.grammar.specs.Nodes.{flatCount, flatClause}
 use Rattle.grammar.specs.Reader.{clauseLine}
 use Rattle.token.specs.Block.{nodesBytes}
 use Rattle.token.specs.Parts.{PartIs}
-use Rattle.token.specs.declared.Part.{Part}
+use Rattle.token.specs.declared.PartRead.{PartRead}
 use Rattle.drift.specs.Tree.{Ordered, clauseTree}
 use Rattle.plancheck.specs.Lines.{Left, Line, next-line}
 use Rattle.plancheck.specs.NodesHeld.{held}
@@ -22,7 +22,7 @@ pub record Judgeable (block : List ℕ) (n : ℕ) (c : Clause) : Type 0 where
   pub size : length block ≡ 512
   pub tree : (m : ℕ) → n - 1 < m → clauseTree block m (n - 1) ≡ c
 
-pub line-held : (s before : List ℕ) (r : Part) (block : List ℕ) (n : ℕ) (cs : List Clause) → (l : Line s before r block n cs) → length before ≡ 512
+pub line-held : (s before : List ℕ) (r : PartRead) (block : List ℕ) (n : ℕ) (cs : List Clause) → (l : Line s before r block n cs) → length before ≡ 512
     → Judgeable block (r .n) (l .clause)
 unfolding flatClause
 line-held s before r block n cs l size =
@@ -42,11 +42,11 @@ line-held s before r block n cs l size =
         record { some = h .1; ordered = subst (Ordered b) z (h .0); size = h .2; tree = λ m q. h .3 m (omega (arith, h .1)) }
 
 -- a line read where one is left, ready to be judged
-pub record Ready (s before : List ℕ) (r : Part) (block : List ℕ) (n : ℕ) (cs : List Clause) : Type 0 where
+pub record Ready (s before : List ℕ) (r : PartRead) (block : List ℕ) (n : ℕ) (cs : List Clause) : Type 0 where
   pub line : Line s before r block n cs
   pub judge : Judgeable block (r .n) (line .clause)
 
-pub ready : (s before : List ℕ) (r : Part) (block : List ℕ) (at n : ℕ) → at < length s
+pub ready : (s before : List ℕ) (r : PartRead) (block : List ℕ) (at n : ℕ) → at < length s
     → PartIs countNodes flatCount s 0 128 before r block (clauseLine 128 (drop at s)) → (cs : List Clause) → Left s at n cs → length before ≡ 512
     → Ready s before r block n cs
 ready s before r block at n inside h cs left size =

@@ -16,7 +16,7 @@ use Rattle.grammar.specs.Reader.{Got, got, no, pick, bind, clauseLine, lines, a
 use Rattle.grammar.specs.Reader as reader
 use Rattle.grammar.specs.Promises.{promises}
 use Rattle.token.specs.Parts.{Held, PartIs}
-use Rattle.token.specs.declared.Part.{Part}
+use Rattle.token.specs.declared.PartRead.{PartRead}
 use Rattle.sheet.specs.Rules.{rulesVerdict}
 use Rattle.plancheck.specs.Check.{clausesOf}
 use Rattle.plancheck.specs.Stages.{sheet-read}
@@ -58,7 +58,7 @@ none-left s at n cs l q = sym (ap listed (ap (λ (u : List ℕ). lines (32 - n) 
     go (suc k) = refl
 
 -- a line that was read, where one is left: its clause is the first
-pub record Line (s before : List ℕ) (r : Part) (block : List ℕ) (n : ℕ) (cs : List Clause) : Type 0 where
+pub record Line (s before : List ℕ) (r : PartRead) (block : List ℕ) (n : ℕ) (cs : List Clause) : Type 0 where
   pub clause : Clause
   pub rest : List Clause
   pub first : cs ≡ clause ∷ rest
@@ -69,7 +69,7 @@ pub record Line (s before : List ℕ) (r : Part) (block : List ℕ) (n : ℕ) (c
   pub held : Held countNodes flatCount s 0 128 before r block clause allowed behind
   pub left : Left s (r .at) (n + 1) rest
 
-module _ (s before : List ℕ) (r : Part) (block : List ℕ) (at n : ℕ) (inside : at < length s)
+module _ (s before : List ℕ) (r : PartRead) (block : List ℕ) (at n : ℕ) (inside : at < length s)
     (h : PartIs countNodes flatCount s 0 128 before r block (clauseLine 128 (drop at s))) where
   opened : (k : ℕ) → lines (suc k) (drop at s) ≡ bind (clauseLine 128 (drop at s)) (λ c m t. bind (lines k t) (λ cs m₁ r₁. got (c ∷ cs) m₁ r₁))
   unfolding lines

@@ -9,13 +9,13 @@ use lib.ListN.{length, drop, getD, length-append}
 use lib.Seq.{getD-append-add}
 use Rattle.record.specs.Buffer.{stored}
 use Rattle.record.specs.Stored.{length-stored, stored-front}
-use Rattle.grammar.specs.Grammar.{Form, top, leaf, neg, and, or, next, until, release, ev, gl, Inner, Threshold, counted, Clause}
+use Rattle.grammar.specs.Grammar.{Form, top, leaf, neg, and, or, next, until, release, ev, gl, Inner, Counted, counted, Clause}
 use Rattle.grammar.specs.Limits.{nodes, markNodes, countNodes, InRange, MarkOk, CountOk}
 use Rattle.grammar.specs.Nodes.{Node, topN, markN, countN, oneN, twoN, Op₁, neg₁, next₁, ev₁, gl₁, Op₂, and₂, or₂, until₂, release₂, flat, flatMark, flatInner, flatCount, flatClause, node, Stands, StandsMark, StandsCount}
 use Rattle.grammar.specs.Standing.{node-some, flat-length, clause-stands, clause-length}
 use Rattle.token.specs.Block.{nodeBytes, nodesBytes}
 use Rattle.token.specs.Joined.{length-nodes, nodes-one}
-use Rattle.drift.specs.Tree.{nodeAt, Below, Ordered, one, two, formOf, tree, innerTree, clauseTree}
+use Rattle.drift.specs.Tree.{nodeAt, OperandsBelow, Ordered, one, two, formOf, tree, innerTree, clauseTree}
 
 ---- The nodes come back from their bytes.
 pub node-back : (x : Node) (rest : List ℕ) → nodeAt (nodeBytes x ++ rest) 0 ≡ x
@@ -65,20 +65,20 @@ module _ (before : List ℕ) (ns : List Node) where
 ---- Each node is below its number, where the first has number b.
 abbrev pub AllFrom : ℕ → List Node → Type 0
 AllFrom b [] = Unit {0}
-AllFrom b (x ∷ ns) = Below b x × AllFrom (suc b) ns
+AllFrom b (x ∷ ns) = OperandsBelow b x × AllFrom (suc b) ns
 
 pub all-append : (b : ℕ) (ns ms : List Node) → AllFrom b ns → AllFrom (b + length ns) ms → AllFrom b (ns ++ ms)
 all-append b [] ms h g = let e : b + 0 ≡ b = omega arith in rw e at g
 all-append b (x ∷ ns) ms h g =
     let e : b + suc (length ns) ≡ suc b + length ns = omega arith in (h .0, all-append (suc b) ns ms (h .1) (rw e at g))
 
-all-at : (b : ℕ) (ns : List Node) → AllFrom b ns → (k : ℕ) → k < length ns → Below (b + k) (node ns k)
+all-at : (b : ℕ) (ns : List Node) → AllFrom b ns → (k : ℕ) → k < length ns → OperandsBelow (b + k) (node ns k)
 all-at b [] h k q = absurd (omega arith)
 all-at b (x ∷ ns) h zero q = let e : b + 0 ≡ b = omega arith in rw e (h .0)
 all-at b (x ∷ ns) h (suc k) q = let e : b + suc k ≡ suc b + k = omega arith in rw e (all-at (suc b) ns (h .1) k (omega arith))
 
 -- one more node
-all-snoc : (b : ℕ) (ns : List Node) (x : Node) → AllFrom b ns → Below (b + length ns) x → AllFrom b (ns ++ (x ∷ []))
+all-snoc : (b : ℕ) (ns : List Node) (x : Node) → AllFrom b ns → OperandsBelow (b + length ns) x → AllFrom b (ns ++ (x ∷ []))
 all-snoc b ns x h g = all-append b ns (x ∷ []) h (g, tt)
 
 module _ {L : Type 0} (leafNodes : L → ℕ) (leafFlat : L → ℕ → List Node) (Ok : L → Type 0) (some : (x : L) → 1 ≤ leafNodes x)
@@ -139,14 +139,14 @@ mark-all : (k b : ℕ) → MarkOk k → AllFrom b (flatMark k b)
 unfolding flatMark
 mark-all k b ok = (omega arith, tt)
 
-count-some : (x : Threshold) → 1 ≤ countNodes x
+count-some : (x : Counted) → 1 ≤ countNodes x
 count-some (counted a n p) = omega arith
 
-count-length : (x : Threshold) (b : ℕ) → length (flatCount x b) ≡ countNodes x
+count-length : (x : Counted) (b : ℕ) → length (flatCount x b) ≡ countNodes x
 unfolding flatCount flatInner
 count-length (counted a n p) b = let h = fl-length markNodes flatMark MarkOk mark-some mark-length mark-all a b in simp length-append (omega arith)
 
-count-all : (x : Threshold) (b : ℕ) → CountOk x → AllFrom b (flatCount x b)
+count-all : (x : Counted) (b : ℕ) → CountOk x → AllFrom b (flatCount x b)
 unfolding flatCount flatInner
 count-all (counted a n p) b ok =
     all-snoc b (flat markNodes flatMark a b) _ (flat-all markNodes flatMark MarkOk mark-some mark-length mark-all a b (ok .0))
@@ -159,7 +159,7 @@ clause-all c b ok = flat-all countNodes flatCount CountOk count-some count-lengt
 pub held-ordered : (before : List ℕ) (ns : List Node) → 4 * length ns ≤ length before → AllFrom 0 ns → Ordered (stored before 0 (nodesBytes ns)) (length ns)
 held-ordered before ns room h = record {
   room = omega (arith, held-length before ns room);
-  below = λ k q. let e : 0 + k ≡ k = omega arith in subst (λ (x : Node). Below k x) (sym (held-at before ns k q)) (rw e at (all-at 0 ns h k q));
+  below = λ k q. let e : 0 + k ≡ k = omega arith in subst (λ (x : Node). OperandsBelow k x) (sym (held-at before ns k q)) (rw e at (all-at 0 ns h k q));
 }
 
 ---- A node's tree is the text that it stands for.
@@ -206,10 +206,10 @@ module _ (block : List ℕ) (ns : List Node) (room : length ns ≤ length block)
   inner-tree a i p s n q = stands-tree (λ m. leaf m) (λ i m percent. top) StandsMark (λ i p x e f. rw e) a i p s n q
 
   -- counts, whose inner text is looked up as deep as the block is long
-  abbrev counts : ℕ → ℕ → Bool → Form Threshold
+  abbrev counts : ℕ → ℕ → Bool → Form Counted
   counts i m percent = leaf (counted (innerTree block (length block) i) m percent)
 
-  count-tree : (i : ℕ) → i < length ns → (x : Threshold) → StandsCount ns i x → (f : ℕ → Form Threshold) → formOf (λ m. top) counts f (node ns i) ≡ leaf x
+  count-tree : (i : ℕ) → i < length ns → (x : Counted) → StandsCount ns i x → (f : ℕ → Form Counted) → formOf (λ m. top) counts f (node ns i) ≡ leaf x
   count-tree i p (counted a n percent) (j, l, e, s) f =
       rw e (ap (λ (b : Inner). leaf (counted b n percent)) (inner-tree a j (omega arith) s (length block) (omega arith)))
 

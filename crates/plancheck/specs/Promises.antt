@@ -10,7 +10,7 @@ use Rattle.refusal.specs.declared.Verdict.the-variants.{Accepted}
 use Rattle.record.specs.All.{All}
 use Rattle.record.specs.Buffer.{stored}
 use Rattle.floor.specs.declared.Floor.{Floor}
-use Rattle.plan.specs.Plan.{Numbers}
+use Rattle.plan.specs.Plan.{PlanNumbers}
 use Rattle.plan.specs.After.{ReadAs}
 use Rattle.moves.specs.Promises.{AllUnending}
 use Rattle.grammar.specs.Grammar.{Clause}
@@ -25,31 +25,31 @@ Plain c = T (hasNext c) → ⊥
 
 module _ (floor plan sheet : List ℕ) where
   -- floor, plan and sheet can be read, the plan begins at its carts' starts, and its moves are open at every counter
-  pub record Readable (f : Floor) (p : Numbers) (cs : List Clause) : Type 0 where
+  pub record ReadAndOpen (f : Floor) (p : PlanNumbers) (cs : List Clause) : Type 0 where
     pub files : ReadAs floor plan f p
     pub moves : AllUnending floor f p
     pub clauses : readSheet sheet ≡ accepted cs
 
-  -- "Ahead of the clauses stand all refusals of the check but 17": there is none
-  pub record Ahead (f : Floor) (p : Numbers) (cs : List Clause) : Type 0 where
-    pub readable : Readable f p cs
-    pub steady : (p .head .drift ≡ 0) ⊎ All Plain cs
+  -- "NoneAhead of the clauses stand all refusals of the check but 17": there is none
+  pub record NoneAhead (f : Floor) (p : PlanNumbers) (cs : List Clause) : Type 0 where
+    pub readable : ReadAndOpen f p cs
+    pub no-16 : (p .head .drift ≡ 0) ⊎ All Plain cs
 
   pub record PlanChecked (v : Verdict) : Type 0 where
     -- the answer, for every floor, plan and sheet
     pub verdict : v ≡ checked floor plan sheet
     -- at drift 0: accepted exactly when all can be read, each cart begins at its start, its moves are open without end, and every clause is
     -- true in step
-    pub in-step : (f : Floor) (p : Numbers) → ReadAs floor plan f p → p .head .drift ≡ 0
-        → (v ≡ Accepted) ↔ ((cs : List Clause) × Readable f p cs × All (TrueInStep (planRows floor f p)) cs)
+    pub in-step : (f : Floor) (p : PlanNumbers) → ReadAs floor plan f p → p .head .drift ≡ 0
+        → (v ≡ Accepted) ↔ ((cs : List Clause) × ReadAndOpen f p cs × All (TrueInStep (planRows floor f p)) cs)
     -- nothing refused ahead of the clauses: accepted exactly when the drift rules keep every clause
-    pub kept : (f : Floor) (p : Numbers) (cs : List Clause) → Ahead f p cs
+    pub kept : (f : Floor) (p : PlanNumbers) (cs : List Clause) → NoneAhead f p cs
         → (v ≡ Accepted) ↔ All (λ c. T (rules (planRows floor f p) (p .head .drift) c 0)) cs
     -- accepted, under clauses that use "next" only inside counts: every clause is true of every run within the drift
-    pub runs : v ≡ Accepted → (f : Floor) (p : Numbers) (cs : List Clause) → Readable f p cs → All Plain cs
+    pub runs : v ≡ Accepted → (f : Floor) (p : PlanNumbers) (cs : List Clause) → ReadAndOpen f p cs → All Plain cs
         → (r : Run (f .carts) (p .head .drift)) → All (TrueOf (planRows floor f p) r) cs
     -- accepted too with every smaller drift: the same floor, sheet and plan but for the two bytes of d
-    pub smaller : v ≡ Accepted → (f : Floor) (p : Numbers) → ReadAs floor plan f p → (d : ℕ) → d ≤ p .head .drift
+    pub smaller : v ≡ Accepted → (f : Floor) (p : PlanNumbers) → ReadAs floor plan f p → (d : ℕ) → d ≤ p .head .drift
         → checked floor (stored plan 8 (bytes 2 d)) sheet ≡ Accepted
     -- what is accepted could be read, with nothing refused ahead of the clauses
-    pub readable : v ≡ Accepted → (f : Floor) × (p : Numbers) × (cs : List Clause) × Ahead f p cs
+    pub readable : v ≡ Accepted → (f : Floor) × (p : PlanNumbers) × (cs : List Clause) × NoneAhead f p cs

@@ -15,9 +15,9 @@ use Rattle.refusal.specs.declared.Verdict.{Verdict}
 use Rattle.refusal.specs.declared.Verdict.the-variants.{Accepted, Rules as AboutRules}
 use Rattle.record.specs.All.{All}
 use Rattle.floor.specs.declared.Floor.{Floor}
-use Rattle.plan.specs.Plan.{Numbers}
+use Rattle.plan.specs.Plan.{PlanNumbers}
 use Rattle.plan.specs.After.{ReadAs}
-use Rattle.plan.specs.Read.{Went, no-floor, no-plan, on, went, read-on}
+use Rattle.plan.specs.Read.{ReadingCases, floor-refused, plan-refused, both-read, reading-cases, read-on}
 use Rattle.plan.specs.RoundTrip.{valid}
 use Rattle.moves.specs.Carts.{movesVerdict}
 use Rattle.moves.specs.Unending.{all-unending, all-accepted}
@@ -28,7 +28,7 @@ use Rattle.sheet.specs.Rules.{readVerdict, rulesVerdict}
 use Rattle.cltl.specs.Meaning.{Rows}
 use Rattle.cltl.specs.Rules.{rules, hasNext}
 use Rattle.plancheck.specs.Check.{planRows, clausesOf, nextVerdict, keptVerdict, clausesVerdict, stages, checked}
-use Rattle.plancheck.specs.Promises.{Plain, Ahead}
+use Rattle.plancheck.specs.Promises.{Plain, NoneAhead}
 
 not-refused : {x : Refusal} → AboutRules x ≡ Accepted → ⊥
 not-refused e = let z : _≡_ {A = ℕ} 0 1 = cc in omega arith
@@ -65,8 +65,8 @@ module _ (P : Rows) (d : ℕ) where
   Kept c = T (rules P d c 0)
 
   -- no refusal 16
-  abbrev pub Steady : List Clause → Type 0
-  Steady cs = (d ≡ 0) ⊎ All Plain cs
+  abbrev pub No16 : List Clause → Type 0
+  No16 cs = (d ≡ 0) ⊎ All Plain cs
 
   verdict-kept : (n : ℕ) (cs : List Clause) → keptVerdict P d n cs ≡ Accepted → All Kept cs
   unfolding keptVerdict
@@ -78,40 +78,40 @@ module _ (P : Rows) (d : ℕ) where
   kept-verdict n [] a = refl
   kept-verdict n (c ∷ cs) a = if-true (rules P d c 0) _ _ (a .0) ∙ kept-verdict (suc n) cs (a .1)
 
-  steady-is : (cs : List Clause) → cond (eqb d 0) Accepted (nextVerdict 0 cs) ≡ Accepted → Steady cs
-  steady-is cs e = go (eqb d 0) refl e
+  is-no-16 : (cs : List Clause) → cond (eqb d 0) Accepted (nextVerdict 0 cs) ≡ Accepted → No16 cs
+  is-no-16 cs e = go (eqb d 0) refl e
     where
-      go : (b : Bool) → eqb d 0 ≡ b → cond b Accepted (nextVerdict 0 cs) ≡ Accepted → Steady cs
+      go : (b : Bool) → eqb d 0 ≡ b → cond b Accepted (nextVerdict 0 cs) ≡ Accepted → No16 cs
       go true q e = inl (eqb-true d 0 q)
       go false q e = inr (next-plain 0 cs e)
 
-  is-steady : (cs : List Clause) → Steady cs → cond (eqb d 0) Accepted (nextVerdict 0 cs) ≡ Accepted
-  is-steady cs (inl z) = ap (λ (b : Bool). cond b Accepted (nextVerdict 0 cs)) (eq-eqb d 0 z)
-  is-steady cs (inr a) = go (eqb d 0)
+  no-16-is : (cs : List Clause) → No16 cs → cond (eqb d 0) Accepted (nextVerdict 0 cs) ≡ Accepted
+  no-16-is cs (inl z) = ap (λ (b : Bool). cond b Accepted (nextVerdict 0 cs)) (eq-eqb d 0 z)
+  no-16-is cs (inr a) = go (eqb d 0)
     where
       go : (b : Bool) → cond b Accepted (nextVerdict 0 cs) ≡ Accepted
       go true = refl
       go false = plain-next 0 cs a
 
-  pub clauses-accepted : (cs : List Clause) → clausesVerdict P d cs ≡ Accepted → Steady cs × All Kept cs
-  clauses-accepted cs e = let r = both-accepted _ (keptVerdict P d 0 cs) e in (steady-is cs (r .0), verdict-kept 0 cs (r .1))
+  pub clauses-accepted : (cs : List Clause) → clausesVerdict P d cs ≡ Accepted → No16 cs × All Kept cs
+  clauses-accepted cs e = let r = both-accepted _ (keptVerdict P d 0 cs) e in (is-no-16 cs (r .0), verdict-kept 0 cs (r .1))
 
-  pub accepted-clauses : (cs : List Clause) → Steady cs → All Kept cs → clausesVerdict P d cs ≡ Accepted
-  accepted-clauses cs s a = ap (λ (v : Verdict). andThen v (keptVerdict P d 0 cs)) (is-steady cs s) ∙ kept-verdict 0 cs a
+  pub accepted-clauses : (cs : List Clause) → No16 cs → All Kept cs → clausesVerdict P d cs ≡ Accepted
+  accepted-clauses cs s a = ap (λ (v : Verdict). andThen v (keptVerdict P d 0 cs)) (no-16-is cs s) ∙ kept-verdict 0 cs a
 
 pub sheet-read : (r : Read) → readVerdict r ≡ Accepted → r ≡ accepted (clausesOf r)
 sheet-read (reader.accepted cs) e = refl
 sheet-read (reader.refused w k) e = absurd (not-refused e)
 
 module _ (floor plan sheet : List ℕ) where
-  abbrev K : Floor → Numbers → Clause → Type 0
+  abbrev K : Floor → PlanNumbers → Clause → Type 0
   K f p = Kept (planRows floor f p) (p .head .drift)
 
-  module _ (f : Floor) (p : Numbers) (files : ReadAs floor plan f p) where
+  module _ (f : Floor) (p : PlanNumbers) (files : ReadAs floor plan f p) where
     stem-low : p .head .stem < p .head .steps
     stem-low = valid f plan p (files .plan-read) .head .stem
 
-    stages-accepted : stages floor sheet f p ≡ Accepted → (cs : List Clause) × Ahead floor plan sheet f p cs × All (K f p) cs
+    stages-accepted : stages floor sheet f p ≡ Accepted → (cs : List Clause) × NoneAhead floor plan sheet f p cs × All (K f p) cs
     unfolding rulesVerdict
     stages-accepted e =
         let m = both-accepted (movesVerdict floor f p) _ e in
@@ -119,43 +119,43 @@ module _ (floor plan sheet : List ℕ) where
         let k = clauses-accepted (planRows floor f p) (p .head .drift) (clausesOf (readSheet sheet)) (r .1) in (
           clausesOf (readSheet sheet),
           record
-              { readable = record { files = files; moves = all-unending floor p stem-low f (m .0); clauses = sheet-read (readSheet sheet) (r .0) }; steady = k .0 },
+              { readable = record { files = files; moves = all-unending floor p stem-low f (m .0); clauses = sheet-read (readSheet sheet) (r .0) }; no-16 = k .0 },
           k .1,
         )
 
-  accepted-stages : (f : Floor) (p : Numbers) (cs : List Clause) → Ahead floor plan sheet f p cs → All (K f p) cs → stages floor sheet f p ≡ Accepted
+  accepted-stages : (f : Floor) (p : PlanNumbers) (cs : List Clause) → NoneAhead floor plan sheet f p cs → All (K f p) cs → stages floor sheet f p ≡ Accepted
   unfolding rulesVerdict
   accepted-stages f p cs a k =
       let w = a .readable in
       let m = all-accepted floor p (stem-low f p (w .files)) f (w .moves) in
       ap (λ (v : Verdict). andThen v (andThen (rulesVerdict sheet) (clausesVerdict (planRows floor f p) (p .head .drift) (clausesOf (readSheet sheet))))) m
       ∙ ap (λ (r : Read). andThen (readVerdict r) (clausesVerdict (planRows floor f p) (p .head .drift) (clausesOf r))) (w .clauses)
-      ∙ accepted-clauses (planRows floor f p) (p .head .drift) cs (a .steady) k
+      ∙ accepted-clauses (planRows floor f p) (p .head .drift) cs (a .no-16) k
 
-  pub stages-read : (f : Floor) (p : Numbers) → ReadAs floor plan f p → checked floor plan sheet ≡ stages floor sheet f p
+  pub stages-read : (f : Floor) (p : PlanNumbers) → ReadAs floor plan f p → checked floor plan sheet ≡ stages floor sheet f p
   unfolding checked
   stages-read f p files = read-on (λ v. v) (stages floor sheet) floor plan f p files
 
   -- with floor and plan read as these
-  pub accepted-as : (f : Floor) (p : Numbers) → ReadAs floor plan f p → checked floor plan sheet ≡ Accepted
-      → (cs : List Clause) × Ahead floor plan sheet f p cs × All (K f p) cs
+  pub accepted-as : (f : Floor) (p : PlanNumbers) → ReadAs floor plan f p → checked floor plan sheet ≡ Accepted
+      → (cs : List Clause) × NoneAhead floor plan sheet f p cs × All (K f p) cs
   accepted-as f p files e = stages-accepted f p files (sym (stages-read f p files) ∙ e)
 
-  pub as-accepted : (f : Floor) (p : Numbers) (cs : List Clause) → Ahead floor plan sheet f p cs → All (K f p) cs → checked floor plan sheet ≡ Accepted
+  pub as-accepted : (f : Floor) (p : PlanNumbers) (cs : List Clause) → NoneAhead floor plan sheet f p cs → All (K f p) cs → checked floor plan sheet ≡ Accepted
   as-accepted f p cs a k = stages-read f p (a .readable .files) ∙ accepted-stages f p cs a k
 
   -- what is accepted could be read
-  pub accepted-read : checked floor plan sheet ≡ Accepted → (f : Floor) × (p : Numbers) × ReadAs floor plan f p
+  pub accepted-read : checked floor plan sheet ≡ Accepted → (f : Floor) × (p : PlanNumbers) × ReadAs floor plan f p
   unfolding checked
-  accepted-read e = go (went (λ v. v) (stages floor sheet) floor plan)
+  accepted-read e = go (reading-cases (λ v. v) (stages floor sheet) floor plan)
     where
-      go : Went (λ (v : Verdict). v) (stages floor sheet) floor plan → (f : Floor) × (p : Numbers) × ReadAs floor plan f p
-      go (no-floor x q) = let z : _≡_ {A = ℕ} 0 1 = cc in absurd (omega arith)
-      go (no-plan x q) = let z : _≡_ {A = ℕ} 0 1 = cc in absurd (omega arith)
-      go (on f n w r) = (f, n, w)
+      go : ReadingCases (λ (v : Verdict). v) (stages floor sheet) floor plan → (f : Floor) × (p : PlanNumbers) × ReadAs floor plan f p
+      go (floor-refused x q) = let z : _≡_ {A = ℕ} 0 1 = cc in absurd (omega arith)
+      go (plan-refused x q) = let z : _≡_ {A = ℕ} 0 1 = cc in absurd (omega arith)
+      go (both-read f n w r) = (f, n, w)
 
 ---- The stages one after the other, each by its own verdict.
-module _ (floor sheet : List ℕ) (f : Floor) (p : Numbers) (m : Verdict) (em : m ≡ movesVerdict floor f p) where
+module _ (floor sheet : List ℕ) (f : Floor) (p : PlanNumbers) (m : Verdict) (em : m ≡ movesVerdict floor f p) where
   abbrev Rest : Verdict → Verdict
   Rest v = andThen v (clausesVerdict (planRows floor f p) (p .head .drift) (clausesOf (readSheet sheet)))
 

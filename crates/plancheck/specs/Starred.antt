@@ -17,10 +17,9 @@ use Rattle.plan.specs.After.{afterReading}
 use Rattle.row.specs.Lasso.{nextStep, stepOf}
 use Rattle.row.specs.Moves.{isOpen, lowestShut, judgedMoves}
 use Rattle.moves.specs.Carts.{judgedCarts}
-use Rattle.grammar.specs.Reader.{bind, node, skip, expectAt, expect, digits, number, percent, chainAt, chainMore, chain, andChain, orChain, byKind, smallAt, smallOf, byOnward, untilAt, untilOf, deeper, smalls, untils, ors, markBy, marks, inners, threshold, countBy, counts, clauses, clauseLine, lines, outcome, start, readSheet}
+use Rattle.grammar.specs.Reader.{bind, node, skip, expectAt, expect, digits, number, percent, chainAt, chainMore, chain, andChain, orChain, byKind, smallAt, smallOf, byOnward, untilAt, untilOf, deeper, smalls, untils, ors, markBy, marks, inners, countEnd, countBy, counts, clauses, clauseLine, lines, outcome, start, readSheet}
 use Rattle.sheet.specs.Rules.{rulesVerdict}
-use Rattle.cltl.specs.Threshold.{quota}
-use Rattle.cltl.specs.Threshold as carts
+use Rattle.cltl.specs.Threshold.{threshold, quota}
 use Rattle.cltl.specs.Rules.{tally, every, fix, window, quorum, judge, mark, inner, count, rules}
 use Rattle.cltl.specs.Step.{lowest, failing}
 use Rattle.plancheck.specs.Check.{nextVerdict, keptVerdict, checked}
@@ -58,8 +57,8 @@ unfolding
     flatten value split recordsIn partsIn parts judged walk readFloor bodiesOf judgedHead judgedPlaces judgedRow readRows readPlan afterReading
     nextStep stepOf isOpen lowestShut judgedMoves judgedCarts
     bind node skip expectAt expect digits number percent chainAt chainMore chain andChain orChain byKind smallAt smallOf byOnward untilAt untilOf deeper smalls untils ors markBy marks inners
-    threshold countBy counts clauses clauseLine lines outcome start readSheet rulesVerdict
-    quota carts.threshold tally every fix window quorum judge mark inner count rules lowest failing nextVerdict keptVerdict checked
+    countEnd countBy counts clauses clauseLine lines outcome start readSheet rulesVerdict
+    quota threshold tally every fix window quorum judge mark inner count rules lowest failing nextVerdict keptVerdict checked
 computing floor plan sheet = checked floor plan sheet
 
 pub starred :

@@ -16,7 +16,7 @@ use Rattle.record.specs.All.{All}
 use Rattle.grammar.specs.Grammar.{Clause}
 use Rattle.grammar.specs.Reader.{readSheet}
 use Rattle.sheet.specs.Rules.{rulesVerdict}
-use Rattle.token.specs.declared.Part.{Part}
+use Rattle.token.specs.declared.PartRead.{PartRead}
 use Rattle.cltl.specs.Meaning.{Rows}
 use Rattle.cltl.specs.Rules.{rules, hasNext}
 use Rattle.cltl.specs.Step.{failing}
@@ -105,7 +105,7 @@ module _ (P : Rows) (d : ℕ) where
           alone false = refl
       seventeen false e b = rw (e, e)
 
-  module _ (s before : List ℕ) (r : Part) (block : List ℕ) (at n : ℕ) (found : Verdict) (g : Going s at n found) (l : Line s before r block n (g .rest)) where
+  module _ (s before : List ℕ) (r : PartRead) (block : List ℕ) (at n : ℕ) (found : Verdict) (g : Going s at n found) (l : Line s before r block n (g .rest)) where
     pub going-16 : true ≡ cond (eqb d 0) false (hasNext (l .clause)) → AboutRules (refused 16 n 0) ≡ clausesVerdict P d (clausesOf (readSheet s))
     going-16 e = stops-16 found n (l .clause) (l .rest) e ∙ ap (seen found n) (sym (l .first)) ∙ g .same
 

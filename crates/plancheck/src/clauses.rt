@@ -10,7 +10,7 @@ ghost use Rattle.refusal.specs.declared.Verdict.the-variants.{Accepted};
 ghost use Rattle.grammar.specs.Reader.{readSheet};
 ghost use Rattle.sheet.specs.Rules.{rulesVerdict};
 ghost use Rattle.cltl.specs.Rules.{hasNext};
-ghost use Rattle.marks.specs.Table.{Tabled, rowsIn};
+ghost use Rattle.marks.specs.Table.{Tabled, tableRows};
 ghost use Rattle.drift.specs.Tree.{Ordered, clauseTree};
 ghost use Rattle.plancheck.specs.Check.{clausesOf, clauseVerdict, clausesVerdict};
 
@@ -30,7 +30,7 @@ fn first_found(found: Verdict, nodes: &[u8], table: &[u64], g: Ground, k: usize,
     requires { ⌜ (g .l < g .h) × (g .h ≤ 64) × (g .carts ≤ 32) ⌝ }
     requires { ⌜ Ordered (now nodes) (k + 1) ⌝ }
     requires { ⌜ Tabled (now table) (g .carts) (g .h) ⌝ }
-    ensures { λ v. ⌜ ((m : ℕ) → k < m → v ≡ andThen found (clauseVerdict (rowsIn (now (table .entry)) (g .carts) (g .h) (g .l)) (g .d) n (clauseTree (now (nodes .entry)) m k))) ⌝ }
+    ensures { λ v. ⌜ ((m : ℕ) → k < m → v ≡ andThen found (clauseVerdict (tableRows (now (table .entry)) (g .carts) (g .h) (g .l)) (g .d) n (clauseTree (now (nodes .entry)) m k))) ⌝ }
 {
     if !refusal::accepts(found) {
         return found;
@@ -48,7 +48,7 @@ pub fn judge_lines(rules: &[u8], table: &[u64], g: Ground) -> Verdict
     requires { ⌜ rulesVerdict (now rules) ≡ Accepted ⌝ }
     requires { ⌜ (g .l < g .h) × (g .h ≤ 64) × (g .carts ≤ 32) ⌝ }
     requires { ⌜ Tabled (now table) (g .carts) (g .h) ⌝ }
-    ensures { λ v. ⌜ v ≡ clausesVerdict (rowsIn (now (table .entry)) (g .carts) (g .h) (g .l)) (g .d) (clausesOf (readSheet (now (rules .entry)))) ⌝ }
+    ensures { λ v. ⌜ v ≡ clausesVerdict (tableRows (now (table .entry)) (g .carts) (g .h) (g .l)) (g .d) (clausesOf (readSheet (now (rules .entry)))) ⌝ }
 {
     let mut nodes = [0u8; 512];
     let mut found = Verdict::Accepted;

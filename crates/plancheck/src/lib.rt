@@ -10,12 +10,12 @@ ghost use mathlib.Core.Path.{_≡_};
 ghost use Prim.Native.Nat.{ℕ, _*_, _<_, _≤_};
 ghost use lib.ListN.{length};
 ghost use Rattle.refusal.specs.declared.Verdict.the-variants.{Accepted};
-ghost use Rattle.floor.specs.Promises.{Accepts};
+ghost use Rattle.floor.specs.Promises.{AcceptedFloor};
 ghost use Rattle.plan.specs.Plan.{heldNumbers};
 ghost use Rattle.plan.specs.Valid.{InRange};
 ghost use Rattle.grammar.specs.Reader.{readSheet};
 ghost use Rattle.sheet.specs.Rules.{rulesVerdict};
-ghost use Rattle.plancheck.specs.Check.{placeOn, planRows, clausesOf, clausesVerdict};
+ghost use Rattle.plancheck.specs.Check.{placeOnStep, planRows, clausesOf, clausesVerdict};
 ghost use Rattle.plancheck.specs.Promises.{PlanChecked};
 
 // Judges the clauses of an accepted sheet on an accepted plan, with room for its marks' rows.
@@ -27,9 +27,9 @@ fn judge_with(
     rules: &[u8],
     table: &mut [u64],
 ) -> Verdict
-    requires { ⌜ Accepts (now floor) f ⌝ }
+    requires { ⌜ AcceptedFloor (now floor) f ⌝ }
     requires { ⌜ InRange h × (length (now block) ≡ 2048) ⌝ }
-    requires { ⌜ ((c s : ℕ) → c < f .carts → s < h .steps → placeOn (heldNumbers (f .carts) h (now block)) c s < f .places) ⌝ }
+    requires { ⌜ ((c s : ℕ) → c < f .carts → s < h .steps → placeOnStep (heldNumbers (f .carts) h (now block)) c s < f .places) ⌝ }
     requires { ⌜ rulesVerdict (now rules) ≡ Accepted ⌝ }
     requires { ⌜ f .carts * 32 ≤ length (now table) ⌝ }
     ensures { λ v. ⌜ v ≡ clausesVerdict (planRows (now (floor .entry)) f (heldNumbers (f .carts) h (now (block .entry)))) (h .drift) (clausesOf (readSheet (now (rules .entry)))) ⌝ }
@@ -46,9 +46,9 @@ fn judge_with(
 
 // The same, with no more room than a small floor needs, since a table is cleared before it is filled.
 fn judge_clauses(floor: &[u8], f: Floor, h: Head, block: &[u8], rules: &[u8]) -> Verdict
-    requires { ⌜ Accepts (now floor) f ⌝ }
+    requires { ⌜ AcceptedFloor (now floor) f ⌝ }
     requires { ⌜ InRange h × (length (now block) ≡ 2048) ⌝ }
-    requires { ⌜ ((c s : ℕ) → c < f .carts → s < h .steps → placeOn (heldNumbers (f .carts) h (now block)) c s < f .places) ⌝ }
+    requires { ⌜ ((c s : ℕ) → c < f .carts → s < h .steps → placeOnStep (heldNumbers (f .carts) h (now block)) c s < f .places) ⌝ }
     requires { ⌜ rulesVerdict (now rules) ≡ Accepted ⌝ }
     ensures { λ v. ⌜ v ≡ clausesVerdict (planRows (now (floor .entry)) f (heldNumbers (f .carts) h (now (block .entry)))) (h .drift) (clausesOf (readSheet (now (rules .entry)))) ⌝ }
 {

@@ -17,13 +17,13 @@ abbrev pub codeIn : List ℕ → Code
 codeIn s = record { about = wordAt 0 s; number = wordAt 4 s; first = wordAt 8 s; second = wordAt 12 s }
 
 -- each of the four numbers fits in 32 bits
-pub record Words (c : Code) : Type 0 where
+pub record Fits32 (c : Code) : Type 0 where
   pub about : c .about < 2 ^ 32
   pub number : c .number < 2 ^ 32
   pub first : c .first < 2 ^ 32
   pub second : c .second < 2 ^ 32
 
-pub codeIn-bytesOf : (c : Code) → Words c → codeIn (bytesOf c) ≡ c
+pub codeIn-bytesOf : (c : Code) → Fits32 c → codeIn (bytesOf c) ≡ c
 unfolding bytes
 codeIn-bytesOf c w =
     rw (value-bytes 4 (c .about) (w .about), value-bytes 4 (c .number) (w .number), value-bytes 4 (c .first) (w .first), value-bytes 4 (c .second) (w .second))

@@ -1,7 +1,9 @@
 pub mod Codes
 pub mod Distinct
 pub mod Stages
+pub mod Given
 pub mod Outcome
+pub mod Numbered
 pub mod Held
 pub mod Faults
 pub mod Accepting

@@ -85,7 +85,7 @@ pub fn code_of(v: Verdict) -> Code
 }
 
 // The verdict's 16 bytes.
-pub fn encoded(v: Verdict) -> [u8; 16]
+pub fn verdict_bytes(v: Verdict) -> [u8; 16]
     ensures { λ r. ⌜ r ≡ bytesOf (codeOf v) ⌝ }
 {
     let c = code_of(v);

@@ -9,7 +9,7 @@ use lib.Dec.{eqb}
 use lib.ListN.{length, drop, getD}
 use borrow.Author.Tests.{eq-eqb}
 use Rattle.floor.specs.Numbers.{laneAt}
-use Rattle.floor.specs.Promises.{Accepts}
+use Rattle.floor.specs.Promises.{AcceptedFloor}
 use Rattle.floor.specs.declared.Floor.{Floor}
 use Rattle.row.specs.Moves.{bit, opens, isOpen, lanesIn}
 use Rattle.row.specs.Chain.{Leads}
@@ -28,7 +28,7 @@ pub record Following (s next : List ℕ) (c a b k : ℕ) : Type 0 where
   pub leads : Leads (lanesIn s) next a k from
   pub same : isOpen (lanesIn s) c a b ≡ isOpen (drop from (lanesIn s)) c a b
 
-module _ (s next : List ℕ) (f : Floor) (w : Accepts s f) (c a b k : ℕ) (g : Following s next c a b k) where
+module _ (s next : List ℕ) (f : Floor) (w : AcceptedFloor s f) (c a b k : ℕ) (g : Following s next c a b k) where
   pub none-open : k ≡ 0 → false ≡ isOpen (lanesIn s) c a b
   none-open z = sym (g .same ∙ ended (lanesIn s) next a (g .leads) z (g .within) c b)
 

@@ -5,7 +5,7 @@ use mathlib.Core.Path.{_≡_, sym, ap, subst, _∙_}
 use mathlib.Core.List.{List}
 use lib.ListN.{length, getD, set, length-set}
 use Rattle.floor.specs.Numbers.{laneAt}
-use Rattle.floor.specs.Promises.{Accepts}
+use Rattle.floor.specs.Promises.{AcceptedFloor}
 use Rattle.floor.specs.declared.Floor.{Floor}
 use Rattle.row.specs.Moves.{lanesIn}
 use Rattle.row.specs.Chain.{leaves, Chained}
@@ -15,7 +15,7 @@ use Rattle.row.specs.FloorBytes.{lane-count, lane-byte}
 -- the lanes from j on are linked
 pub record Linking (s : List ℕ) (start : ℕ) (first next : List ℕ) (j : ℕ) : Type 0 where
   pub floor : Floor
-  pub accepts : Accepts s floor
+  pub accepts : AcceptedFloor s floor
   pub begins : start ≡ floor .places * 8
   pub left : j ≤ floor .lanes
   pub wide-first : length first ≡ 256

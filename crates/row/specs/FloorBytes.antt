@@ -8,12 +8,12 @@ use lib.Seq.{getD-take, getD-drop}
 use Rattle.record.specs.Parts.{parts}
 use Rattle.record.specs.Laid.{part-of, whole-parts}
 use Rattle.floor.specs.Numbers.{numbersOf, laneAt, cartAt, bodyAt}
-use Rattle.floor.specs.Promises.{Accepts}
+use Rattle.floor.specs.Promises.{AcceptedFloor}
 use Rattle.floor.specs.Walk.{length-floor}
 use Rattle.floor.specs.declared.Floor.{Floor}
 use Rattle.row.specs.Moves.{lanesIn, cartsIn}
 
-module _ (s : List ℕ) (f : Floor) (w : Accepts s f) where
+module _ (s : List ℕ) (f : Floor) (w : AcceptedFloor s f) where
   pub file-length : length s ≡ 8 * f .places + (7 * f .lanes + 6 * f .carts)
   file-length =
       let v = w .valid in

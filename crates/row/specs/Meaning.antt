@@ -8,13 +8,13 @@ use Rattle.row.specs.Lasso.{stepOf}
 use Rattle.row.specs.Moves.{isOpen, openAt}
 
 -- the place of a row at counter v
-abbrev pub placeOn : List ℕ → ℕ → ℕ → ℕ → ℕ
-placeOn row h l v = getD row (stepOf h l v) 0
+abbrev pub placeAtCounter : List ℕ → ℕ → ℕ → ℕ → ℕ
+placeAtCounter row h l v = getD row (stepOf h l v) 0
 
 -- a row begins at the start, and its move at every counter is open to the class
 pub record Unending (lanes : List (List ℕ)) (class start : ℕ) (row : List ℕ) (h l : ℕ) : Type 0 where
   pub begins : getD row 0 0 ≡ start
-  pub open-at : (v : ℕ) → isOpen lanes class (placeOn row h l v) (placeOn row h l (suc v)) ≡ true
+  pub open-at : (v : ℕ) → isOpen lanes class (placeAtCounter row h l v) (placeAtCounter row h l (suc v)) ≡ true
 
 -- step k is left by a move that is not open, and every lower one from s on by an open move
 pub record Lowest (lanes : List (List ℕ)) (class : ℕ) (row : List ℕ) (h l s k : ℕ) : Type 0 where

@@ -5,13 +5,13 @@ ghost use mathlib.Core.Path.{_≡_};
 ghost use mathlib.Core.Bool.{_&&_};
 ghost use Prim.Native.Nat.{_<_};
 ghost use lib.Dec.{eqb};
-ghost use Rattle.floor.specs.Promises.{Accepts};
+ghost use Rattle.floor.specs.Promises.{AcceptedFloor};
 ghost use Rattle.row.specs.Moves.{bit, isOpen, lanesIn};
 ghost use Rattle.row.specs.Chain.{Chained};
 
 // Links the lanes of an accepted floor, the last lane first.
 pub fn linked(s: &[u8], f: Floor) -> Links
-    requires { ⌜ Accepts (now s) f ⌝ }
+    requires { ⌜ AcceptedFloor (now s) f ⌝ }
     ensures { λ r. ⌜ Chained (lanesIn (now (s .entry))) (r .first) (r .next) 0 ⌝ }
 {
     let start = f.places * 8;
@@ -50,7 +50,7 @@ pub(crate) fn is_open<'a>(
     from: u8,
     to: u8,
 ) -> bool
-    requires { ⌜ Accepts (now s) f ⌝ }
+    requires { ⌜ AcceptedFloor (now s) f ⌝ }
     requires { ⌜ Chained (lanesIn (now s)) (now first) (now next) 0 ⌝ }
     requires { ⌜ class < 8 ⌝ }
     ensures { λ r. ⌜ r ≡ isOpen (lanesIn (now (s .entry))) class from to ⌝ }

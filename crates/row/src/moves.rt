@@ -5,7 +5,7 @@ use floor::Floor;
 ghost use mathlib.Core.Path.{_≡_};
 ghost use Prim.Native.Nat.{_<_};
 ghost use lib.ListN.{length};
-ghost use Rattle.floor.specs.Promises.{Accepts};
+ghost use Rattle.floor.specs.Promises.{AcceptedFloor};
 ghost use Rattle.row.specs.Lasso.{nextStep};
 ghost use Rattle.row.specs.Moves.{judgedMoves, lanesIn};
 ghost use Rattle.row.specs.Chain.{Chained};
@@ -28,7 +28,7 @@ pub fn judge_moves<'a>(
     row: &'a [u8],
     stem: usize,
 ) -> MoveAnswer
-    requires { ⌜ Accepts (now s) f ⌝ }
+    requires { ⌜ AcceptedFloor (now s) f ⌝ }
     requires { ⌜ Chained (lanesIn (now s)) (now first) (now next) 0 ⌝ }
     requires { ⌜ class < 8 ⌝ }
     requires { ⌜ stem < length (now row) ⌝ }

@@ -17,7 +17,7 @@ use Rattle.token.specs.Operator.{OperatorAt}
 use Rattle.token.specs.Joined.{part-length}
 use Rattle.sheet.specs.Room.{flat-size, Room, room, refused-part}
 use Rattle.sheet.specs.Chained.{Chain, begun, ended, spent, onward}
-use Rattle.token.specs.declared.Part.{Part}
+use Rattle.token.specs.declared.PartRead.{PartRead}
 
 -- the two chains
 pub data Joint : Type 0 where
@@ -57,18 +57,18 @@ whole-is inner conj level left t = refl
 whole-is inner disj level left t = refl
 
 module _ (inner : Bool) (k : Joint) (level : ℕ) (s : List ℕ) (at n left : ℕ) where
-  abbrev pub Turn : List ℕ → Part → List ℕ → Type 0
+  abbrev pub Turn : List ℕ → PartRead → List ℕ → Type 0
   Turn before r block =
       Chain (leafNodes inner) (leafFlat inner) (flat-size inner) (jointByte k) (jointOp k) (joint k) (flat-joint inner k) (links inner k level) s n left before
       (whole inner k level left (drop at s)) r block
 
   -- whatever stood in the block before the first part was read into it
-  abbrev pub Turns : List ℕ → Part → List ℕ → Part → Type 0
+  abbrev pub Turns : List ℕ → PartRead → List ℕ → PartRead → Type 0
   Turns block₀ r₀ block r =
       (before : List ℕ) → length before ≡ 512 → PartIs (leafNodes inner) (leafFlat inner) s n left before r₀ block₀ (links inner k level left (drop at s))
       → Turn before r block
 
-  pub first-turn : (block : List ℕ) (r : Part) → Turns block r block r
+  pub first-turn : (block : List ℕ) (r : PartRead) → Turns block r block r
   first-turn block r before long h =
       subst
       (λ g. Chain (leafNodes inner) (leafFlat inner) (flat-size inner) (jointByte k) (jointOp k) (joint k) (flat-joint inner k)
@@ -77,7 +77,7 @@ module _ (inner : Bool) (k : Joint) (level : ℕ) (s : List ℕ) (at n left : �
       (begun (leafNodes inner) (leafFlat inner) (flat-size inner) (jointByte k) (jointOp k) (joint k) (flat-joint inner k)
       (links inner k level) s n left before r block (drop at s) h)
 
-  module _ (before : List ℕ) (r : Part) (block : List ℕ) (w : Turn before r block) where
+  module _ (before : List ℕ) (r : PartRead) (block : List ℕ) (w : Turn before r block) where
     pub turn-room : r .fault ≡ 0 → Room n left r
     turn-room e = room inner s n left before r block (w .so-far) (w .part) e
 
@@ -97,9 +97,9 @@ module _ (inner : Bool) (k : Joint) (level : ℕ) (s : List ℕ) (at n left : �
           (links inner k level) s n left before
           (whole inner k level left (drop at s)) r block w i op l z
 
-      pub turn-on : i < length s → (0 < r .left) → length before ≡ 512 → n + left ≤ 128 → (p : Part) (late : List ℕ)
+      pub turn-on : i < length s → (0 < r .left) → length before ≡ 512 → n + left ≤ 128 → (p : PartRead) (late : List ℕ)
           → PartIs (leafNodes inner) (leafFlat inner) s (r .n) (r .left - 1) block p late (links inner k level (r .left - 1) (drop (i + 1) s))
-          → (q : Part) (after : List ℕ) → WithNode late p (twoByte (jointOp k) ∷ (r .n - 1) ∷ (p .n - 1) ∷ 0 ∷ []) q after → Turn before q after
+          → (q : PartRead) (after : List ℕ) → WithNode late p (twoByte (jointOp k) ∷ (r .n - 1) ∷ (p .n - 1) ∷ 0 ∷ []) q after → Turn before q after
           × (q .left < r .left)
       turn-on l some long few p late next q after put =
           let e : i + 1 ≡ suc i = omega arith in
@@ -110,7 +110,7 @@ module _ (inner : Bool) (k : Joint) (level : ℕ) (s : List ℕ) (at n left : �
           (links inner k level (r .left - 1) (drop j s))) e next) q after put
 
   -- another part behind an operator: the block's length, and the nodes
-  pub next-part : (r : Part) (block : List ℕ) (i : ℕ) (p : Part) (late : List ℕ)
+  pub next-part : (r : PartRead) (block : List ℕ) (i : ℕ) (p : PartRead) (late : List ℕ)
       → PartIs (leafNodes inner) (leafFlat inner) s (r .n) (r .left - 1) block p late (links inner k level (r .left - 1) (drop (i + 1) s))
       → length block ≡ 512 → r .n + (r .left - 1) ≤ 128 → (length late ≡ 512) × (p .fault ≡ 0 → Room (r .n) (r .left - 1) p)
   next-part r block i p late h long few =

@@ -17,7 +17,7 @@ use Rattle.token.specs.Parts.{Held, PartIs}
 use Rattle.token.specs.More.{WithNode}
 use Rattle.token.specs.Joined.{two-parts}
 use Rattle.token.specs.Operator.{OperatorAt}
-use Rattle.token.specs.declared.Part.{Part}
+use Rattle.token.specs.declared.PartRead.{PartRead}
 
 bind-bind : {A : Type 0} (g : Got A) (f : A → A) (k : A → ℕ → List ℕ → Got A) → bind g (λ b m t. k (f b) m t) ≡ bind (bind g (λ b m t. got (f b) m t)) k
 unfolding bind
@@ -31,14 +31,14 @@ module _ {L : Type 0} (leafNodes : L → ℕ) (leafFlat : L → ℕ → List Nod
     (twoN o ((b + nodes leafNodes a) - 1) (((b + nodes leafNodes a) + nodes leafNodes d) - 1) ∷ []))
     (sub : Reader (Form L)) (s : List ℕ) where
   -- the parts so far, and that the rest of the chain gives the answer
-  pub record Chain (n left : ℕ) (before : List ℕ) (g : Got (Form L)) (r : Part) (block : List ℕ) : Type 0 where
+  pub record Chain (n left : ℕ) (before : List ℕ) (g : Got (Form L)) (r : PartRead) (block : List ℕ) : Type 0 where
     pub fuel : ℕ
     pub so-far : Got (Form L)
     pub part : PartIs leafNodes leafFlat s n left before r block so-far
     pub same : g ≡ bind so-far (λ a m t. chainMore c mk sub fuel a m t)
     pub enough : r .left ≤ fuel
 
-  pub begun : (n left : ℕ) (before : List ℕ) (r : Part) (block : List ℕ) (t : List ℕ) → PartIs leafNodes leafFlat s n left before r block (sub left t)
+  pub begun : (n left : ℕ) (before : List ℕ) (r : PartRead) (block : List ℕ) (t : List ℕ) → PartIs leafNodes leafFlat s n left before r block (sub left t)
       → Chain n left before (chain c mk sub left t) r block
   unfolding chain bind
   begun n left before r block t p = go (sub left t) p
@@ -47,7 +47,7 @@ module _ {L : Type 0} (leafNodes : L → ℕ) (leafFlat : L → ℕ → List Nod
       go (got a m u) h = record { fuel = m; so-far = got a m u; part = h; same = refl; enough = omega (arith, h .allowed) }
       go (no w u) h = record { fuel = 0; so-far = no w u; part = h; same = refl; enough = omega (arith, h .none) }
 
-  module _ (n left : ℕ) (before : List ℕ) (g : Got (Form L)) (r : Part) (block : List ℕ) (w : Chain n left before g r block) (i : ℕ)
+  module _ (n left : ℕ) (before : List ℕ) (g : Got (Form L)) (r : PartRead) (block : List ℕ) (w : Chain n left before g r block) (i : ℕ)
       (op : OperatorAt s r c i) where
     -- no operator: the chain is what was read
     pub ended : length s ≤ i → PartIs leafNodes leafFlat s n left before r block g
@@ -86,8 +86,8 @@ module _ {L : Type 0} (leafNodes : L → ℕ) (leafFlat : L → ℕ → List Nod
             ∙ ap (no 14) (sym (op .here at))
 
     -- the operator, another part and the operator's node
-    module _ (at : i < length s) (k : ℕ) (some : r .left ≡ suc k) (long : length before ≡ 512) (few : n + left ≤ 128) (p : Part) (late : List ℕ)
-        (next : PartIs leafNodes leafFlat s (r .n) k block p late (sub k (drop (suc i) s))) (q : Part) (after : List ℕ)
+    module _ (at : i < length s) (k : ℕ) (some : r .left ≡ suc k) (long : length before ≡ 512) (few : n + left ≤ 128) (p : PartRead) (late : List ℕ)
+        (next : PartIs leafNodes leafFlat s (r .n) k block p late (sub k (drop (suc i) s))) (q : PartRead) (after : List ℕ)
         (put : WithNode late p (twoByte o ∷ (r .n - 1) ∷ (p .n - 1) ∷ 0 ∷ []) q after) where
       joined-left : (x : Got (Form L)) → PartIs leafNodes leafFlat s (r .n) k block p late x → (a : Form L)
           → PartIs leafNodes leafFlat s n left before q after (bind x (λ d m₂ t₂. got (mk a d) m₂ t₂)) → q .left ≤ k

@@ -7,7 +7,7 @@ use lib.Dec.{eqb}
 use lib.ListN.{length, getD, drop}
 use lib.Seq.{drop-cons}
 use borrow.Author.Tests.{eq-eqb, ne-eqb}
-use Rattle.grammar.specs.Grammar.{Form, Threshold, Clause}
+use Rattle.grammar.specs.Grammar.{Form, Counted, Clause}
 use Rattle.grammar.specs.Limits.{markNodes}
 use Rattle.grammar.specs.Nodes.{markN, flat, flatMark}
 use Rattle.grammar.specs.Reader.{Got, got, no, bind, node, marks, inners, countBy, counts, ors}
@@ -15,9 +15,9 @@ use Rattle.token.specs.Leaves.{LeafIs}
 use Rattle.token.specs.Parts.{PartIs}
 use Rattle.token.specs.Counts.{countGot}
 use Rattle.token.specs.Placed.{placed-part}
-use Rattle.token.specs.declared.Part.{Part}
+use Rattle.token.specs.declared.PartRead.{PartRead}
 
-pub mark-part : (s : List ℕ) (n left : ℕ) (before : List ℕ) (r : Part) (after : List ℕ) (g : Got ℕ) → LeafIs markN s n left before r after g
+pub mark-part : (s : List ℕ) (n left : ℕ) (before : List ℕ) (r : PartRead) (after : List ℕ) (g : Got ℕ) → LeafIs markN s n left before r after g
     → PartIs markNodes flatMark s n left before r after (bind g (λ x m t. got (Form.leaf x) m t))
 unfolding bind flat flatMark
 mark-part s n left before r after (no w t) h = h
@@ -35,14 +35,14 @@ module _ (s : List ℕ) (level left i : ℕ) (l : i < length s) where
   pub no-count : (getD s i 0 ≡ 91 → ⊥) → countLeaf ≡ no 13 (drop i s)
   unfolding countBy bind
   no-count n =
-      ap (λ (g : Got Threshold). bind g (λ x m t. got (Form.leaf x) m t))
+      ap (λ (g : Got Counted). bind g (λ x m t. got (Form.leaf x) m t))
       (sees ∙ ap (λ (b : Bool). countBy level b left (getD s i 0) (drop (suc i) s)) (ne-eqb (getD s i 0) 91 n))
       ∙ ap (no 13) (sym (drop-cons s i 0 l))
 
   module _ (e : getD s i 0 ≡ 91) where
     begins : countLeaf ≡ bind (countBy level true left (getD s i 0) (drop (suc i) s)) (λ x m t. got (Form.leaf x) m t)
     begins =
-        ap (λ (g : Got Threshold). bind g (λ x m t. got (Form.leaf x) m t))
+        ap (λ (g : Got Counted). bind g (λ x m t. got (Form.leaf x) m t))
         (sees ∙ ap (λ (b : Bool). countBy level b left (getD s i 0) (drop (suc i) s)) (eq-eqb (getD s i 0) 91 e))
 
     pub count-shut : level ≡ 0 → countLeaf ≡ no 14 (drop i s)

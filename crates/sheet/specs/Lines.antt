@@ -16,7 +16,7 @@ use Rattle.grammar.specs.Nodes.{flatCount}
 use Rattle.grammar.specs.Reader.{Got, got, no, pick, bind, clauseLine, lines, Read, outcome, start, readSheet}
 use Rattle.token.specs.Parts.{PartIs}
 use Rattle.sheet.specs.Rules.{readVerdict, rulesVerdict, linesVerdict}
-use Rattle.token.specs.declared.Part.{Part}
+use Rattle.token.specs.declared.PartRead.{PartRead}
 
 module _ (s : List ℕ) where
   pub too-long : 16384 < length s → rulesVerdict s ≡ AboutRules (atOffset 12 0)
@@ -66,7 +66,7 @@ module _ (s : List ℕ) where
       ap (λ (u : List ℕ). linesVerdict (length s) (lines 0 u)) e ∙ ap (λ (j : ℕ). AboutRules (atOffset 14 j)) n
 
   -- a line, by what reading it gave
-  module _ (before : List ℕ) (r : Part) (block : List ℕ) (k at : ℕ) (l : at < length s)
+  module _ (before : List ℕ) (r : PartRead) (block : List ℕ) (k at : ℕ) (l : at < length s)
       (h : PartIs countNodes flatCount s 0 128 before r block (clauseLine 128 (drop at s))) where
     sees : fromLine (suc k) at ≡ linesVerdict (length s) (bind (clauseLine 128 (drop at s)) (λ c m t. bind (lines k t) (λ cs m₁ r₁. got (c ∷ cs) m₁ r₁)))
     unfolding lines

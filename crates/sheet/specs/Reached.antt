@@ -12,12 +12,12 @@ use Rattle.grammar.specs.Nodes.{Node, twoN, Op₂, until₂, release₂, flat}
 use Rattle.grammar.specs.Reader.{Got, got, no, Reader, pick, bind, skip, node, stop, reach, onward, untilAt, deeper, smalls, untils}
 use Rattle.grammar.specs.Steps.{until-is, until-end, until-stop, until-none, until-on}
 use Rattle.token.specs.Block.{twoByte}
-use Rattle.token.specs.Leaves.{Refused}
+use Rattle.token.specs.Leaves.{LeafRefused}
 use Rattle.token.specs.Parts.{Held, PartIs}
 use Rattle.token.specs.More.{WithNode}
 use Rattle.token.specs.Joined.{two-parts}
 use Rattle.token.specs.Operator.{OperatorAt, reachOp}
-use Rattle.token.specs.declared.Part.{Part}
+use Rattle.token.specs.declared.PartRead.{PartRead}
 
 -- a byte that is neither goes no further
 neither : (b : ℕ) → (b ≡ 85 → ⊥) → (b ≡ 82 → ⊥) → onward b ≡ stop
@@ -32,7 +32,7 @@ neither b u r = by (eqb b 85) refl
         by₂ false e = refl
 
 module _ {L : Type 0} (leafNodes : L → ℕ) (leafFlat : L → ℕ → List Node) (fl : (a : Form L) (b : ℕ) → length (flat leafNodes leafFlat a b) ≡ nodes leafNodes a)
-    (lf : ℕ → Reader L) (s : List ℕ) (n left : ℕ) (before : List ℕ) (r : Part) (block t : List ℕ) where
+    (lf : ℕ → Reader L) (s : List ℕ) (n left : ℕ) (before : List ℕ) (r : PartRead) (block t : List ℕ) where
   flat-reached : (o : Reach) (a c : Form L) (b : ℕ) → flat leafNodes leafFlat (reached o a c) b
       ≡ (flat leafNodes leafFlat a b ++ flat leafNodes leafFlat c (b + nodes leafNodes a)) ++
       (twoN (reachOp o) ((b + nodes leafNodes a) - 1) (((b + nodes leafNodes a) + nodes leafNodes c) - 1) ∷ [])
@@ -43,7 +43,7 @@ module _ {L : Type 0} (leafNodes : L → ℕ) (leafFlat : L → ℕ → List Nod
   -- by what a smallest part gave
   module _ (l : ℕ) (h : PartIs leafNodes leafFlat s n left before r block (smalls lf l left t)) where
     -- the answer, where the part was read or refused
-    by-part : (P : Got (Form L) → Type 0) → ((w : ℕ) (u : List ℕ) → Refused s before r block w u → P (no w u))
+    by-part : (P : Got (Form L) → Type 0) → ((w : ℕ) (u : List ℕ) → LeafRefused s before r block w u → P (no w u))
         → ((a : Form L) (m : ℕ) (u : List ℕ) → Held leafNodes leafFlat s n left before r block a m u → P (untilAt (deeper lf l) a m u (skip u)))
         → P (untils lf l left t)
     unfolding bind
@@ -88,8 +88,8 @@ module _ {L : Type 0} (leafNodes : L → ℕ) (leafFlat : L → ℕ → List Nod
     -- the operator and the rest of the chain
     pub until-joined : (o : Reach) (i : ℕ) → OperatorAt s r (reachByte o) i → i < length s → (d k : ℕ) → l ≡ suc d → r .left ≡ suc k
         → length before ≡ 512 → n + left ≤ 128
-        → (p : Part) (late : List ℕ) → PartIs leafNodes leafFlat s (r .n) k block p late (untils lf d k (drop (suc i) s))
-        → (q : Part) (after : List ℕ) → WithNode late p (twoByte (reachOp o) ∷ (r .n - 1) ∷ (p .n - 1) ∷ 0 ∷ []) q after
+        → (p : PartRead) (late : List ℕ) → PartIs leafNodes leafFlat s (r .n) k block p late (untils lf d k (drop (suc i) s))
+        → (q : PartRead) (after : List ℕ) → WithNode late p (twoByte (reachOp o) ∷ (r .n - 1) ∷ (p .n - 1) ∷ 0 ∷ []) q after
         → PartIs leafNodes leafFlat s n left before q after (untils lf l left t)
     unfolding node
     until-joined o i op at d k deep some long few p late next q after put =

@@ -13,7 +13,7 @@ use Rattle.grammar.specs.Reader.{Got, got, no}
 use Rattle.token.specs.Parts.{PartIs}
 use Rattle.sheet.specs.Ranks.{LeafOf, leafNodes, leafFlat}
 use Rattle.token.specs.Placed.{refused-at}
-use Rattle.token.specs.declared.Part.{Part}
+use Rattle.token.specs.declared.PartRead.{PartRead}
 
 pub flat-size : (inner : Bool) (a : Form (LeafOf inner)) (b : ℕ) → length (flat (leafNodes inner) (leafFlat inner) a b) ≡ nodes (leafNodes inner) a
 flat-size true = inner-flat
@@ -36,12 +36,12 @@ some-node inner (until a c) = omega arith
 some-node inner (release a c) = omega arith
 
 -- the nodes of a part that was read
-pub record Room (n left : ℕ) (r : Part) : Type 0 where
+pub record Room (n left : ℕ) (r : PartRead) : Type 0 where
   pub kept : r .n + r .left ≡ n + left
   pub some : 0 < r .n
   pub more : n < r .n
 
-pub room : (inner : Bool) (s : List ℕ) (n left : ℕ) (before : List ℕ) (r : Part) (block : List ℕ) (g : Got (Form (LeafOf inner)))
+pub room : (inner : Bool) (s : List ℕ) (n left : ℕ) (before : List ℕ) (r : PartRead) (block : List ℕ) (g : Got (Form (LeafOf inner)))
     → PartIs (leafNodes inner) (leafFlat inner) s n left before r block g → r .fault ≡ 0 → Room n left r
 room inner s n left before r block (no w t) h e = absurd (h .some e)
 room inner s n left before r block (got a m t) h e =
@@ -50,7 +50,7 @@ room inner s n left before r block (got a m t) h e =
     record { kept = h .kept; some = omega (arith, h .slots); more = omega (arith, h .slots) }
 
 -- a refusal as a part
-pub refused-part : (inner : Bool) (s : List ℕ) (n left : ℕ) (before : List ℕ) (r : Part) (block : List ℕ) (w i : ℕ) (g : Got (Form (LeafOf inner)))
+pub refused-part : (inner : Bool) (s : List ℕ) (n left : ℕ) (before : List ℕ) (r : PartRead) (block : List ℕ) (w i : ℕ) (g : Got (Form (LeafOf inner)))
     → r ≡ record { fault = w; at = i; left = 0; n = 0 } → (w ≡ 0 → ⊥) → i ≤ length s → length block ≡ length before → g ≡ no w (drop i s)
     → PartIs (leafNodes inner) (leafFlat inner) s n left before r block g
 refused-part inner s n left before r block w i g e some l b q =
@@ -58,7 +58,7 @@ refused-part inner s n left before r block w i g e some l b q =
     (refused-at s before r block w i e some l b)
 
 -- where a part ends is in the text
-pub part-inside : (inner : Bool) (s : List ℕ) (n left : ℕ) (before : List ℕ) (r : Part) (block : List ℕ) (g : Got (Form (LeafOf inner)))
+pub part-inside : (inner : Bool) (s : List ℕ) (n left : ℕ) (before : List ℕ) (r : PartRead) (block : List ℕ) (g : Got (Form (LeafOf inner)))
     → PartIs (leafNodes inner) (leafFlat inner) s n left before r block g → r .at ≤ length s
 part-inside inner s n left before r block (no w t) h = h .inside
 part-inside inner s n left before r block (got a m t) h = h .inside

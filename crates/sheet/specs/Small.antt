@@ -19,7 +19,7 @@ use Rattle.token.specs.More.{WithNode}
 use Rattle.token.specs.Joined.{one-part}
 use Rattle.token.specs.Placed.{placed-part}
 use Rattle.token.specs.Ended.{ended-part}
-use Rattle.token.specs.declared.Part.{Part}
+use Rattle.token.specs.declared.PartRead.{PartRead}
 
 abbrev pub prefixOp : Prefix → Op₁
 prefixOp not = neg₁
@@ -74,7 +74,7 @@ other-byte b t p e =
 
 module _ {L : Type 0} (leafNodes : L → ℕ) (leafFlat : L → ℕ → List Node) (fl : (a : Form L) (b : ℕ) → length (flat leafNodes leafFlat a b) ≡ nodes leafNodes a)
     (lf : ℕ → Reader L) (s : List ℕ) (n left : ℕ) (before : List ℕ) (l : ℕ) (t : List ℕ) (i : ℕ) (is : drop i s ≡ skip t) where
-  abbrev P : Part → List ℕ → Got (Form L) → Type 0
+  abbrev P : PartRead → List ℕ → Got (Form L) → Type 0
   P r block g = PartIs leafNodes leafFlat s n left before r block g
 
   -- nothing is left
@@ -95,8 +95,8 @@ module _ {L : Type 0} (leafNodes : L → ℕ) (leafFlat : L → ℕ → List Nod
         let h : drop i s ≡ 40 ∷ drop (suc i) s = here ∙ ap (λ (x : ℕ). x ∷ drop (suc i) s) e in
         ap (λ (d : ℕ). smalls lf d left t) z ∙ small-paren-none lf left t (drop (suc i) s) (sym is ∙ h) ∙ ap (no 14) (sym h)
 
-    pub paren-closed : b ≡ 40 → (d : ℕ) → l ≡ suc d → (r : Part) (block : List ℕ) → P r block (ors lf d left (drop (suc i) s)) → length block ≡ length before
-        → (q : Part) → Expected s r 41 q → P q block (smalls lf l left t)
+    pub paren-closed : b ≡ 40 → (d : ℕ) → l ≡ suc d → (r : PartRead) (block : List ℕ) → P r block (ors lf d left (drop (suc i) s)) → length block ≡ length before
+        → (q : PartRead) → Expected s r 41 q → P q block (smalls lf l left t)
     paren-closed e d deep r block h long q w =
         let at : skip t ≡ 40 ∷ drop (suc i) s = sees ∙ ap (λ (x : ℕ). x ∷ drop (suc i) s) e in
         subst (P q block) (sym (ap (λ (k : ℕ). smalls lf k left t) deep ∙ small-paren lf left t d (drop (suc i) s) at))
@@ -129,8 +129,8 @@ module _ {L : Type 0} (leafNodes : L → ℕ) (leafFlat : L → ℕ → List Nod
     flat-prefixed globally a m = refl
 
     pub prefix-over : (o : Prefix) → b ≡ prefixByte o → (d : ℕ) → l ≡ suc d → (k : ℕ) → left ≡ suc k → length before ≡ 512 → n + left ≤ 128
-        → (r : Part) (mid : List ℕ) → PartIs leafNodes leafFlat s n k before r mid (smalls lf d k (drop (suc i) s))
-        → (q : Part) (after : List ℕ) → WithNode mid r (oneByte (prefixOp o) ∷ (r .n - 1) ∷ 0 ∷ 0 ∷ []) q after → P q after (smalls lf l left t)
+        → (r : PartRead) (mid : List ℕ) → PartIs leafNodes leafFlat s n k before r mid (smalls lf d k (drop (suc i) s))
+        → (q : PartRead) (after : List ℕ) → WithNode mid r (oneByte (prefixOp o) ∷ (r .n - 1) ∷ 0 ∷ 0 ∷ []) q after → P q after (smalls lf l left t)
     unfolding node
     prefix-over o e d deep k some long few r mid h q after put =
         let same =
@@ -143,7 +143,7 @@ module _ {L : Type 0} (leafNodes : L → ℕ) (leafFlat : L → ℕ → List Nod
         (omega arith) put))
 
     -- `true`
-    pub word-is : b ≡ 116 → (r : Part) (after : List ℕ) → LeafIs (λ (u : Unit {0}). topN) s n left before r after (wordGot s left i)
+    pub word-is : b ≡ 116 → (r : PartRead) (after : List ℕ) → LeafIs (λ (u : Unit {0}). topN) s n left before r after (wordGot s left i)
         → P r after (smalls lf l left t)
     unfolding bind node flat
     word-is e r after h =

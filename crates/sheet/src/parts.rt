@@ -1,6 +1,6 @@
 // The four levels of a clause, which call each other in a cycle: an or-chain over and-chains over until-chains over smallest
 // parts. The levels still allowed fall at each call that goes further in.
-use token::Part;
+use token::PartRead;
 use token::count_end;
 use token::expect;
 use token::mark;
@@ -43,7 +43,7 @@ fn small_part(
     left: usize,
     n: usize,
     nodes: &mut [u8],
-) -> Part
+) -> PartRead
     requires { ⌜ (at ≤ length (now s)) × (length (now s) ≤ 16384) × (n + left ≤ 128) × (length (now nodes) ≡ 512) ⌝ }
     ensures { λ r. ⌜ Reads inner small level (now (s .entry)) at n left (now (nodes .entry)) r (now (nodes .exit)) ⌝ }
 {
@@ -85,7 +85,7 @@ fn leaf_part(
     left: usize,
     n: usize,
     nodes: &mut [u8],
-) -> Part
+) -> PartRead
     requires { ⌜ (i < length (now s)) × (length (now s) ≤ 16384) × (n + left ≤ 128) × (length (now nodes) ≡ 512) ⌝ }
     ensures { λ r. ⌜ LeafReads inner level (now (s .entry)) i n left (now (nodes .entry)) r (now (nodes .exit)) ⌝ }
 {
@@ -114,7 +114,7 @@ fn until_part(
     left: usize,
     n: usize,
     nodes: &mut [u8],
-) -> Part
+) -> PartRead
     requires { ⌜ (at ≤ length (now s)) × (length (now s) ≤ 16384) × (n + left ≤ 128) × (length (now nodes) ≡ 512) ⌝ }
     ensures { λ r. ⌜ Reads inner untils level (now (s .entry)) at n left (now (nodes .entry)) r (now (nodes .exit)) ⌝ }
 {
@@ -144,7 +144,7 @@ fn and_part(
     left: usize,
     n: usize,
     nodes: &mut [u8],
-) -> Part
+) -> PartRead
     requires { ⌜ (at ≤ length (now s)) × (length (now s) ≤ 16384) × (n + left ≤ 128) × (length (now nodes) ≡ 512) ⌝ }
     ensures { λ r. ⌜ Reads inner ands level (now (s .entry)) at n left (now (nodes .entry)) r (now (nodes .exit)) ⌝ }
 {
@@ -172,7 +172,7 @@ pub(crate) fn or_part(
     left: usize,
     n: usize,
     nodes: &mut [u8],
-) -> Part
+) -> PartRead
     requires { ⌜ (at ≤ length (now s)) × (length (now s) ≤ 16384) × (n + left ≤ 128) × (length (now nodes) ≡ 512) ⌝ }
     ensures { λ r. ⌜ Reads inner ors level (now (s .entry)) at n left (now (nodes .entry)) r (now (nodes .exit)) ⌝ }
 {

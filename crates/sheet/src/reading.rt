@@ -1,7 +1,7 @@
 // Reading a rule sheet line by line.
 use crate::parts::or_part;
 use refusal::Verdict;
-use token::Part;
+use token::PartRead;
 use token::expect;
 ghost use mathlib.Core.Path.{_≡_};
 ghost use Prim.Native.Nat.{_≤_, _<_};
@@ -15,7 +15,7 @@ ghost use Rattle.token.specs.Parts.{PartIs};
 ghost use Rattle.sheet.specs.Promises.{RulesRead};
 
 // A line: a clause and byte 10. The clause's nodes are put into the block, its own the last.
-pub fn read_clause(s: &[u8], at: usize, nodes: &mut [u8]) -> Part
+pub fn read_clause(s: &[u8], at: usize, nodes: &mut [u8]) -> PartRead
     requires { ⌜ (at ≤ length (now s)) × (length (now s) ≤ 16384) × (length (now nodes) ≡ 512) ⌝ }
     ensures { λ r. ⌜ PartIs countNodes flatCount (now (s .entry)) 0 128 (now (nodes .entry)) r (now (nodes .exit)) (clauseLine 128 (drop at (now (s .entry)))) ⌝ }
 {

@@ -13,7 +13,7 @@ use Rattle.grammar.specs.Reader.{Got, got, no, pick, bind, number, percent}
 use Rattle.token.specs.Leaves.{ByteAt, limitGot, LimitIs}
 use Rattle.token.specs.Tokens.{NumIs}
 use Rattle.token.specs.declared.Num.{Num}
-use Rattle.token.specs.declared.Limit.{Limit}
+use Rattle.token.specs.declared.CountLimit.{CountLimit}
 use Rattle.token.specs.Digits.{Only13, number-13}
 
 -- the `%`, if it is there
@@ -38,12 +38,12 @@ module _ (s : List ℕ) (i : ℕ) (k : Num) (w : NumIs s k (number 0 (drop i s))
   abbrev then : Got ℕ → Got (ℕ × Bool)
   then g = bind g (λ v m r. bind (percent m r) (λ p m₁ r₁. pick (leb v (most p)) (got (v, p) m₁ r₁) (no 15 (drop i s))))
 
-  pub limit-bad : k .ok ≡ false → (r : Limit) → r ≡ record { fault = 13; at = k .at; value = 0; percent = false } → LimitIs s r (limitGot s i)
+  pub limit-bad : k .ok ≡ false → (r : CountLimit) → r ≡ record { fault = 13; at = k .at; value = 0; percent = false } → LimitIs s r (limitGot s i)
   unfolding bind
   limit-bad e r q = go (number 0 (drop i s)) w (number-13 0 (drop i s))
     where
       go : (g : Got ℕ) → NumIs s k g → Only13 g → LimitIs s r (then g)
-      go (no v t) h o = (ap (λ (x : Limit). x .fault) q ∙ sym o, ap (λ (x : Limit). drop (x .at) s) q ∙ h .1, λ z. omega arith)
+      go (no v t) h o = (ap (λ (x : CountLimit). x .fault) q ∙ sym o, ap (λ (x : CountLimit). drop (x .at) s) q ∙ h .1, λ z. omega arith)
       go (got v m t) h o = let z : true ≡ false = sym (h .0) ∙ e in let y : _≡_ {A = ℕ} 0 1 = cc in absurd (omega arith)
 
   module _ (e : k .ok ≡ true) (b : Bool) (p : ByteAt s (k .at) 37 b) where
@@ -59,13 +59,13 @@ module _ (s : List ℕ) (i : ℕ) (k : Num) (w : NumIs s k (number 0 (drop i s))
             let q : percent m t ≡ got b m (drop (cond b (k .at + 1) (k .at)) s) = ap (percent m) (sym (h .1)) ∙ percented s (k .at) m b p in
             subst (λ (g : Got Bool). P (bind g (λ p m₁ r₁. pick (leb v (most p)) (got (v, p) m₁ r₁) (no 15 (drop i s))))) (sym q) (f v m (h .2))
 
-    pub limit-wide : most b < k .value → (r : Limit) → r ≡ record { fault = 15; at = i; value = 0; percent = false } → LimitIs s r (limitGot s i)
+    pub limit-wide : most b < k .value → (r : CountLimit) → r ≡ record { fault = 15; at = i; value = 0; percent = false } → LimitIs s r (limitGot s i)
     limit-wide far r q =
         by (LimitIs s r)
         (λ v m z.
         subst (λ (x : Bool). LimitIs s r (pick x (got (v, b) m (drop (cond b (k .at + 1) (k .at)) s)) (no 15 (drop i s))))
         (sym (lt-leb v (most b) (omega arith)))
-        (ap (λ (x : Limit). x .fault) q, ap (λ (x : Limit). drop (x .at) s) q, λ y. omega arith))
+        (ap (λ (x : CountLimit). x .fault) q, ap (λ (x : CountLimit). drop (x .at) s) q, λ y. omega arith))
 
     pub limit-read : k .value ≤ most b → (at : ℕ) → at ≡ cond b (k .at + 1) (k .at)
         → LimitIs s (record { fault = 0; at = at; value = k .value; percent = b }) (limitGot s i)
@@ -84,6 +84,6 @@ pub in-text : (s : List ℕ) (at : ℕ) (b : Bool) (r : ℕ) → ByteAt s at 37 
 in-text s at true r w e l = let h = w .low refl in omega arith
 in-text s at false r w e l = omega arith
 
-pub limit-low : (s : List ℕ) (k : Limit) (g : Got (ℕ × Bool)) → LimitIs s k g → k .fault ≡ 0 → k .value ≤ 999
+pub limit-low : (s : List ℕ) (k : CountLimit) (g : Got (ℕ × Bool)) → LimitIs s k g → k .fault ≡ 0 → k .value ≤ 999
 limit-low s k (got x m t) h e = h .4
 limit-low s k (no w t) h e = absurd (h .2 (sym (h .0) ∙ e))

@@ -17,7 +17,7 @@ use Rattle.token.specs.Tokens.{NumIs}
 use Rattle.token.specs.Digits.{relabel, number-any, Only13, number-13}
 use Rattle.token.specs.Placed.{refused-at}
 use Rattle.token.specs.declared.Num.{Num}
-use Rattle.token.specs.declared.Part.{Part}
+use Rattle.token.specs.declared.PartRead.{PartRead}
 
 pub beyond : (s : List ℕ) (j c : ℕ) → length s ≤ j → ByteAt s j c false
 beyond s j c out = record {
@@ -39,7 +39,7 @@ compared s j c l = record {
 }
 
 -- a token refused at an offset
-pub refused-leaf : {A : Type 0} (node : A → Node) (s : List ℕ) (n left : ℕ) (before : List ℕ) (r : Part) (w i : ℕ) (g : Got A)
+pub refused-leaf : {A : Type 0} (node : A → Node) (s : List ℕ) (n left : ℕ) (before : List ℕ) (r : PartRead) (w i : ℕ) (g : Got A)
     → r ≡ record { fault = w; at = i; left = 0; n = 0 }
     → (w ≡ 0 → ⊥) → i ≤ length s → g ≡ no w (drop i s) → LeafIs node s n left before r before g
 refused-leaf node s n left before r w i g e some l q =
@@ -47,19 +47,19 @@ refused-leaf node s n left before r w i g e some l q =
     (refused-at s before r before w i e some l refl)
 
 -- a token with its node
-pub placed-leaf : {A : Type 0} (node : A → Node) (s : List ℕ) (n left : ℕ) (before : List ℕ) (r : Part) (after : List ℕ) (x : A) (i : ℕ) (g : Got A)
+pub placed-leaf : {A : Type 0} (node : A → Node) (s : List ℕ) (n left : ℕ) (before : List ℕ) (r : PartRead) (after : List ℕ) (x : A) (i : ℕ) (g : Got A)
     → r ≡ record { fault = 0; at = i; left = left - 1; n = n + 1 } → 0 < left → i ≤ length s → after ≡ stored before (4 * n) (nodeBytes (node x))
     → g ≡ got x (left - 1) (drop i s)
     → LeafIs node s n left before r after g
 placed-leaf node s n left before r after x i g e some l b q =
     subst (LeafIs node s n left before r after) (sym q)
     (record {
-      fine = ap (λ (p : Part). p .fault) e;
-      behind = ap (λ (p : Part). drop (p .at) s) e;
-      inside = subst (λ (p : Part). p .at ≤ length s) (sym e) l;
-      allowed = ap (λ (p : Part). p .left) e;
-      slots = ap (λ (p : Part). p .n) e;
-      kept = let a : r .n ≡ n + 1 = ap (λ (p : Part). p .n) e in let c : r .left ≡ left - 1 = ap (λ (p : Part). p .left) e in omega arith;
+      fine = ap (λ (p : PartRead). p .fault) e;
+      behind = ap (λ (p : PartRead). drop (p .at) s) e;
+      inside = subst (λ (p : PartRead). p .at ≤ length s) (sym e) l;
+      allowed = ap (λ (p : PartRead). p .left) e;
+      slots = ap (λ (p : PartRead). p .n) e;
+      kept = let a : r .n ≡ n + 1 = ap (λ (p : PartRead). p .n) e in let c : r .left ≡ left - 1 = ap (λ (p : PartRead). p .left) e in omega arith;
       block = b;
     })
 

@@ -7,57 +7,57 @@ use mathlib.Core.List.{List, [], _∷_, _++_}
 use lib.Dec.{eqb, leb}
 use lib.ListN.{length, drop}
 use borrow.Author.Tests.{eqb-true, eqb-false}
-use Rattle.grammar.specs.Grammar.{Form, Inner, Threshold, counted, Clause}
+use Rattle.grammar.specs.Grammar.{Form, Inner, Counted, counted, Clause}
 use Rattle.grammar.specs.Limits.{nodes, markNodes, countNodes, most}
 use Rattle.grammar.specs.Nodes.{countN, flat, flatMark, flatInner, flatCount}
 use Rattle.grammar.specs.Standing.{clause-flat, inner-flat}
-use Rattle.grammar.specs.Reader.{Got, got, no, pick, bind, skip, number, percent, expect, expectAt, threshold}
+use Rattle.grammar.specs.Reader.{Got, got, no, pick, bind, skip, number, percent, expect, expectAt, countEnd}
 use Rattle.token.specs.Block.{countByte, nodeBytes}
-use Rattle.token.specs.Leaves.{Refused, Expected, limitGot, LimitIs}
+use Rattle.token.specs.Leaves.{LeafRefused, Expected, limitGot, LimitIs}
 use Rattle.token.specs.Digits.{relabel, number-any, percent-any}
 use Rattle.token.specs.Parts.{Held, PartIs}
 use Rattle.token.specs.Counts.{countGot}
 use Rattle.token.specs.More.{WithNode}
 use Rattle.token.specs.Joined.{stay, put-behind, part-length}
 use Rattle.token.specs.Ended.{ended-part}
-use Rattle.token.specs.declared.Part.{Part}
-use Rattle.token.specs.declared.Limit.{Limit}
+use Rattle.token.specs.declared.PartRead.{PartRead}
+use Rattle.token.specs.declared.CountLimit.{CountLimit}
 
 -- a count's number with the nodes still allowed handed on
-abbrev pub thresholdBy : Inner → ℕ → Got (ℕ × Bool) → Got Threshold
-thresholdBy a n (got x m r) = expect 93 (counted a (x .0) (x .1)) n r
-thresholdBy a n (no w r) = no w r
+abbrev pub countEndBy : Inner → ℕ → Got (ℕ × Bool) → Got Counted
+countEndBy a n (got x m r) = expect 93 (counted a (x .0) (x .1)) n r
+countEndBy a n (no w r) = no w r
 
 module _ (a : Inner) (n : ℕ) (s : List ℕ) (i : ℕ) where
   -- what stands behind a number, and behind its percentage
-  abbrev behind : ℕ → Got Bool → Got Threshold
+  abbrev behind : ℕ → Got Bool → Got Counted
   behind k g = bind g (λ p m₁ r₁. pick (leb k (most p)) (expect 93 (counted a k p) m₁ r₁) (no 15 (drop i s)))
 
   abbrev limited : ℕ → Got Bool → Got (ℕ × Bool)
   limited k g = bind g (λ p m₁ r₁. pick (leb k (most p)) (got (k, p) m₁ r₁) (no 15 (drop i s)))
 
   within : (k m : ℕ) (p : Bool) (r : List ℕ) → (x : Bool)
-      → pick x (expect 93 (counted a k p) n r) (no 15 (drop i s)) ≡ thresholdBy a n (pick x (got (k, p) m r) (no 15 (drop i s)))
+      → pick x (expect 93 (counted a k p) n r) (no 15 (drop i s)) ≡ countEndBy a n (pick x (got (k, p) m r) (no 15 (drop i s)))
   within k m p r true = refl
   within k m p r false = refl
 
-  by-percent : (k : ℕ) (g : Got Bool) → behind k (relabel n g) ≡ thresholdBy a n (limited k g)
+  by-percent : (k : ℕ) (g : Got Bool) → behind k (relabel n g) ≡ countEndBy a n (limited k g)
   unfolding bind
   by-percent k (got p m r) = within k m p r (leb k (most p))
   by-percent k (no w r) = refl
 
-  by-number : (g : Got ℕ) → bind (relabel n g) (λ k m r. behind k (percent m r)) ≡ thresholdBy a n (bind g (λ k m r. limited k (percent m r)))
+  by-number : (g : Got ℕ) → bind (relabel n g) (λ k m r. behind k (percent m r)) ≡ countEndBy a n (bind g (λ k m r. limited k (percent m r)))
   unfolding bind
   by-number (got k m r) = ap (behind k) (percent-any n m r) ∙ by-percent k (percent m r)
   by-number (no w r) = refl
 
-  pub threshold-is : threshold a n (drop i s) ≡ thresholdBy a n (limitGot s i)
-  unfolding threshold
-  threshold-is = ap (λ (g : Got ℕ). bind g (λ k m r. behind k (percent m r))) (number-any n (drop i s)) ∙ by-number (number 0 (drop i s))
+  pub count-end-is : countEnd a n (drop i s) ≡ countEndBy a n (limitGot s i)
+  unfolding countEnd
+  count-end-is = ap (λ (g : Got ℕ). bind g (λ k m r. behind k (percent m r))) (number-any n (drop i s)) ∙ by-number (number 0 (drop i s))
 
-module _ (s : List ℕ) (n left : ℕ) (before : List ℕ) (long : length before ≡ 512) (few : n + suc left ≤ 128) (r : Part) (block : List ℕ) (g : Got Inner)
-    (h : PartIs markNodes flatMark s n left before r block g) (p : Part) (w : Expected s r 44 p) where
-  abbrev C : Part → List ℕ → Got Clause → Type 0
+module _ (s : List ℕ) (n left : ℕ) (before : List ℕ) (long : length before ≡ 512) (few : n + suc left ≤ 128) (r : PartRead) (block : List ℕ) (g : Got Inner)
+    (h : PartIs markNodes flatMark s n left before r block g) (p : PartRead) (w : Expected s r 44 p) where
+  abbrev C : PartRead → List ℕ → Got Clause → Type 0
   C q after x = PartIs countNodes flatCount s n (suc left) before q after x
 
   size : length block ≡ length before
@@ -72,48 +72,48 @@ module _ (s : List ℕ) (n left : ℕ) (before : List ℕ) (long : length before
   comma-missing some = go (bind g (λ a m₁ r₁. expect 44 a m₁ r₁)) comma
     where
       go : (x : Got Inner) → PartIs markNodes flatMark s n left before p block x
-          → C p block (bind (bind x (λ a m₁ r₁. threshold a m₁ (skip r₁))) (λ x m r₁. got (Form.leaf x) m r₁))
+          → C p block (bind (bind x (λ a m₁ r₁. countEnd a m₁ (skip r₁))) (λ x m r₁. got (Form.leaf x) m r₁))
       go (no v t) k = k
       go (got a m t) k = absurd (some (k .fine))
 
   -- the comma is there, and behind it and spaces the number
-  module _ (fine : p .fault ≡ 0) (i : ℕ) (is : drop i s ≡ skip (drop (p .at) s)) (k : Limit) (l : LimitIs s k (limitGot s i)) (in-text : k .at ≤ length s) where
+  module _ (fine : p .fault ≡ 0) (i : ℕ) (is : drop i s ≡ skip (drop (p .at) s)) (k : CountLimit) (l : LimitIs s k (limitGot s i)) (in-text : k .at ≤ length s) where
     by : (P : Got Clause → Type 0) → ((a : Inner) (m : ℕ) (t : List ℕ) → Held markNodes flatMark s n left before p block a m t
-        → P (bind (thresholdBy a m (limitGot s i)) (λ x m r₁. got (Form.leaf x) m r₁))) → P (countGot g)
+        → P (bind (countEndBy a m (limitGot s i)) (λ x m r₁. got (Form.leaf x) m r₁))) → P (countGot g)
     unfolding bind
     by P f = go (bind g (λ a m₁ r₁. expect 44 a m₁ r₁)) comma
       where
         go : (x : Got Inner) → PartIs markNodes flatMark s n left before p block x
-            → P (bind (bind x (λ a m₁ r₁. threshold a m₁ (skip r₁))) (λ x m r₁. got (Form.leaf x) m r₁))
+            → P (bind (bind x (λ a m₁ r₁. countEnd a m₁ (skip r₁))) (λ x m r₁. got (Form.leaf x) m r₁))
         go (no v t) q = absurd (q .some fine)
         go (got a m t) q =
             let e : skip t ≡ drop i s = ap skip (sym (q .behind)) ∙ sym is in
-            subst (λ (u : Got Threshold). P (bind u (λ x m r₁. got (Form.leaf x) m r₁))) (sym (ap (threshold a m) e ∙ threshold-is a m s i)) (f a m t q)
+            subst (λ (u : Got Counted). P (bind u (λ x m r₁. got (Form.leaf x) m r₁))) (sym (ap (countEnd a m) e ∙ count-end-is a m s i)) (f a m t q)
 
-    pub number-refused : (k .fault ≡ 0 → ⊥) → (q : Part) → q ≡ record { fault = k .fault; at = k .at; left = 0; n = 0 } → C q block (countGot g)
+    pub number-refused : (k .fault ≡ 0 → ⊥) → (q : PartRead) → q ≡ record { fault = k .fault; at = k .at; left = 0; n = 0 } → C q block (countGot g)
     unfolding bind
     number-refused some q e = by (C q block) (λ a m t h′. go a m (limitGot s i) l)
       where
-        go : (a : Inner) (m : ℕ) (x : Got (ℕ × Bool)) → LimitIs s k x → C q block (bind (thresholdBy a m x) (λ x m r₁. got (Form.leaf x) m r₁))
+        go : (a : Inner) (m : ℕ) (x : Got (ℕ × Bool)) → LimitIs s k x → C q block (bind (countEndBy a m x) (λ x m r₁. got (Form.leaf x) m r₁))
         go a m (got y m₁ t) z = absurd (some (z .0))
         go a m (no v t) z = record {
-          number = ap (λ (x : Part). x .fault) e ∙ z .0;
-          some = λ y. some (sym (ap (λ (x : Part). x .fault) e) ∙ y);
-          none = ap (λ (x : Part). x .left) e;
-          behind = ap (λ (x : Part). drop (x .at) s) e ∙ z .1;
-          inside = subst (λ (x : Part). x .at ≤ length s) (sym e) in-text;
+          number = ap (λ (x : PartRead). x .fault) e ∙ z .0;
+          some = λ y. some (sym (ap (λ (x : PartRead). x .fault) e) ∙ y);
+          none = ap (λ (x : PartRead). x .left) e;
+          behind = ap (λ (x : PartRead). drop (x .at) s) e ∙ z .1;
+          inside = subst (λ (x : PartRead). x .at ≤ length s) (sym e) in-text;
           block = size;
         }
 
     -- the number, the `]` and the count's node
-    module _ (read : k .fault ≡ 0) (q : Part) (x : Expected s (record { fault = 0; at = k .at; left = p .left; n = p .n }) 93 q) (z : Part) (after : List ℕ)
+    module _ (read : k .fault ≡ 0) (q : PartRead) (x : Expected s (record { fault = 0; at = k .at; left = p .left; n = p .n }) 93 q) (z : PartRead) (after : List ℕ)
         (put : WithNode block q (countByte (k .percent) ∷ (q .n - 1) ∷ k .value % 256 ∷ k .value / 256 ∷ []) z after) where
       count-node : (a : Inner) (v : ℕ) (b : Bool)
           → flat countNodes flatCount (Form.leaf (counted a v b)) n ≡ flat markNodes flatMark a n ++ (countN ((n + nodes markNodes a) - 1) v b ∷ [])
       unfolding flat flatCount flatInner
       count-node a v b = refl
 
-      unclosed : (u : List ℕ) → drop (k .at) s ≡ u → ((t : List ℕ) → skip u ≡ 93 ∷ t → ⊥) → Refused s before z after 13 (skip u)
+      unclosed : (u : List ℕ) → drop (k .at) s ≡ u → ((t : List ℕ) → skip u ≡ 93 ∷ t → ⊥) → LeafRefused s before z after 13 (skip u)
       unclosed u e none =
           let m = x .missing refl (λ t y. none t (ap skip (sym e) ∙ y)) in
           stay s before before block q _ z after 13 (skip u)
@@ -147,19 +147,19 @@ module _ (s : List ℕ) (n left : ℕ) (before : List ℕ) (long : length before
       count-read = by (C z after) (λ a m t h′. go a m t h′ (limitGot s i) l)
         where
           go : (a : Inner) (m : ℕ) (t : List ℕ) → Held markNodes flatMark s n left before p block a m t → (y : Got (ℕ × Bool)) → LimitIs s k y
-              → C z after (bind (thresholdBy a m y) (λ x m r₁. got (Form.leaf x) m r₁))
+              → C z after (bind (countEndBy a m y) (λ x m r₁. got (Form.leaf x) m r₁))
           go a m t h′ (no v u) y = absurd (y .2 (sym (y .0) ∙ read))
           go a m t h′ (got (v, b) m₁ u) y = at (skip u) refl
             where
               at : (o : List ℕ) → skip u ≡ o → C z after (bind (expectAt 93 (counted a v b) m o) (λ x m r₁. got (Form.leaf x) m r₁))
               at [] e =
-                  subst (Refused s before z after 13) e
+                  subst (LeafRefused s before z after 13) e
                   (unclosed u (y .1) (λ t′ f. let c : [] ≡ 93 ∷ t′ = sym e ∙ f in let d : 0 ≡ suc (length t′) = ap length c in omega arith))
               at (c ∷ o) e = pick-byte (eqb c 93) refl
                 where
                   pick-byte : (x : Bool) → eqb c 93 ≡ x → C z after (bind (pick x (got (counted a v b) m o) (no 13 (c ∷ o))) (λ x m r₁. got (Form.leaf x) m r₁))
                   pick-byte true f = closed a m t h′ v b u (y .1) (y .2) (y .3) o (e ∙ ap (λ (j : ℕ). j ∷ o) (eqb-true c 93 f))
-                  pick-byte false f = subst (Refused s before z after 13) e (unclosed u (y .1) (λ t′ d. eqb-false c 93 f (heads (sym e ∙ d))))
+                  pick-byte false f = subst (LeafRefused s before z after 13) e (unclosed u (y .1) (λ t′ d. eqb-false c 93 f (heads (sym e ∙ d))))
                     where
                       heads : {t′ : List ℕ} → c ∷ o ≡ 93 ∷ t′ → c ≡ 93
                       heads d = cc

@@ -13,10 +13,10 @@ use Rattle.grammar.specs.Limits.{nodes}
 use Rattle.grammar.specs.Nodes.{Node, topN, markN, countN, oneN, twoN, Op₁, Op₂, flat}
 use Rattle.grammar.specs.Reader.{Got, got, no, bind}
 use Rattle.token.specs.Block.{oneByte, twoByte, nodeBytes, nodesBytes}
-use Rattle.token.specs.Leaves.{Refused}
+use Rattle.token.specs.Leaves.{LeafRefused}
 use Rattle.token.specs.Parts.{Held, PartIs}
 use Rattle.token.specs.More.{moreOne, WithNode}
-use Rattle.token.specs.declared.Part.{Part}
+use Rattle.token.specs.declared.PartRead.{PartRead}
 
 four : (x : Node) → length (nodeBytes x) ≡ 4
 four topN = refl
@@ -48,17 +48,17 @@ stored-nodes before n ns ms room =
     ∙ stored-more before (4 * n) (nodesBytes ns) (nodesBytes ms) (omega arith) ∙ ap (stored before (4 * n)) (sym (nodes-append ns ms))
 
 -- a refused part stays refused
-pub stay : (s before mid early : List ℕ) (r : Part) (node : List ℕ) (q : Part) (after : List ℕ) (w : ℕ) (t : List ℕ)
-    → Refused s mid r early w t → length mid ≡ length before → WithNode early r node q after → Refused s before q after w t
+pub stay : (s before mid early : List ℕ) (r : PartRead) (node : List ℕ) (q : PartRead) (after : List ℕ) (w : ℕ) (t : List ℕ)
+    → LeafRefused s mid r early w t → length mid ≡ length before → WithNode early r node q after → LeafRefused s before q after w t
 stay s before mid early r node q after w t k long g =
     let e : q ≡ r = g .part ∙ ap (λ (b : Bool). cond b (moreOne r) r) (ne-eqb _ _ (k .some)) in
     let b : after ≡ early = g .block ∙ ap (λ (b : Bool). cond b (stored early (4 * r .n) node) early) (ne-eqb _ _ (k .some)) in
     record {
-      number = ap (λ (x : Part). x .fault) e ∙ k .number;
-      some = λ z. k .some (sym (ap (λ (x : Part). x .fault) e) ∙ z);
-      none = ap (λ (x : Part). x .left) e ∙ k .none;
-      behind = ap (λ (x : Part). drop (x .at) s) e ∙ k .behind;
-      inside = subst (λ (x : Part). x .at ≤ length s) (sym e) (k .inside);
+      number = ap (λ (x : PartRead). x .fault) e ∙ k .number;
+      some = λ z. k .some (sym (ap (λ (x : PartRead). x .fault) e) ∙ z);
+      none = ap (λ (x : PartRead). x .left) e ∙ k .none;
+      behind = ap (λ (x : PartRead). drop (x .at) s) e ∙ k .behind;
+      inside = subst (λ (x : PartRead). x .at ≤ length s) (sym e) (k .inside);
       block = ap length b ∙ k .block ∙ long;
     }
 
@@ -71,7 +71,7 @@ module _ {L : Type 0} (leafNodes : L → ℕ) (leafFlat : L → ℕ → List Nod
   Fl a b = flat leafNodes leafFlat a b
 
   -- a node put behind a part that was read
-  module _ (n left : ℕ) (before mid : List ℕ) (r : Part) (m : ℕ) (t : List ℕ) (x : Node) (q : Part) (after : List ℕ)
+  module _ (n left : ℕ) (before mid : List ℕ) (r : PartRead) (m : ℕ) (t : List ℕ) (x : Node) (q : PartRead) (after : List ℕ)
       (ns : List Node) (b : Form L) (is : Fl b n ≡ ns ++ (x ∷ [])) (fine : r .fault ≡ 0) (behind : drop (r .at) s ≡ t) (inside : r .at ≤ length s)
       (allowed : r .left ≡ m) (slots : r .n ≡ n + length ns) (kept : r .n + r .left + 1 ≡ n + left) (block : mid ≡ stored before (4 * n) (nodesBytes ns))
       (long : length before ≡ 512) (few : n + left ≤ 128) (g : WithNode mid r (nodeBytes x) q after) where
@@ -80,13 +80,13 @@ module _ {L : Type 0} (leafNodes : L → ℕ) (leafFlat : L → ℕ → List Nod
         let e : q ≡ moreOne r = g .part ∙ ap (λ (b : Bool). cond b (moreOne r) r) (eq-eqb _ _ fine) in
         let o : after ≡ stored mid (4 * r .n) (nodeBytes x) =
         g .block ∙ ap (λ (b : Bool). cond b (stored mid (4 * r .n) (nodeBytes x)) mid) (eq-eqb _ _ fine) in
-        let nq : q .n ≡ r .n + 1 = ap (λ (p : Part). p .n) e in
-        let lq : q .left ≡ r .left = ap (λ (p : Part). p .left) e in
+        let nq : q .n ≡ r .n + 1 = ap (λ (p : PartRead). p .n) e in
+        let lq : q .left ≡ r .left = ap (λ (p : PartRead). p .left) e in
         let size = ap length is ∙ length-append ns (x ∷ []) in
         record {
-          fine = ap (λ (p : Part). p .fault) e ∙ fine;
-          behind = ap (λ (p : Part). drop (p .at) s) e ∙ behind;
-          inside = subst (λ (p : Part). p .at ≤ length s) (sym e) inside;
+          fine = ap (λ (p : PartRead). p .fault) e ∙ fine;
+          behind = ap (λ (p : PartRead). drop (p .at) s) e ∙ behind;
+          inside = subst (λ (p : PartRead). p .at ≤ length s) (sym e) inside;
           allowed = lq ∙ allowed;
           slots = omega arith;
           kept = omega arith;
@@ -98,7 +98,7 @@ module _ {L : Type 0} (leafNodes : L → ℕ) (leafFlat : L → ℕ → List Nod
 
   -- an operator over one part
   module _ (o : Op₁) (mk : Form L → Form L) (flat-mk : (a : Form L) (b : ℕ) → Fl (mk a) b ≡ Fl a b ++ (oneN o ((b + N a) - 1) ∷ [])) where
-    pub one-part : (n left : ℕ) (before : List ℕ) (r : Part) (mid : List ℕ) (g : Got (Form L)) (q : Part) (after : List ℕ)
+    pub one-part : (n left : ℕ) (before : List ℕ) (r : PartRead) (mid : List ℕ) (g : Got (Form L)) (q : PartRead) (after : List ℕ)
         → PartIs leafNodes leafFlat s n left before r mid g → length before ≡ 512 → n + suc left ≤ 128
         → WithNode mid r (oneByte o ∷ (r .n - 1) ∷ 0 ∷ 0 ∷ []) q after
         → PartIs leafNodes leafFlat s n (suc left) before q after (bind g (λ a m t. got (mk a) m t))
@@ -112,10 +112,10 @@ module _ {L : Type 0} (leafNodes : L → ℕ) (leafFlat : L → ℕ → List Nod
   -- an operator over two
   module _ (o : Op₂) (mk : Form L → Form L → Form L)
       (flat-mk : (a c : Form L) (b : ℕ) → Fl (mk a c) b ≡ (Fl a b ++ Fl c (b + N a)) ++ (twoN o ((b + N a) - 1) (((b + N a) + N c) - 1) ∷ [])) where
-    pub two-parts : (n left : ℕ) (before : List ℕ) (r : Part) (mid : List ℕ) (a : Form L) (m : ℕ) (t : List ℕ)
+    pub two-parts : (n left : ℕ) (before : List ℕ) (r : PartRead) (mid : List ℕ) (a : Form L) (m : ℕ) (t : List ℕ)
         → Held leafNodes leafFlat s n left before r mid a (suc m) t
-        → length before ≡ 512 → n + left ≤ 128 → (p : Part) (late : List ℕ) (g : Got (Form L)) → PartIs leafNodes leafFlat s (r .n) m mid p late g
-        → (q : Part) (after : List ℕ) → WithNode late p (twoByte o ∷ (r .n - 1) ∷ (p .n - 1) ∷ 0 ∷ []) q after
+        → length before ≡ 512 → n + left ≤ 128 → (p : PartRead) (late : List ℕ) (g : Got (Form L)) → PartIs leafNodes leafFlat s (r .n) m mid p late g
+        → (q : PartRead) (after : List ℕ) → WithNode late p (twoByte o ∷ (r .n - 1) ∷ (p .n - 1) ∷ 0 ∷ []) q after
         → PartIs leafNodes leafFlat s n left before q after (bind g (λ c m₂ t₂. got (mk a c) m₂ t₂))
     unfolding bind
     two-parts n left before r mid a m t h long few p late (no w t₂) k q after g =
@@ -142,7 +142,7 @@ module _ {L : Type 0} (leafNodes : L → ℕ) (leafFlat : L → ℕ → List Nod
         (subst (λ (i : ℕ). WithNode late p (twoByte o ∷ i ∷ (p .n - 1) ∷ 0 ∷ []) q after) first g))
 
   -- the block keeps its length
-  pub part-length : (n left : ℕ) (before : List ℕ) (r : Part) (block : List ℕ) (g : Got (Form L)) → PartIs leafNodes leafFlat s n left before r block g
+  pub part-length : (n left : ℕ) (before : List ℕ) (r : PartRead) (block : List ℕ) (g : Got (Form L)) → PartIs leafNodes leafFlat s n left before r block g
       → length before ≡ 512 → n + left ≤ 128 → length block ≡ length before
   part-length n left before r block (no w t) h long few = h .block
   part-length n left before r block (got a m t) h long few =

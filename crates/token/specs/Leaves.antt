@@ -10,11 +10,11 @@ use Rattle.grammar.specs.Nodes.{Node}
 use Rattle.grammar.specs.Reader.{Got, got, no, pick, bind, node, literal, number, percent, skip}
 use Rattle.grammar.specs.Limits.{most}
 use Rattle.token.specs.Block.{nodeBytes}
-use Rattle.token.specs.declared.Part.{Part}
-use Rattle.token.specs.declared.Limit.{Limit}
+use Rattle.token.specs.declared.PartRead.{PartRead}
+use Rattle.token.specs.declared.CountLimit.{CountLimit}
 
 -- a refusal, and the block still has its length
-pub record Refused (s before : List ℕ) (r : Part) (after : List ℕ) (w : ℕ) (rest : List ℕ) : Type 0 where
+pub record LeafRefused (s before : List ℕ) (r : PartRead) (after : List ℕ) (w : ℕ) (rest : List ℕ) : Type 0 where
   pub number : r .fault ≡ w
   pub some : r .fault ≡ 0 → ⊥
   pub none : r .left ≡ 0
@@ -23,7 +23,7 @@ pub record Refused (s before : List ℕ) (r : Part) (after : List ℕ) (w : ℕ)
   pub block : length after ≡ length before
 
 -- a leaf with its one node
-module _ {A : Type 0} (node : A → Node) (s : List ℕ) (n left : ℕ) (before : List ℕ) (r : Part) (after : List ℕ) where
+module _ {A : Type 0} (node : A → Node) (s : List ℕ) (n left : ℕ) (before : List ℕ) (r : PartRead) (after : List ℕ) where
   pub record Placed (x : A) (m : ℕ) (rest : List ℕ) : Type 0 where
     pub fine : r .fault ≡ 0
     pub behind : drop (r .at) s ≡ rest
@@ -35,10 +35,10 @@ module _ {A : Type 0} (node : A → Node) (s : List ℕ) (n left : ℕ) (before 
 
   abbrev pub LeafIs : Got A → Type 0
   LeafIs (got x m rest) = Placed x m rest
-  LeafIs (no w rest) = Refused s before r after w rest
+  LeafIs (no w rest) = LeafRefused s before r after w rest
 
 -- byte c behind a part that was read: the part up to behind it, or 13 where it should be
-pub record Expected (s : List ℕ) (r : Part) (c : ℕ) (q : Part) : Type 0 where
+pub record Expected (s : List ℕ) (r : PartRead) (c : ℕ) (q : PartRead) : Type 0 where
   pub refused : (r .fault ≡ 0 → ⊥) → q ≡ r
   pub inside : q .at ≤ length s
   pub kept : q .fault ≡ 0 → (r .fault ≡ 0) × (q .n ≡ r .n)
@@ -62,6 +62,6 @@ abbrev pub limitGot : List ℕ → ℕ → Got (ℕ × Bool)
 limitGot s i =
     bind (number 0 (drop i s)) (λ k m r. bind (percent m r) (λ p m₁ r₁. pick (leb k (most p)) (got (k, p) m₁ r₁) (no 15 (drop i s))))
 
-abbrev pub LimitIs : List ℕ → Limit → Got (ℕ × Bool) → Type 0
+abbrev pub LimitIs : List ℕ → CountLimit → Got (ℕ × Bool) → Type 0
 LimitIs s r (got x m t) = (r .fault ≡ 0) × (drop (r .at) s ≡ t) × (r .value ≡ x .0) × (r .percent ≡ x .1) × (r .value ≤ 999)
 LimitIs s r (no w t) = (r .fault ≡ w) × (drop (r .at) s ≡ t) × (w ≡ 0 → ⊥)

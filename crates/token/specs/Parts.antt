@@ -8,10 +8,10 @@ use Rattle.grammar.specs.Grammar.{Form}
 use Rattle.grammar.specs.Nodes.{Node, flat}
 use Rattle.grammar.specs.Reader.{Got, got, no}
 use Rattle.token.specs.Block.{nodesBytes}
-use Rattle.token.specs.Leaves.{Refused}
-use Rattle.token.specs.declared.Part.{Part}
+use Rattle.token.specs.Leaves.{LeafRefused}
+use Rattle.token.specs.declared.PartRead.{PartRead}
 
-module _ {L : Type 0} (leafNodes : L → ℕ) (leafFlat : L → ℕ → List Node) (s : List ℕ) (n left : ℕ) (before : List ℕ) (r : Part) (after : List ℕ) where
+module _ {L : Type 0} (leafNodes : L → ℕ) (leafFlat : L → ℕ → List Node) (s : List ℕ) (n left : ℕ) (before : List ℕ) (r : PartRead) (after : List ℕ) where
   -- a part was read: what is left, the nodes still allowed, and behind the n nodes of the block those of its tree
   pub record Held (a : Form L) (m : ℕ) (rest : List ℕ) : Type 0 where
     pub fine : r .fault ≡ 0
@@ -24,4 +24,4 @@ module _ {L : Type 0} (leafNodes : L → ℕ) (leafFlat : L → ℕ → List Nod
 
   abbrev pub PartIs : Got (Form L) → Type 0
   PartIs (got a m rest) = Held a m rest
-  PartIs (no w rest) = Refused s before r after w rest
+  PartIs (no w rest) = LeafRefused s before r after w rest

@@ -1,6 +1,6 @@
 // The end of a count: its number, and its node.
-use crate::Limit;
-use crate::Part;
+use crate::CountLimit;
+use crate::PartRead;
 use crate::leaves::expect;
 use crate::leaves::is_at;
 use crate::nodes::put;
@@ -40,10 +40,10 @@ fn behind(at: usize, percent: bool) -> usize
     if percent { at + 1 } else { at }
 }
 
-fn no_limit(fault: u32, at: usize) -> Limit
+fn no_limit(fault: u32, at: usize) -> CountLimit
     ensures { λ r. ⌜ r ≡ record { fault = fault; at = at; value = 0; percent = false } ⌝ }
 {
-    Limit {
+    CountLimit {
         fault,
         at,
         value: 0,
@@ -52,7 +52,7 @@ fn no_limit(fault: u32, at: usize) -> Limit
 }
 
 // A count's number, at its first digit.
-fn limit(s: &[u8], i: usize) -> Limit
+fn limit(s: &[u8], i: usize) -> CountLimit
     requires { ⌜ (i ≤ length (now s)) × (length (now s) ≤ 16384) ⌝ }
     ensures { λ r. ⌜ LimitIs (now (s .entry)) r (limitGot (now (s .entry)) i) × (r .at ≤ length (now (s .entry))) ⌝ }
 {
@@ -64,7 +64,7 @@ fn limit(s: &[u8], i: usize) -> Limit
     if highest(percent) < k.value {
         return no_limit(15, i);
     }
-    Limit {
+    CountLimit {
         fault: 0,
         at: behind(k.at, percent),
         value: k.value,
@@ -73,7 +73,7 @@ fn limit(s: &[u8], i: usize) -> Limit
 }
 
 // A count's node, behind its inner text.
-fn with_count(nodes: &mut [u8], r: Part, value: usize, percent: bool) -> Part
+fn with_count(nodes: &mut [u8], r: PartRead, value: usize, percent: bool) -> PartRead
     requires { ⌜ (r .fault ≡ 0 → (0 < r .n) × (r .n < 128)) × (length (now nodes) ≡ 512) × (value ≤ 999) ⌝ }
     ensures { λ q. ⌜ WithNode (now (nodes .entry)) r (countByte percent ∷ (r .n - 1) ∷ value % 256 ∷ value / 256 ∷ []) q (now (nodes .exit)) ⌝ }
 {
@@ -86,10 +86,10 @@ fn with_count(nodes: &mut [u8], r: Part, value: usize, percent: bool) -> Part
     put(nodes, r, count_kind(percent), last, low, high)
 }
 
-fn part_at(at: usize, left: usize, n: usize) -> Part
+fn part_at(at: usize, left: usize, n: usize) -> PartRead
     ensures { λ r. ⌜ r ≡ record { fault = 0; at = at; left = left; n = n } ⌝ }
 {
-    Part {
+    PartRead {
         fault: 0,
         at,
         left,
@@ -98,7 +98,7 @@ fn part_at(at: usize, left: usize, n: usize) -> Part
 }
 
 // The end of a count behind its inner text: comma, number and `]`, and its node.
-pub fn count_end(s: &[u8], r: Part, nodes: &mut [u8]) -> Part
+pub fn count_end(s: &[u8], r: PartRead, nodes: &mut [u8]) -> PartRead
     requires { ⌜ (r .at ≤ length (now s)) × (length (now s) ≤ 16384) × (r .fault ≡ 0 → (0 < r .n) × (r .n < 128)) × (length (now nodes) ≡ 512) ⌝ }
     ensures { λ q. ⌜ CountEnds (now (s .entry)) r (now (nodes .entry)) q (now (nodes .exit)) ⌝ }
 {

@@ -1,5 +1,5 @@
 // Single tokens: an operator, a byte that ends a part, `true`, a mark.
-use crate::Part;
+use crate::PartRead;
 use crate::ReachAt;
 use crate::nodes::put;
 use crate::nodes::refused;
@@ -16,7 +16,7 @@ ghost use Rattle.token.specs.Operator.{OperatorAt, Reaches};
 ghost use Rattle.token.specs.Leaves.{LeafIs, Expected, ByteAt, wordGot};
 
 // The offset of an operator behind a part that was read; the sheet's length if there is none.
-pub fn operator_at(s: &[u8], r: Part, c: u8) -> usize
+pub fn operator_at(s: &[u8], r: PartRead, c: u8) -> usize
     ensures { λ i. ⌜ OperatorAt (now (s .entry)) r c i ⌝ }
 {
     if r.fault != 0 {
@@ -33,7 +33,7 @@ pub fn operator_at(s: &[u8], r: Part, c: u8) -> usize
 }
 
 // `U` or `R` behind a part that was read; the sheet's length if there is neither.
-pub fn reach_at(s: &[u8], r: Part) -> ReachAt
+pub fn reach_at(s: &[u8], r: PartRead) -> ReachAt
     ensures { λ k. ⌜ Reaches (now (s .entry)) r k ⌝ }
 {
     let u = operator_at(s, r, b'U');
@@ -45,7 +45,7 @@ pub fn reach_at(s: &[u8], r: Part) -> ReachAt
 }
 
 // A part up to behind the byte that has to follow it.
-pub fn expect(s: &[u8], r: Part, c: u8) -> Part
+pub fn expect(s: &[u8], r: PartRead, c: u8) -> PartRead
     requires { ⌜ r .at ≤ length (now s) ⌝ }
     ensures { λ q. ⌜ Expected (now (s .entry)) r c q ⌝ }
 {
@@ -59,7 +59,7 @@ pub fn expect(s: &[u8], r: Part, c: u8) -> Part
     if s[i] != c {
         return refused(13, i);
     }
-    Part {
+    PartRead {
         fault: 0,
         at: i + 1,
         left: r.left,
@@ -77,12 +77,12 @@ pub(crate) fn is_at(s: &[u8], j: usize, c: u8) -> bool
 }
 
 // A node that stands alone, at the end of its token.
-fn alone(nodes: &mut [u8], at: usize, left: usize, n: usize, kind: u8, number: u8) -> Part
+fn alone(nodes: &mut [u8], at: usize, left: usize, n: usize, kind: u8, number: u8) -> PartRead
     requires { ⌜ (n < 128) × (0 < left) × (length (now nodes) ≡ 512) ⌝ }
     ensures { λ r. ⌜ r ≡ record { fault = 0; at = at; left = left - 1; n = n + 1 } ⌝ }
     ensures { λ _. ⌜ now (nodes .exit) ≡ stored (now (nodes .entry)) (4 * n) (kind ∷ number ∷ 0 ∷ 0 ∷ []) ⌝ }
 {
-    let r = Part {
+    let r = PartRead {
         fault: 0,
         at,
         left: left - 1,
@@ -92,7 +92,7 @@ fn alone(nodes: &mut [u8], at: usize, left: usize, n: usize, kind: u8, number: u
 }
 
 // `true`, behind its first byte.
-pub fn word(s: &[u8], i: usize, left: usize, n: usize, nodes: &mut [u8]) -> Part
+pub fn word(s: &[u8], i: usize, left: usize, n: usize, nodes: &mut [u8]) -> PartRead
     requires { ⌜ (i < length (now s)) × (n + left ≤ 128) × (length (now nodes) ≡ 512) ⌝ }
     ensures { λ r. ⌜ LeafIs (λ u. topN) (now (s .entry)) n left (now (nodes .entry)) r (now (nodes .exit)) (wordGot (now (s .entry)) left i) ⌝ }
 {
@@ -112,7 +112,7 @@ pub fn word(s: &[u8], i: usize, left: usize, n: usize, nodes: &mut [u8]) -> Part
 }
 
 // A mark, at its first byte.
-pub fn mark(s: &[u8], i: usize, left: usize, n: usize, nodes: &mut [u8]) -> Part
+pub fn mark(s: &[u8], i: usize, left: usize, n: usize, nodes: &mut [u8]) -> PartRead
     requires { ⌜ (i < length (now s)) × (n + left ≤ 128) × (length (now nodes) ≡ 512) ⌝ }
     ensures { λ r. ⌜ LeafIs markN (now (s .entry)) n left (now (nodes .entry)) r (now (nodes .exit)) (marks left (drop i (now (s .entry)))) ⌝ }
 {

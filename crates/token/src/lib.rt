@@ -17,7 +17,7 @@ pub use tokens::spaces;
 
 // What reading a part gives: the refusal's number, or 0; the offset behind the part, or the refused one; the nodes still
 // allowed; and how many nodes stand in the block, the last of them the part's own.
-pub struct Part {
+pub struct PartRead {
     pub fault: u32,
     pub at: usize,
     pub left: usize,
@@ -33,7 +33,7 @@ pub struct Num {
 
 // What reading a count's number gives: the refusal's number or 0, the offset behind it or the refused one, its value, and
 // whether it is a percentage.
-pub struct Limit {
+pub struct CountLimit {
     pub fault: u32,
     pub at: usize,
     pub value: usize,

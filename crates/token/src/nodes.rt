@@ -1,5 +1,5 @@
 // Nodes put into the block, four bytes to each.
-use crate::Part;
+use crate::PartRead;
 ghost use mathlib.Core.Path.{_≡_};
 ghost use mathlib.Core.List.{[], _∷_};
 ghost use Prim.Native.Nat.{_≤_, _<_, _*_, _-_};
@@ -8,10 +8,10 @@ ghost use Rattle.record.specs.Buffer.{stored};
 ghost use Rattle.token.specs.More.{moreOne, WithNode};
 
 // A part refused at an offset.
-pub fn refused(fault: u32, at: usize) -> Part
+pub fn refused(fault: u32, at: usize) -> PartRead
     ensures { λ r. ⌜ r ≡ record { fault = fault; at = at; left = 0; n = 0 } ⌝ }
 {
-    Part {
+    PartRead {
         fault,
         at,
         left: 0,
@@ -20,13 +20,13 @@ pub fn refused(fault: u32, at: usize) -> Part
 }
 
 // Puts a node behind those of a part that was read.
-pub(crate) fn put(nodes: &mut [u8], r: Part, kind: u8, a: u8, b: u8, c: u8) -> Part
+pub(crate) fn put(nodes: &mut [u8], r: PartRead, kind: u8, a: u8, b: u8, c: u8) -> PartRead
     requires { ⌜ (r .n < 128) × (length (now nodes) ≡ 512) ⌝ }
     ensures { λ q. ⌜ q ≡ moreOne r ⌝ }
     ensures { λ _. ⌜ now (nodes .exit) ≡ stored (now (nodes .entry)) (4 * r .n) (kind ∷ a ∷ b ∷ c ∷ []) ⌝ }
 {
     record::copy_at(nodes, r.n * 4, &[kind, a, b, c]);
-    Part {
+    PartRead {
         fault: r.fault,
         at: r.at,
         left: r.left,
@@ -35,7 +35,7 @@ pub(crate) fn put(nodes: &mut [u8], r: Part, kind: u8, a: u8, b: u8, c: u8) -> P
 }
 
 // An operator over the part just read, whose node is the last.
-pub fn with_one(nodes: &mut [u8], r: Part, kind: u8) -> Part
+pub fn with_one(nodes: &mut [u8], r: PartRead, kind: u8) -> PartRead
     requires { ⌜ (r .fault ≡ 0 → (0 < r .n) × (r .n < 128)) × (length (now nodes) ≡ 512) ⌝ }
     ensures { λ q. ⌜ WithNode (now (nodes .entry)) r (kind ∷ (r .n - 1) ∷ 0 ∷ 0 ∷ []) q (now (nodes .exit)) ⌝ }
 {
@@ -47,7 +47,7 @@ pub fn with_one(nodes: &mut [u8], r: Part, kind: u8) -> Part
 }
 
 // An operator over an earlier node and the part just read.
-pub fn with_two(nodes: &mut [u8], r: Part, kind: u8, first: usize) -> Part
+pub fn with_two(nodes: &mut [u8], r: PartRead, kind: u8, first: usize) -> PartRead
     requires { ⌜ (r .fault ≡ 0 → (0 < r .n) × (r .n < 128)) × (length (now nodes) ≡ 512) × (first < 128) ⌝ }
     ensures { λ q. ⌜ WithNode (now (nodes .entry)) r (kind ∷ first ∷ (r .n - 1) ∷ 0 ∷ []) q (now (nodes .exit)) ⌝ }
 {

@@ -4,8 +4,8 @@ use mathlib.Core.Path.{sym, ap, _∙_}
 use Rattle.refusal.specs.Faults.{not-is}
 use Rattle.floor.specs.Located.{accepts}
 use Rattle.plan.specs.Read.{held-length, accepts-if, after-accepted, after-refused, held-numbers, held-range}
-use Rattle.plan.specs.Promises.{Accepts}
-use Rattle.plan.specs.Plan.{Numbers}
+use Rattle.plan.specs.Promises.{AcceptedPlan}
+use Rattle.plan.specs.Plan.{PlanNumbers}
 use Rattle.moves.specs.Unending.{promise}
 use Rattle.moves.specs.Carts.{movesVerdict, judgedCarts, checkedMoves}
 use borrow.Author.Needs.{needs}
@@ -19,7 +19,7 @@ use Rattle.refusal.proofs.accepts.Reads as accepts-reads
 
 -- the plan is accepted, by the test of its verdict
 read-it : (c : tie.Else1)
-    → Accepts (c .before .before .before .before .before .args .floor .now) (c .before .before .before .before .before .args .plan .now)
+    → AcceptedPlan (c .before .before .before .before .before .args .floor .now) (c .before .before .before .before .before .args .plan .now)
     (c .before .before .read .result)
 read-it c = accepts-if _ _ _ (c .before .before .read .ensures) (sym (c .before .accepts .ensures) ∙ not-is _ false (c .if1 .left))
 
@@ -59,7 +59,7 @@ returns-2 c =
     let floor = c .before .before .before .before .before .before .before .before .before .args .floor .now in
     promise _ _ _
     (c .judge-plan .ensures ∙ ap
-    (λ (n : Numbers). judgedCarts floor n (c .before .before .before .before .before .before .read .result .floor .carts) 0)
+    (λ (n : PlanNumbers). judgedCarts floor n (c .before .before .before .before .before .before .read .result .floor .carts) 0)
     (held-numbers _ _ _ w) ∙ sym (after-accepted (λ v. v) (movesVerdict floor) _ _ _ w))
 
 pub check-spec : {M : Type 1} → statement M

@@ -9,9 +9,9 @@ use Rattle.refusal.specs.Faults.{not-is}
 use Rattle.refusal.specs.Accepting.{accepted-is}
 use Rattle.floor.specs.Located.{accepts}
 use Rattle.plan.specs.Read.{held-length, accepts-if, after-accepted, after-refused, held-numbers, held-range}
-use Rattle.plan.specs.Promises.{Accepts}
-use Rattle.plan.specs.Plan.{Numbers, heldNumbers}
-use Rattle.plancheck.specs.Check.{placeOn, stages, checked}
+use Rattle.plan.specs.Promises.{AcceptedPlan}
+use Rattle.plan.specs.Plan.{PlanNumbers, heldNumbers}
+use Rattle.plancheck.specs.Check.{placeOnStep, stages, checked}
 use Rattle.plancheck.specs.Stages.{stage-moves, stage-sheet, stage-clauses}
 use Rattle.plancheck.specs.Claims.{claims}
 use borrow.Author.Needs.{needs}
@@ -21,7 +21,7 @@ use Rattle.sheet.proofs.read.Reads as reading-read-reads′
 
 -- the plan is accepted, by the test of its verdict
 read-it : (c : tie.Else1)
-    → Accepts (c .before .before .before .before .before .before .args .floor .now)
+    → AcceptedPlan (c .before .before .before .before .before .before .args .floor .now)
     (c .before .before .before .before .before .before .args .plan .now) (c .before .before .read .result)
 read-it c = accepts-if _ _ _ (c .before .before .read .ensures) (sym (c .before .accepts .ensures) ∙ not-is _ false (c .if1 .left))
 
@@ -128,8 +128,8 @@ judge-clauses-requires c κs =
     accepts _ _
     (λ i. omega (arith, c .before .before .before .before .before .before .before .before .before .before .before .before .before .before .before .shared-slice-known .given i))
     (w .floor-read) in
-    let places : (k s : ℕ) → k < c .before .before .before .before .before .before .before .before .before .before .before .before .read .result .floor .carts → s < c .before .before .before .before .before .before .before .before .before .before .before .before .read .result .plan .head .steps → placeOn (heldNumbers (c .before .before .before .before .before .before .before .before .before .before .before .before .read .result .floor .carts) (c .before .before .before .before .before .before .before .before .before .before .before .before .read .result .plan .head) (c .before .before .before .before .before .before .before .before .before .before .before .before .read .result .plan .block)) k s < c .before .before .before .before .before .before .before .before .before .before .before .before .read .result .floor .places =
-    (λ k s p q. subst (λ (n : Numbers). s < n .head .steps → getD (getD
+    let places : (k s : ℕ) → k < c .before .before .before .before .before .before .before .before .before .before .before .before .read .result .floor .carts → s < c .before .before .before .before .before .before .before .before .before .before .before .before .read .result .plan .head .steps → placeOnStep (heldNumbers (c .before .before .before .before .before .before .before .before .before .before .before .before .read .result .floor .carts) (c .before .before .before .before .before .before .before .before .before .before .before .before .read .result .plan .head) (c .before .before .before .before .before .before .before .before .before .before .before .before .read .result .plan .block)) k s < c .before .before .before .before .before .before .before .before .before .before .before .before .read .result .floor .places =
+    (λ k s p q. subst (λ (n : PlanNumbers). s < n .head .steps → getD (getD
     (n .rows) k []) s 0 < c .before .before .before .before .before .before .before .before .before .before .before .before .read .result .floor .places)
     (sym (held-numbers _ _ _ w)) (w .valid .places k s p) q) in (
       f,

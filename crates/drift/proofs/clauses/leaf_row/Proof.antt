@@ -5,7 +5,7 @@ use lib.ListN.{length}
 use Rattle.cltl.specs.Threshold.{quota}
 use Rattle.cltl.specs.Rules.{inner, quorum}
 use Rattle.mask.specs.Mask.{Row}
-use Rattle.marks.specs.Table.{rowsIn}
+use Rattle.marks.specs.Table.{tableRows}
 use Rattle.drift.specs.Tree.{innerTree}
 use Rattle.drift.specs.Judged.{ordered-less}
 use Rattle.drift.specs.NodeRows.{count-low}
@@ -53,7 +53,7 @@ returns c =
     clause-count (s .args .nodes .now) (s .args .table .now) (g .carts) (g .h) (g .l) (g .d) (s .pre .0 .0) (s .args .p) (s .args .k) _ _ _ k
     (c .before .first-at .ensures) _ (c .before .before .before .before .number-at .ensures .0) (omega arith)
     (subst (λ (m : ℕ). Row (g .h) (c .count-row .result) (quorum (g .h) (g .l) (g .carts) (g .d) m (λ i. inner
-    (rowsIn (s .args .table .now) (g .carts) (g .h) (g .l)) i (s .args .p)
+    (tableRows (s .args .table .now) (g .carts) (g .h) (g .l)) i (s .args .p)
     (innerTree (s .args .nodes .now) (length (s .args .nodes .now)) (c .before .first-at .result))))) e (c .count-row .ensures))
 
 pub leaf-row-spec : {M : Type 1} → statement M

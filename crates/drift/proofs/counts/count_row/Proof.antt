@@ -5,7 +5,7 @@ use mathlib.Core.Bool.{Bool}
 use mathlib.Core.List.{List}
 use lib.ListN.{length}
 use Rattle.cltl.specs.Rules.{inner}
-use Rattle.marks.specs.Table.{rowsIn}
+use Rattle.marks.specs.Table.{tableRows}
 use Rattle.mask.specs.Planes.{Each}
 use Rattle.drift.specs.Tree.{innerTree}
 use Rattle.drift.specs.CountRows.{tabled-less, Counted, none-counted, cart-counted, one-quorum, more-quorum}
@@ -14,7 +14,7 @@ use Rattle.drift.proofs.counts.count_row.Tie as tie
 
 -- the inner text of each cart, at its steps
 abbrev text : List ℕ → List ℕ → ℕ → ℕ → ℕ → Bool → ℕ → ℕ → ℕ → Bool
-text nodes table carts h l p x i = inner (rowsIn table carts h l) i p (innerTree nodes (length nodes) x)
+text nodes table carts h l p x i = inner (tableRows table carts h l) i p (innerTree nodes (length nodes) x)
 
 abbrev Inv-loop : tie.InvT-loop
 Inv-loop nodes table g p m x planes₀ all₀ i₀ planes all i =

@@ -3,7 +3,7 @@ use native.Mathlib.Omega.{arith}
 use mathlib.Core.Path.{sym, _∙_}
 use Rattle.cltl.specs.Rules.{rules}
 use Rattle.cltl.specs.Agree.{lowest-agrees}
-use Rattle.marks.specs.Table.{rowsIn}
+use Rattle.marks.specs.Table.{tableRows}
 use Rattle.drift.specs.Judged.{ordered-less}
 use Rattle.drift.specs.NodeRows.{first-low}
 use Rattle.drift.specs.Trees.{globally-step, other-step}
@@ -40,7 +40,7 @@ returns c =
     let s = c .before .before .before .before .before .before .before in
     let g = s .args .g in
     let e = sym (c .before .before .before .before .kind-at .ensures) ∙ c .before .before .before .if1 .taken in (
-      globally-step (rowsIn (s .args .table .now) (g .carts) (g .h) (g .l)) (g .d) (s .args .nodes .now) (s .args .k) (s .pre .1 .0) e
+      globally-step (tableRows (s .args .table .now) (g .carts) (g .h) (g .l)) (g .d) (s .args .nodes .now) (s .args .k) (s .pre .1 .0) e
           (c .lowest-off .result) (c .before .before .first-at .result) (c .before .before .first-at .ensures)
           (λ n q. c .lowest-off .ensures .0 ∙ lowest-agrees _ _ (g .h) 0 (g .h) (c .before .clause-row .ensures n q .at) (omega arith)),
       omega arith,
@@ -51,7 +51,7 @@ returns-2 : tie.Need-returns-2
 returns-2 c =
     let s = c .before .before .before .before in
     let g = s .args .g in (
-      other-step (rowsIn (s .args .table .now) (g .carts) (g .h) (g .l)) (g .d) (s .args .nodes .now) (s .args .k)
+      other-step (tableRows (s .args .table .now) (g .carts) (g .h) (g .l)) (g .d) (s .args .nodes .now) (s .args .k)
           (λ e. c .if1 .left (c .before .kind-at .ensures ∙ e)),
       omega arith,
     )

@@ -10,9 +10,9 @@ use Rattle.refusal.specs.Outcome.{Outcome, Gives, unchanged, written}
 use Rattle.floor.specs.declared.Floor.{Floor}
 use Rattle.floor.specs.Located.{accepts}
 use Rattle.plan.specs.Read.{accepts-if, after-accepted, after-refused, held-numbers, held-range, held-length}
-use Rattle.plan.specs.Promises.{Accepts}
+use Rattle.plan.specs.Promises.{AcceptedPlan}
 use Rattle.plan.specs.Numbers.{planFile}
-use Rattle.plan.specs.Plan.{Numbers}
+use Rattle.plan.specs.Plan.{PlanNumbers}
 use Rattle.edit.specs.MovedReads.{promise}
 use Rattle.edit.specs.Moved.{moved, moveOn}
 use Rattle.edit.proofs.moving.move_on.Statement.{statement}
@@ -20,12 +20,12 @@ use Rattle.edit.proofs.moving.move_on.Tie as tie
 
 -- the plan is accepted, by the test of its verdict
 read-it : (c : tie.Else1)
-    → Accepts (c .before .before .before .before .before .before .args .floor .now)
+    → AcceptedPlan (c .before .before .before .before .before .before .args .floor .now)
     (c .before .before .before .before .before .before .args .plan .now) (c .before .before .read .result)
 read-it c = accepts-if _ _ _ (c .before .before .read .ensures) (sym (c .before .accepts .ensures) ∙ not-is _ false (c .if1 .left))
 
 -- what is done with its numbers
-abbrev go : List ℕ → ℕ → Floor → Numbers → Outcome
+abbrev go : List ℕ → ℕ → Floor → PlanNumbers → Outcome
 go out s f p = written AboutPlan (planFile (moved s p)) out
 
 read-requires : tie.Need-read-requires

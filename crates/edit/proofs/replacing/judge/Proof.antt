@@ -7,19 +7,19 @@ use borrow.Author.Needs.{needs}
 use Rattle.refusal.specs.Faults.{not-is}
 use Rattle.floor.specs.Located.{accepts}
 use Rattle.plan.specs.Read.{accepts-if, held-range, held-length}
-use Rattle.plan.specs.Promises.{Accepts}
+use Rattle.plan.specs.Promises.{AcceptedPlan}
 use Rattle.edit.proofs.RowJudged.{refused, judged}
 use Rattle.edit.proofs.replacing.judge.Statement.{statement}
 use Rattle.edit.proofs.replacing.judge.Tie as tie
 
 -- the plan is accepted, by the test of its verdict
 read-it : (c : tie.Else1)
-    → Accepts (c .before .before .before .before .before .before .args .floor .now)
+    → AcceptedPlan (c .before .before .before .before .before .before .args .floor .now)
     (c .before .before .before .before .before .before .args .plan .now) (c .before .before .read .result)
 read-it c = accepts-if _ _ _ (c .before .before .read .ensures) (sym (c .before .accepts .ensures) ∙ not-is _ false (c .if1 .left))
 
 -- the offset is small
-reach : (c : tie.After-judge-after)
+reach : (c : tie.After-judge-moves-and-row)
     → c .before .before .before .before .before .before .before .before .before .before .before .args .cart *
     (4 + c .before .before .before .before .before .before .before .read .result .plan .head .steps) ≤ 4294967296 * 68
 reach c =
@@ -39,11 +39,11 @@ returns c =
     refused _ _ _ _ (c .before .before .read .result) (c .before .before .read .ensures .answer)
     (sym (c .before .accepts .ensures) ∙ not-is _ true (c .if1 .taken))
 
-slice-aggregate-judge-after : tie.Need-slice-aggregate-judge-after
-slice-aggregate-judge-after c = search needs
+slice-aggregate-judge-moves-and-row : tie.Need-slice-aggregate-judge-moves-and-row
+slice-aggregate-judge-moves-and-row c = search needs
 
-judge-after-requires : tie.Need-judge-after-requires
-judge-after-requires c κs =
+judge-moves-and-row-requires : tie.Need-judge-moves-and-row-requires
+judge-moves-and-row-requires c κs =
     let w = read-it (c .before .before .before .before) in
     let f =
     accepts _ _ (λ i. omega (arith, c .before .before .before .before .before .before .before .before .before .shared-slice-known .given i))
@@ -65,7 +65,7 @@ add-t19 c = omega (arith, reach (c .before))
 returns-2 : tie.Need-returns-2
 returns-2 c =
     judged _ _ _ _ (c .before .before .before .before .before .before .before .before .read .result)
-    (read-it (c .before .before .before .before .before .before)) (c .before .judge-after .result) (c .before .judge-after .ensures) _ (omega arith)
+    (read-it (c .before .before .before .before .before .before)) (c .before .judge-moves-and-row .result) (c .before .judge-moves-and-row .ensures) _ (omega arith)
 
 pub judge-spec : {M : Type 1} → statement M
 judge-spec =
@@ -74,8 +74,8 @@ judge-spec =
     read-requires
     accepts-requires
     returns
-    slice-aggregate-judge-after
-    judge-after-requires
+    slice-aggregate-judge-moves-and-row
+    judge-moves-and-row-requires
     add-t16
     mul-t17
     add-t18

@@ -5,7 +5,7 @@ use mathlib.Core.Bool.{false}
 use lib.ListN.{length}
 use Rattle.record.specs.Parts.{laid}
 use Rattle.floor.specs.Floor.{atEnd}
-use Rattle.floor.specs.Numbers.{Numbers, numbers, laneRecords, cartRecords, floorBytes}
+use Rattle.floor.specs.Numbers.{FloorNumbers, numbers, laneRecords, cartRecords, floorBytes}
 use Rattle.floor.specs.Walked.{walkOn, UpTo}
 use Rattle.floor.specs.Walk.{length-floor, read-numbers, up-to-lanes, up-to-carts, up-to-end}
 use Rattle.floor.specs.declared.Walked.{Walked}
@@ -15,7 +15,7 @@ use borrow.Author.Needs.{needs}
 use Rattle.floor.proofs.writing.judge_numbers.Statement.{statement}
 use Rattle.floor.proofs.writing.judge_numbers.Tie as tie
 
-abbrev held : (c : tie.Else1) → Numbers
+abbrev held : (c : tie.Else1) → FloorNumbers
 held c =
     numbers (c .before .before .before .before .before .args .places .now) (c .before .before .before .before .before .args .lanes .now)
     (c .before .before .before .before .before .args .carts .now)

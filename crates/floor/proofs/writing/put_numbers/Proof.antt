@@ -5,14 +5,14 @@ use lib.ListN.{length}
 use Rattle.refusal.specs.Held.{gives-short, gives-written}
 use Rattle.refusal.specs.Codes.{refused}
 use Rattle.refusal.specs.declared.Verdict.the-variants.{Written, Floor as AboutFloor}
-use Rattle.floor.specs.Numbers.{Numbers, numbers, floorBytes}
+use Rattle.floor.specs.Numbers.{FloorNumbers, numbers, floorBytes}
 use Rattle.floor.specs.Walk.{length-floor, length-three}
 use Rattle.floor.proofs.Storing.{floor-stored}
 use borrow.Author.Needs.{needs}
 use Rattle.floor.proofs.writing.put_numbers.Statement.{statement}
 use Rattle.floor.proofs.writing.put_numbers.Tie as tie
 
-abbrev held : tie.Start → Numbers
+abbrev held : tie.Start → FloorNumbers
 held c = numbers (c .args .places .now) (c .args .lanes .now) (c .args .carts .now)
 
 -- the length that is computed is the result's

@@ -5,7 +5,7 @@ use mathlib.Core.List.{List}
 use Rattle.refusal.specs.Outcome.{Gives}
 use Rattle.refusal.specs.declared.Verdict.{Verdict}
 use Rattle.floor.specs.Floor.{readFloor}
-use Rattle.floor.specs.Numbers.{Numbers, Words, numbers, floorBytes, byReading, writeFloor}
+use Rattle.floor.specs.Numbers.{FloorNumbers, Words, numbers, floorBytes, byReading, writeFloor}
 use Rattle.floor.specs.Complete.{complete}
 use Rattle.floor.specs.Promises.{FloorWritten}
 use Rattle.floor.specs.RoundTrip.{whole, reads-back}
@@ -14,10 +14,10 @@ use borrow.Author.Needs.{needs}
 use Rattle.floor.proofs.writing.write.Statement.{statement}
 use Rattle.floor.proofs.writing.write.Tie as tie
 
-abbrev held : tie.Start → Numbers
+abbrev held : tie.Start → FloorNumbers
 held c = numbers (c .args .places .now) (c .args .lanes .now) (c .args .carts .now)
 
-promise : (n : Numbers) (before : List ℕ) (v : Verdict) (after : List ℕ) → Words (n .places) → (a : FloorAnswer) → readFloor (floorBytes n) ≡ a
+promise : (n : FloorNumbers) (before : List ℕ) (v : Verdict) (after : List ℕ) → Words (n .places) → (a : FloorAnswer) → readFloor (floorBytes n) ≡ a
     → Gives (byReading a (floorBytes n) before) v after → FloorWritten n before v after
 unfolding writeFloor
 promise n before v after w a e g =

@@ -19,14 +19,14 @@ enum-told c = search needs
 enum-told-2 : tie.Need-enum-told-2
 enum-told-2 c = search needs
 
-if-room-requires : tie.Need-if-room-requires
-if-room-requires c κs = search needs
+five-if-full-requires : tie.Need-five-if-full-requires
+five-if-full-requires c κs = search needs
 
 enum-told-3 : tie.Need-enum-told-3
 enum-told-3 c = search needs
 
-if-room-requires-2 : tie.Need-if-room-requires-2
-if-room-requires-2 c κs = search needs
+five-if-full-requires-2 : tie.Need-five-if-full-requires-2
+five-if-full-requires-2 c κs = search needs
 
 returns-2 : tie.Need-returns-2
 returns-2 c =
@@ -38,15 +38,15 @@ returns-3 : tie.Need-returns-3
 returns-3 c =
     let a = c .before .before .before .before .before .before .args in
     let i = c .before .enum-told2 .given .0 .0 in
-    let e : rowFaultBy (Absent i) (a .f) (a .n) (a .kind) ≡ c .if-room .result =
-    simp (eq-eqb _ _ (c .before .before .before .before .if1 .left)) (sym (c .if-room .ensures)) in
+    let e : rowFaultBy (Absent i) (a .f) (a .n) (a .kind) ≡ c .five-if-full .result =
+    simp (eq-eqb _ _ (c .before .before .before .before .if1 .left)) (sym (c .five-if-full .ensures)) in
     sym e ∙ ap (λ (x : RowAnswer). rowFaultBy x (a .f) (a .n) (a .kind)) (sym (c .before .enum-told2 .given .1) ∙ c .before .before .before .judge-row .ensures)
 
 returns-4 : tie.Need-returns-4
 returns-4 c =
     let a = c .before .before .before .before .before .before .args in
-    let e : rowFaultBy Fits (a .f) (a .n) (a .kind) ≡ c .if-room2 .result =
-    simp (eq-eqb _ _ (c .before .before .before .before .if1 .left)) (sym (c .if-room2 .ensures)) in
+    let e : rowFaultBy Fits (a .f) (a .n) (a .kind) ≡ c .five-if-full2 .result =
+    simp (eq-eqb _ _ (c .before .before .before .before .if1 .left)) (sym (c .five-if-full2 .ensures)) in
     sym e ∙ ap (λ (x : RowAnswer). rowFaultBy x (a .f) (a .n) (a .kind)) (sym (c .before .enum-told3 .given .1) ∙ c .before .before .before .judge-row .ensures)
 
 pub row-fault-spec : {M : Type 1} → statement M
@@ -57,9 +57,9 @@ row-fault-spec =
     judge-row-requires
     enum-told
     enum-told-2
-    if-room-requires
+    five-if-full-requires
     enum-told-3
-    if-room-requires-2
+    five-if-full-requires-2
     returns-2
     returns-3
     returns-4)

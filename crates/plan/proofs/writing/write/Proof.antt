@@ -5,7 +5,7 @@ use Rattle.floor.specs.RoundTrip.{accepted-within}
 use Rattle.floor.specs.declared.Floor.{Floor}
 use Rattle.floor.specs.declared.FloorAnswer.the-variants.{Read as FloorAccepted}
 use Rattle.plan.specs.Plan.{PlanAnswer}
-use Rattle.plan.specs.Valid.{Valid}
+use Rattle.plan.specs.Valid.{ValidPlan}
 use Rattle.plan.specs.Complete.{complete}
 use Rattle.plan.specs.Numbers.{planBytes, byReading}
 use Prim.Native.Nat.{ℕ}
@@ -33,7 +33,7 @@ narrow c = record { steps = omega (arith, c .fits .steps); stem = omega (arith, 
 
 -- a valid plan for an accepted floor is written, if there is room
 completes : (floor : List ℕ) (h : Head) (rows before : List ℕ) (v : Verdict) (after : List ℕ) → Gives (writePlan floor h rows before) v after
-    → (f : Floor) → readFloor floor ≡ FloorAccepted f → Valid (record { head = h; rows = parts (h .steps) rows }) f
+    → (f : Floor) → readFloor floor ≡ FloorAccepted f → ValidPlan (record { head = h; rows = parts (h .steps) rows }) f
     → Gives (written AboutPlan (planBytes h rows) before) v after
 unfolding writePlan
 completes floor h rows before v after g f e w =

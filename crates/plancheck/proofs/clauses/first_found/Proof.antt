@@ -6,7 +6,7 @@ use Rattle.refusal.specs.Accepting.{stops, goes-on}
 use Rattle.refusal.specs.declared.Verdict.the-variants.{Rules as AboutRules}
 use Rattle.cltl.specs.Meaning.{Rows}
 use Rattle.cltl.specs.Rules.{rules}
-use Rattle.marks.specs.Table.{rowsIn}
+use Rattle.marks.specs.Table.{tableRows}
 use Rattle.drift.specs.Tree.{clauseTree}
 use Rattle.plancheck.specs.Turns.{clause-kept, clause-fails}
 use borrow.Author.Needs.{needs}
@@ -30,7 +30,7 @@ returns-2 : tie.Need-returns-2
 unfolding rules
 returns-2 c =
     let a = c .before .before .before .before .before .before .args in
-    let P : Rows = rowsIn (a .table .now) (a .g .carts) (a .g .h) (a .g .l) in
+    let P : Rows = tableRows (a .table .now) (a .g .carts) (a .g .h) (a .g .l) in
     λ m q.
     clause-kept P (a .g .d) (a .n) (clauseTree (a .nodes .now) m (a .k)) (c .before .clause-row .result) (omega arith)
     (c .before .clause-row .ensures m q) (c .if2 .taken)
@@ -53,7 +53,7 @@ returns-3 : tie.Need-returns-3
 unfolding rules
 returns-3 c =
     let a = c .before .before .before .before .before .before .before .before .args in
-    let P : Rows = rowsIn (a .table .now) (a .g .carts) (a .g .h) (a .g .l) in
+    let P : Rows = tableRows (a .table .now) (a .g .carts) (a .g .h) (a .g .l) in
     λ m q.
     ap AboutRules (c .refuse .ensures)
     ∙ clause-fails P (a .g .d) (a .n) (clauseTree (a .nodes .now) m (a .k)) (c .before .before .before .clause-row .result) (omega arith)

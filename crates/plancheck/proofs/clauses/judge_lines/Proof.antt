@@ -11,7 +11,7 @@ use Rattle.refusal.specs.declared.Verdict.the-variants.{Rules as AboutRules}
 use Rattle.grammar.specs.Grammar.{Clause}
 use Rattle.cltl.specs.Meaning.{Rows}
 use Rattle.cltl.specs.Rules.{hasNext}
-use Rattle.marks.specs.Table.{rowsIn}
+use Rattle.marks.specs.Table.{tableRows}
 use Rattle.plancheck.specs.Lines.{accepted-short}
 use Rattle.plancheck.specs.LineHeld.{ready}
 use Rattle.plancheck.specs.Check.{clauseVerdict}
@@ -20,7 +20,7 @@ use Rattle.plancheck.proofs.clauses.judge_lines.Statement.{statement}
 use Rattle.plancheck.proofs.clauses.judge_lines.Tie as tie
 
 abbrev Inv-loop : tie.InvT-loop
-Inv-loop rules table g nodes₀ found₀ at₀ n₀ nodes found at n = (length nodes ≡ 512) × Going (rowsIn table (g .carts) (g .h) (g .l)) (g .d) rules at n found
+Inv-loop rules table g nodes₀ found₀ at₀ n₀ nodes found at n = (length nodes ≡ 512) × Going (tableRows table (g .carts) (g .h) (g .l)) (g .d) rules at n found
 
 abbrev μ-loop : tie.MeasureT-loop
 μ-loop rules table g nodes₀ found₀ at₀ n₀ nodes found at n = 32 - n
@@ -29,7 +29,7 @@ abbrev μ-loop : tie.MeasureT-loop
 loop-holds : tie.Need-loop-holds Inv-loop μ-loop
 loop-holds c =
     let a = c .before .before .args in
-    (refl, going-start (rowsIn (a .table .now) (a .g .carts) (a .g .h) (a .g .l)) (a .g .d) (a .rules .now) (c .before .before .pre .0))
+    (refl, going-start (tableRows (a .table .now) (a .g .carts) (a .g .h) (a .g .l)) (a .g .d) (a .rules .now) (c .before .before .pre .0))
 
 -- src/clauses.rt:75:47
 slice-aggregate-read-clause : tie.Need-slice-aggregate-read-clause Inv-loop μ-loop
@@ -145,7 +145,7 @@ loop-again c =
     ready s (v .nodes) _ _ (v .at) (v .n) (c .before .before .before .before .before .before .before .before .before .loop-test .taken)
     (c .before .before .before .before .before .before .before .read-clause .ensures) (v .inv .1 .rest) (v .inv .1 .left) (v .inv .0) in
     let a = c .before .before .before .before .before .before .before .before .before .before .before .before .before .args in
-    let P : Rows = rowsIn (a .table .now) (a .g .carts) (a .g .h) (a .g .l) in
+    let P : Rows = tableRows (a .table .now) (a .g .carts) (a .g .h) (a .g .l) in
     let t = w .judge .tree _ (le-refl _) in
     let e : false ≡ cond (eqb (a .g .d) 0) false (hasNext (w .line .clause)) =
     sym (c .before .before .if1 .left) ∙ c .before .before .before .looks-on .ensures _ (le-refl _)
@@ -159,7 +159,7 @@ loop-again c =
 returns-2 : tie.Need-returns-2 Inv-loop μ-loop
 returns-2 c =
     let a = c .before .before .before .before .args in
-    going-end (rowsIn (a .table .now) (a .g .carts) (a .g .h) (a .g .l)) (a .g .d) (a .rules .now) (c .before .loop .at) (c .before .loop .n)
+    going-end (tableRows (a .table .now) (a .g .carts) (a .g .h) (a .g .l)) (a .g .d) (a .rules .now) (c .before .loop .at) (c .before .loop .n)
     (c .before .loop .found) (c .before .loop .inv .1) (omega arith)
 
 pub judge-lines-spec : {M : Type 1} → statement M

@@ -3,7 +3,7 @@ use native.Mathlib.Omega.{arith}
 use mathlib.Core.Path.{sym, ap, subst}
 use lib.ListN.{length}
 use borrow.Author.Needs.{needs}
-use Rattle.token.specs.declared.Part.{Part}
+use Rattle.token.specs.declared.PartRead.{PartRead}
 use Rattle.token.specs.Counted.{comma-missing, number-refused, count-read}
 use Rattle.token.specs.Leaves.{Expected, limitGot}
 use Rattle.token.proofs.Counting.{limit-low}
@@ -43,7 +43,7 @@ part-at-requires c κs = search needs
 
 expect-requires-2 : tie.Need-expect-requires-2
 expect-requires-2 c κs =
-    subst (λ (x : Part). x .at ≤ length (c .before .before .before .before .before .before .before .before .before .before .args .s .now))
+    subst (λ (x : PartRead). x .at ≤ length (c .before .before .before .before .before .before .before .before .before .before .args .s .now))
     (sym (c .part-at .ensures)) (c .before .before .before .limit .ensures .1)
 
 with-count-requires : tie.Need-with-count-requires
@@ -57,7 +57,7 @@ with-count-requires c κs =
           c .before .before .before .before .before .before .before .before .before .expect .ensures .kept
           (c .before .before .before .before .before .before .before .if1 .left) in
           let w = c .before .before .before .before .before .before .before .before .before .before .before .before .pre .2 (z .0) in
-          let m = ap (λ (x : Part). x .n) e in
+          let m = ap (λ (x : PartRead). x .n) e in
           (omega (arith, y .1, z .1, m, w .0), omega (arith, y .1, z .1, m, w .1)),
       c .before .before .before .before .before .before .before .before .before .before .before .before .pre .3,
       limit-low (a .s .now) (k .result) (limitGot (a .s .now) (c .before .before .before .before .before .before .spaces .result)) (k .ensures .0)
@@ -80,7 +80,7 @@ returns-3 c =
     (c .before .before .before .before .before .before .before .before .limit .ensures .0)
     (c .before .before .before .before .before .before .before .before .limit .ensures .1)
     (c .before .before .before .before .before .before .if2 .left) (c .before .before .before .before .expect2 .result)
-    (subst (λ (x : Part). Expected (a .s .now) x 93 (c .before .before .before .before .expect2 .result))
+    (subst (λ (x : PartRead). Expected (a .s .now) x 93 (c .before .before .before .before .expect2 .result))
     (c .before .before .before .before .before .part-at .ensures) (c .before .before .before .before .expect2 .ensures))
     (c .before .before .with-count .result) _ (c .before .before .with-count .ensures)
 

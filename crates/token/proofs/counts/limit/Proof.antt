@@ -5,7 +5,7 @@ use mathlib.Core.Path.{sym, subst}
 use lib.ListN.{length}
 use borrow.Author.Needs.{needs}
 use Rattle.refusal.specs.Faults.{not-is}
-use Rattle.token.specs.declared.Limit.{Limit}
+use Rattle.token.specs.declared.CountLimit.{CountLimit}
 use Rattle.token.proofs.Counting.{limit-bad, limit-wide, limit-read, in-text}
 use Rattle.token.proofs.counts.limit.Statement.{statement}
 use Rattle.token.proofs.counts.limit.Tie as tie
@@ -22,7 +22,7 @@ returns c =
     let k = c .before .before .before .number in (
       limit-bad (a .s .now) (a .i) (k .result) (k .ensures .0) (not-is _ true (c .before .if1 .taken)) _ (c .no-limit .ensures),
       subst
-          (λ (x : Limit). x .at ≤ length (a .s .now)) (sym (c .no-limit .ensures)) (k .ensures .1 (c .before .before .before .before .before .pre .0)),
+          (λ (x : CountLimit). x .at ≤ length (a .s .now)) (sym (c .no-limit .ensures)) (k .ensures .1 (c .before .before .before .before .before .pre .0)),
     )
 
 is-at-requires : tie.Need-is-at-requires
@@ -42,7 +42,7 @@ returns-2 c =
           (c .before .before .before .before .is-at .result) (c .before .before .before .before .is-at .ensures)
           (omega (arith, c .before .if2 .taken, c .before .before .before .highest .ensures)) _ (c .no-limit2 .ensures),
       subst
-          (λ (x : Limit). x .at ≤ length (a .s .now)) (sym (c .no-limit2 .ensures))
+          (λ (x : CountLimit). x .at ≤ length (a .s .now)) (sym (c .no-limit2 .ensures))
           (c .before .before .before .before .before .before .before .before .before .pre .0),
     )
 

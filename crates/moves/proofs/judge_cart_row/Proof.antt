@@ -8,8 +8,8 @@ use Rattle.row.specs.Moves.{lanesIn, judgedMoves}
 use Rattle.row.specs.FloorBytes.{file-length}
 use Rattle.moves.specs.CartBytes.{class-at, start-at, class-low}
 use Rattle.moves.specs.Carts.{verdictOf}
-use Rattle.moves.proofs.judge_cart.Statement.{statement}
-use Rattle.moves.proofs.judge_cart.Tie as tie
+use Rattle.moves.proofs.judge_cart_row.Statement.{statement}
+use Rattle.moves.proofs.judge_cart_row.Tie as tie
 
 mul-at : tie.Need-mul-at
 mul-at c = search needs
@@ -81,8 +81,8 @@ returns c =
     ∙ ap (verdictOf (a .c))
     (c .before .judge-moves .ensures ∙ sym (ap₂ (λ (x y : ℕ). judgedMoves (lanesIn (a .s .now)) x y (a .row .now) (length (a .row .now)) (a .stem)) k s))
 
-pub judge-cart-spec : {M : Type 1} → statement M
-judge-cart-spec =
+pub judge-cart-row-spec : {M : Type 1} → statement M
+judge-cart-row-spec =
     tie.close
     (tie.spec
     mul-at

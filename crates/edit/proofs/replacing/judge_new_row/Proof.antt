@@ -12,8 +12,8 @@ use Rattle.plan.specs.Plan.{judgedRow}
 use Rattle.moves.specs.Carts.{cartVerdict}
 use Rattle.edit.specs.ReplacedReads.{fits-if}
 use Rattle.edit.specs.Replaced.{placesVerdict}
-use Rattle.edit.proofs.replacing.judge_fit.Statement.{statement}
-use Rattle.edit.proofs.replacing.judge_fit.Tie as tie
+use Rattle.edit.proofs.replacing.judge_new_row.Statement.{statement}
+use Rattle.edit.proofs.replacing.judge_new_row.Tie as tie
 
 -- the row judged
 abbrev judged : tie.After-verdict-of → Verdict
@@ -51,8 +51,8 @@ returns c =
     ∙ sym
     (stops (judged (c .before .before)) _ (ap isAccepted (sym (is (c .before .before))) ∙ sym (c .before .accepts .ensures) ∙ not-is _ true (c .if1 .taken)))
 
-judge-cart-requires : tie.Need-judge-cart-requires
-judge-cart-requires c κs =
+judge-cart-row-requires : tie.Need-judge-cart-row-requires
+judge-cart-row-requires c κs =
     let p = c .before .before .before .before .before .before .pre in
     let w = fits c in
     (p .0, (p .1 .0, (p .1 .1 .1, omega (arith, w .size, p .1 .1 .0 .stem), omega (arith, w .size, p .1 .1 .0 .steps))))
@@ -60,16 +60,16 @@ judge-cart-requires c κs =
 returns-2 : tie.Need-returns-2
 returns-2 c =
     let a = c .before .before .before .before .before .before .before .args in
-    c .judge-cart .ensures ∙ ap (λ (n : ℕ). cartVerdict (a .s .now) (a .c) (a .row .now) n (a .h .stem)) (fits (c .before) .size)
+    c .judge-cart-row .ensures ∙ ap (λ (n : ℕ). cartVerdict (a .s .now) (a .c) (a .row .now) n (a .h .stem)) (fits (c .before) .size)
     ∙ sym (goes-on (judged (c .before .before .before)) _ (passed (c .before)))
 
-pub judge-fit-spec : {M : Type 1} → statement M
-judge-fit-spec =
+pub judge-new-row-spec : {M : Type 1} → statement M
+judge-new-row-spec =
     tie.close
     (tie.spec
     judge-row-requires
     verdict-of-requires
     accepts-requires
     returns
-    judge-cart-requires
+    judge-cart-row-requires
     returns-2)

@@ -5,8 +5,8 @@ use lib.ListN.{getD}
 use Rattle.endian.specs.Little.{bytes}
 use Rattle.refusal.specs.Codes.{bytesOf}
 use borrow.Author.Needs.{needs}
-use Rattle.refusal.proofs.encoded.Statement.{statement}
-use Rattle.refusal.proofs.encoded.Tie as tie
+use Rattle.refusal.proofs.verdict_bytes.Statement.{statement}
+use Rattle.refusal.proofs.verdict_bytes.Tie as tie
 
 -- four bytes taken one by one from four arrays of four
 four : List ℕ → List ℕ
@@ -88,8 +88,8 @@ returns c =
     (c .before .before .before .bytes32 .ensures) (c .before .before .bytes322 .ensures) (c .before .bytes323 .ensures) (c .bytes324 .ensures)
     ∙ ap bytesOf (d .ensures)
 
-pub encoded-spec : {M : Type 1} → statement M
-encoded-spec =
+pub verdict-bytes-spec : {M : Type 1} → statement M
+verdict-bytes-spec =
     tie.close
     (tie.spec
     code-of-requires

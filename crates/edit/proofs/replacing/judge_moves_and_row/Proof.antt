@@ -10,14 +10,14 @@ use Rattle.refusal.specs.Faults.{not-is}
 use Rattle.refusal.specs.Accepting.{stops, goes-on}
 use Rattle.refusal.specs.Stages.{isAccepted}
 use Rattle.refusal.specs.Codes.{refused}
-use Rattle.plan.specs.Plan.{heldNumbers, Numbers}
+use Rattle.plan.specs.Plan.{heldNumbers, PlanNumbers}
 use Rattle.moves.specs.Carts.{movesVerdict}
 use Rattle.edit.specs.Replaced.{newRowVerdict, cartRowVerdict}
-use Rattle.edit.proofs.replacing.judge_after.Statement.{statement}
-use Rattle.edit.proofs.replacing.judge_after.Tie as tie
+use Rattle.edit.proofs.replacing.judge_moves_and_row.Statement.{statement}
+use Rattle.edit.proofs.replacing.judge_moves_and_row.Tie as tie
 
 -- the plan's numbers, and its moves judged
-abbrev numbers : tie.After-judge-carts → Numbers
+abbrev numbers : tie.After-judge-carts → PlanNumbers
 numbers c = let a = c .before .before .before .before .before .before .before .before .before .args in heldNumbers (a .f .carts) (a .h) (a .block .now)
 
 abbrev moved : tie.After-judge-carts → Verdict
@@ -86,8 +86,8 @@ returns-2 c =
     (c .before .before .before .before .before .before .before .before .before .before .before .before .before .before .args .cart)
     (omega (arith, c .before .if2 .taken))))
 
-judge-fit-requires : tie.Need-judge-fit-requires
-judge-fit-requires c κs =
+judge-new-row-requires : tie.Need-judge-new-row-requires
+judge-new-row-requires c κs =
     let p = c .before .before .before .before .before .before .before .before .before .before .before .before .before .before .before .pre in (
       p .0,
       (
@@ -98,7 +98,7 @@ judge-fit-requires c κs =
 
 returns-3 : tie.Need-returns-3
 returns-3 c =
-    c .judge-fit .ensures
+    c .judge-new-row .ensures
     ∙ sym
     (goes-on (moved (c .before .before .before .before .before .before .before)) (next (c .before .before .before .before .before .before .before))
     (passed (c .before .before .before .before .before)) ∙ by-cart (c .before .before .before .before .before .before .before) false (lt-leb
@@ -106,8 +106,8 @@ returns-3 c =
     (c .before .before .before .before .before .before .before .before .before .before .before .before .before .before .before .before .args .cart)
     (omega (arith, c .before .before .before .if2 .left))))
 
-pub judge-after-spec : {M : Type 1} → statement M
-judge-after-spec =
+pub judge-moves-and-row-spec : {M : Type 1} → statement M
+judge-moves-and-row-spec =
     tie.close
     (tie.spec
     linked-requires
@@ -116,5 +116,5 @@ judge-after-spec =
     returns
     refuse-requires
     returns-2
-    judge-fit-requires
+    judge-new-row-requires
     returns-3)

@@ -1,0 +1,77 @@
+-- A verdict that an operation may give is told by its four numbers: it is done exactly if its number is 0.
+use Prim.Native.Nat.{ℕ, suc, _<_}
+use native.Mathlib.Omega.{arith}
+use mathlib.Core.Path.{_≡_, refl, sym, ap, subst, _∙_}
+use mathlib.Core.Bool.{Bool, true, false, _&&_}
+use mathlib.Core.Logic.{_⊎_, inl, inr, _↔_}
+use mathlib.Core.List.{List, [], _∷_, _++_}
+use lib.Dec.{T, ltb}
+use borrow.Author.Tests.{ltb-true}
+use Rattle.refusal.specs.Codes.{codeOf}
+use Rattle.refusal.specs.Given.{OneOf, Done, accepts, writes, Refusals, Given, RefusedAs, Answered}
+use Rattle.refusal.specs.declared.Code.{Code}
+use Rattle.refusal.specs.declared.Verdict.{Verdict}
+use Rattle.refusal.specs.declared.Verdict.the-variants.{Accepted, Written, Floor, Plan, Rules}
+
+-- one of these is one of these and others
+pub one-left : (xs ys : List ℕ) (n : ℕ) → OneOf xs n → OneOf (xs ++ ys) n
+one-left [] ys n h = absurd h
+one-left (x ∷ xs) ys n (inl e) = inl e
+one-left (x ∷ xs) ys n (inr h) = inr (one-left xs ys n h)
+
+pub one-right : (xs ys : List ℕ) (n : ℕ) → OneOf ys n → OneOf (xs ++ ys) n
+one-right [] ys n h = h
+one-right (x ∷ xs) ys n h = inr (one-right xs ys n h)
+
+-- no refusal has number 0: a test that computes on a table
+abbrev pub positive : List ℕ → Bool
+positive [] = true
+positive (x ∷ xs) = ltb 0 x && positive xs
+
+abbrev pub numbered : Refusals → Bool
+numbered t = positive (t .floor) && (positive (t .plan) && positive (t .rules))
+
+both : (a b : Bool) → a && b ≡ true → (a ≡ true) × (b ≡ true)
+both true b e = (refl, e)
+both false b e = let y : _≡_ {A = ℕ} 0 1 = cc in absurd (omega arith)
+
+some-number : (xs : List ℕ) (n : ℕ) → positive xs ≡ true → OneOf xs n → n ≡ 0 → ⊥
+some-number [] n p h z = h
+some-number (x ∷ xs) n p (inl e) z = let w : 0 < x = ltb-true 0 x (both (ltb 0 x) (positive xs) p .0) in omega arith
+some-number (x ∷ xs) n p (inr h) z = some-number xs n (both (ltb 0 x) (positive xs) p .1) h z
+
+module _ (t : Refusals) (ok : numbered t ≡ true) where
+  floor-some : positive (t .floor) ≡ true
+  floor-some = both (positive (t .floor)) _ ok .0
+
+  plan-some : positive (t .plan) ≡ true
+  plan-some = both (positive (t .plan)) _ (both (positive (t .floor)) _ ok .1) .0
+
+  rules-some : positive (t .rules) ≡ true
+  rules-some = both (positive (t .plan)) _ (both (positive (t .floor)) _ ok .1) .1
+
+  -- an operation that accepts: number 0 is accepted
+  pub zero-accepts : t .done ≡ accepts → (v : Verdict) → Given t v → codeOf v .number ≡ 0 → v ≡ Accepted
+  zero-accepts d Accepted g z = refl
+  zero-accepts d (Written n) g z = let e : accepts ≡ writes = sym d ∙ g in let y : _≡_ {A = ℕ} 0 1 = cc in absurd (omega arith)
+  zero-accepts d (Floor r) g z = absurd (some-number (t .floor) (r .number) floor-some g z)
+  zero-accepts d (Plan r) g z = absurd (some-number (t .plan) (r .number) plan-some g z)
+  zero-accepts d (Rules r) g z = absurd (some-number (t .rules) (r .number) rules-some g z)
+
+  -- one that writes: number 0 is a result of so many bytes
+  pub zero-writes : t .done ≡ writes → (v : Verdict) → Given t v → codeOf v .number ≡ 0 → v ≡ Written (codeOf v .first)
+  zero-writes d Accepted g z = let e : accepts ≡ writes = sym g ∙ d in let y : _≡_ {A = ℕ} 0 1 = cc in absurd (omega arith)
+  zero-writes d (Written n) g z = refl
+  zero-writes d (Floor r) g z = absurd (some-number (t .floor) (r .number) floor-some g z)
+  zero-writes d (Plan r) g z = absurd (some-number (t .plan) (r .number) plan-some g z)
+  zero-writes d (Rules r) g z = absurd (some-number (t .rules) (r .number) rules-some g z)
+
+  pub answered : (v : Verdict) → Given t v → Answered t (codeOf v)
+  answered Accepted g = record { done = λ z. (refl, refl, λ d. refl); refused = λ n. absurd (n refl) }
+  answered (Written k) g = record {
+    done = λ z. (refl, refl, λ d. let e : accepts ≡ writes = sym d ∙ g in let y : _≡_ {A = ℕ} 0 1 = cc in absurd (omega arith));
+    refused = λ n. absurd (n refl);
+  }
+  answered (Floor r) g = record { done = λ z. absurd (some-number (t .floor) (r .number) floor-some g z); refused = λ n. inl (refl, g) }
+  answered (Plan r) g = record { done = λ z. absurd (some-number (t .plan) (r .number) plan-some g z); refused = λ n. inr (inl (refl, g)) }
+  answered (Rules r) g = record { done = λ z. absurd (some-number (t .rules) (r .number) rules-some g z); refused = λ n. inr (inr (refl, g)) }
