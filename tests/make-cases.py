@@ -3,6 +3,7 @@
 
 Run from the repository's root: python3 tests/make-cases.py
 It prints each case's number, name and verdict. The verdicts are written by hand from document 01; no reader is asked.
+With --list it writes nothing and prints, for each file and each number that its refusals have, the data sets that give it.
 """
 import pathlib
 import re
@@ -600,7 +601,36 @@ CHECKS = [
     ("32 times U", FLOOR, PLAN, sheet("[m0,1]U" * 31 + "[m0,1]U true"), "accepted"),
     ("33 times U", FLOOR, PLAN, sheet("[m0,1]U" * 32 + "true U true"), "refused rules 14 229 0"),
     ("a count behind 32 times U", FLOOR, PLAN, sheet("[m0,1]U" * 32 + "[m0,1]"), "refused rules 14 224 0"),
+    # Zeros up to the length of a file and one byte past it.
+    ("floor of 65,536 zeros", bytes(65536), PLAN, sheet("true"), "refused floor 3 0 0"),
+    ("floor of 65,537 zeros", bytes(65537), PLAN, sheet("true"), "refused floor 1 0 0"),
+    ("plan of 65,536 zeros", FLOOR, bytes(65536), sheet("true"), "refused plan 3 0 0"),
+    ("plan of 65,537 zeros", FLOOR, bytes(65537), sheet("true"), "refused plan 1 0 0"),
 ]
+
+
+# Checking a plan, and the part of the sheet that the verdict's bytes pick.
+SHOW = bytes([5])
+
+# Name, floor, plan, sheet, verdict of the check, the part shown.
+SHOWN = [
+    ("shown: 17 of clause 0", FLOOR, PLAN, sheet("!true", "true"), "refused rules 17 0 0", "!true"),
+    ("shown: 17 of clause 1 of 3, spaces included", FLOOR, PLAN, sheet("true", "  G  [m0,1] ", "!true"), "refused rules 17 1 2",
+     "  G  [m0,1] "),
+    ("shown: 16 of clause 0", FLOOR, drifting(1), sheet("X [m1,1]", "!true"), "refused rules 16 0 0", "X [m1,1]"),
+    ("shown: 16 of clause 1 of 3, spaces included", FLOOR, drifting(1), sheet("!true", " true | X true", "X true"), "refused rules 16 1 0",
+     " true | X true"),
+    ("shown: 17 of the 32nd clause", FLOOR, PLAN, sheet(*["[m0,2]"] * 31, "[m0,2] & [m1,1]"), "refused rules 17 31 0", "[m0,2] & [m1,1]"),
+    ("shown: nothing of an accepted sheet", FLOOR, PLAN, sheet("true", "[m0,2]"), "accepted", ""),
+    ("shown: nothing for 13", FLOOR, PLAN, sheet("true", "?"), "refused rules 13 5 0", ""),
+    ("shown: nothing for 15, whose offset is a line's number", FLOOR, PLAN, sheet("[m32,1]", "true", "true"), "refused rules 15 2 0", ""),
+    ("shown: nothing for 7", FLOOR, PLAN, b"", "refused rules 7 0 0", ""),
+    ("shown: nothing for the plan's 11", PLACES + LANES[:7] + CARTS, PLAN, sheet("true", "true"), "refused plan 11 0 1", ""),
+    ("shown: nothing for the floor's 7", PLACES, PLAN, sheet("true"), "refused floor 7 16 0", ""),
+]
+
+# The numbers that each file's refusals have. No task writes a floor, so 18 is about the plan alone.
+NUMBERS = {"floor": [*range(1, 8)], "plan": [*range(1, 6), *range(7, 12), 18, 19], "rules": [7, *range(12, 18)]}
 
 
 def write(folder, name, content):
@@ -621,14 +651,32 @@ def data_sets():
         yield name, files, " ".join([verdict + ":" * len(after), *(str(b) for left in after for b in left)])
     for name, floor, plan, rules, verdict in CHECKS:
         yield name, {"floor": floor, "plan": plan, "rules": rules, "task": CHECK}, verdict
+    for name, floor, plan, rules, verdict, part in SHOWN:
+        yield name, {"floor": floor, "plan": plan, "rules": rules, "task": SHOW}, f'{verdict}: "{part}"'
+
+
+def giving(sets, file, number):
+    """The numbers and names of the data sets that are refused so."""
+    return [(n, name) for n, (name, _, line) in enumerate(sets) if line.startswith(f"refused {file} {number} ")]
+
+
+def list_numbers(sets):
+    for file, numbers in NUMBERS.items():
+        for number in numbers:
+            found = giving(sets, file, number)
+            more = [f"and {len(found) - 3} more"] if found[3:] else []
+            print(f"{file} {number}: " + "; ".join([f"{n:03} {name}" for n, name in found[:3]] + more))
 
 
 def check(sets):
-    """The names differ, the lines have the output's form, and the program knows how many there are."""
+    """The names differ, the lines have the output's form, each number is there, and the program knows how many data sets there are."""
     names = [name for name, _, _ in sets]
     assert len(set(names)) == len(names)
     for name, _, line in sets:
-        assert re.fullmatch(r"(accepted|done \d+|refused (floor|plan|rules) \d+ \d+ \d+)(:( \d+)*)?", line), name
+        assert re.fullmatch(r"(accepted|done \d+|refused (floor|plan|rules) \d+ \d+ \d+)(:( \d+)*|: \"[^\"]*\")?", line), name
+    for file, numbers in NUMBERS.items():
+        for number in numbers:
+            assert giving(sets, file, number), (file, number)
     source = (CRATE / "src/main.rt").read_text()
     if f"const CASES: usize = {len(sets)};" not in source:
         sys.exit(f"{CRATE}/src/main.rt: CASES has to be {len(sets)}")
@@ -644,6 +692,8 @@ def write_program():
 
 def main():
     sets = list(data_sets())
+    if sys.argv[1:] == ["--list"]:
+        return list_numbers(sets)
     check(sets)
     data = CRATE / "data"
     shutil.rmtree(data, ignore_errors=True)

@@ -1,8 +1,10 @@
 #!/usr/bin/env python3
 """Runs the program cartcheck on folders of files at the limits of its buffers, absent files and each file's refusal, and compares the line
 that it prints, also where standard input is closed, so that the first file has descriptor 0. The lines are written by hand from
-document 01. Run from the repository's root after `rt check cartcheck`."""
+document 01. Then sees that the lines due of the program cases name each refusal, 1 to 19. Run from the repository's root after
+`rt check cartcheck`."""
 import pathlib
+import re
 import subprocess
 import sys
 import tempfile
@@ -52,5 +54,9 @@ for title, files, line in CASES:
         if got != (line + "\n").encode():
             failed += 1
             print(f"program: {title}, {command}: printed {got!r}, not {line!r}")
+due = (ROOT / "crates" / "cases" / "stdout").read_text()
+missing = set(range(1, 20)) - {int(n) for n in re.findall(r"^\d+ refused \w+ (\d+) \d+ \d+", due, re.MULTILINE)}
+if missing:
+    print(f"program: no data set of cases is refused by {sorted(missing)}")
 print(f"program: {len(CASES)} folders, {failed} differences")
-sys.exit(failed > 0)
+sys.exit(failed > 0 or bool(missing))

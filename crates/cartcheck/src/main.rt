@@ -8,6 +8,5 @@ fn main() {
     let f = report::load(b"floor", &mut floor);
     let p = report::load(b"plan", &mut plan);
     let r = report::load(b"rules", &mut rules);
-    report::print_verdict(plancheck::check(&floor[..f], &plan[..p], &rules[..r]));
-    report::end_line();
+    report::print_line(plancheck::check(&floor[..f], &plan[..p], &rules[..r]));
 }

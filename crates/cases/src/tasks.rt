@@ -6,7 +6,7 @@ fn move_on(floor: &[u8], plan: &[u8], task: &[u8], out: &mut [u8]) {
         return;
     }
     let s = endian::number16(task[1], task[2]);
-    report::print_verdict(edit::move_on(floor, plan, s, out));
+    report::print_answer(edit::move_on(floor, plan, s, out));
     report::print_bytes(out);
 }
 
@@ -18,8 +18,16 @@ fn replace_row(floor: &[u8], plan: &mut [u8], task: &[u8]) {
     let low = endian::number16(task[1], task[2]) as u32;
     let high = endian::number16(task[3], task[4]) as u32;
     let cart = low + high * 65536;
-    report::print_verdict(edit::replace_row(floor, plan, cart, &task[5..]));
+    report::print_answer(edit::replace_row(floor, plan, cart, &task[5..]));
     report::print_bytes(plan);
+}
+
+// Checks the plan, and shows the clause that the verdict's bytes pick.
+fn check_and_show(floor: &[u8], plan: &[u8], rules: &[u8]) {
+    let v = plancheck::check(floor, plan, rules);
+    report::print_answer(v);
+    let bytes = refusal::verdict_bytes(v);
+    report::print_part(clause::clause_part(rules, &bytes));
 }
 
 // Does what is asked for, reading the plan where nothing is, and prints what comes of it.
@@ -27,13 +35,14 @@ pub(crate) fn run(floor: &[u8], plan: &mut [u8], rules: &[u8], task: &[u8], out:
     if task.len() == 0 {
         let r = plan::read(floor, plan);
         let v = r.verdict;
-        report::print_verdict(v);
+        report::print_answer(v);
         return;
     }
     match task[0] {
-        1 => report::print_verdict(moves::check(floor, plan)),
+        1 => report::print_answer(moves::check(floor, plan)),
         2 => move_on(floor, plan, task, out),
         3 => replace_row(floor, plan, task),
-        _ => report::print_verdict(plancheck::check(floor, plan, rules)),
+        5 => check_and_show(floor, plan, rules),
+        _ => report::print_answer(plancheck::check(floor, plan, rules)),
     }
 }

@@ -16,43 +16,30 @@ pub fn load(path: &[u8], buf: &mut [u8]) -> usize
     n
 }
 
-fn print_number(n: u32) {
-    io::write_all(STDOUT_FILENO, b" ");
-    io::print_decimal(STDOUT_FILENO, n as u64);
+// Prints document 01's line for a verdict.
+pub fn print_line(v: Verdict) {
+    let mut out = [0u8; 48];
+    let n = line::verdict_line(refusal::code_of(v), &mut out);
+    io::write_all(STDOUT_FILENO, &out[..n]);
 }
 
-fn print_file(about: u32) {
-    if about == 1 {
-        io::write_all(STDOUT_FILENO, b"refused floor");
-    } else if about == 2 {
-        io::write_all(STDOUT_FILENO, b"refused plan");
-    } else {
-        io::write_all(STDOUT_FILENO, b"refused rules");
-    }
+// Prints the line of an operation's answer but for its byte 10, since what was written or picked follows.
+pub fn print_answer(v: Verdict) {
+    let mut out = [0u8; 48];
+    let n = line::answer_line(refusal::code_of(v), &mut out);
+    io::write_all(STDOUT_FILENO, &out[..n - 1]);
 }
 
-// Prints a verdict: accepted, done and how many bytes, or refused. One about no file is no refusal.
-pub fn print_verdict(v: Verdict) {
-    let c = refusal::code_of(v);
-    let about = c.about;
-    let first = c.first;
-    if about != 0 {
-        print_file(about);
-        print_number(c.number);
-        print_number(first);
-        print_number(c.second);
-        return;
-    }
-    if first == 0 {
-        io::write_all(STDOUT_FILENO, b"accepted");
-        return;
-    }
-    io::write_all(STDOUT_FILENO, b"done");
-    print_number(first);
+// Prints a part of a sheet, in quotation marks.
+pub fn print_part(s: &[u8]) {
+    io::write_all(STDOUT_FILENO, b": \"");
+    io::write_all(STDOUT_FILENO, s);
+    io::write_all(STDOUT_FILENO, b"\"");
 }
 
 fn print_byte(b: u8) {
-    print_number(b as u32);
+    io::write_all(STDOUT_FILENO, b" ");
+    io::print_decimal(STDOUT_FILENO, b as u64);
 }
 
 // Prints a lent buffer as it is left, byte by byte.
