@@ -10,6 +10,13 @@ pub fn number16(low: u8, high: u8) -> u16
     (low as u16) + (high as u16) * 256
 }
 
+// The number of four bytes, the lowest first.
+pub fn number32(a: u8, b: u8, c: u8, d: u8) -> u32
+    ensures { λ r. ⌜ r ≡ value (a ∷ b ∷ c ∷ d ∷ []) ⌝ }
+{
+    (a as u32) + (b as u32) * 256 + (c as u32) * 65536 + (d as u32) * 16777216
+}
+
 // The two bytes of a number.
 pub fn bytes16(n: u16) -> [u8; 2]
     ensures { λ r. ⌜ r ≡ bytes 2 n ⌝ }

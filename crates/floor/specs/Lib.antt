@@ -11,3 +11,4 @@ pub mod RoundTrip
 pub mod Walk
 pub mod Located
 pub mod Complete
+pub mod Refusing

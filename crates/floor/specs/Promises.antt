@@ -4,10 +4,11 @@ use mathlib.Core.Path.{_≡_}
 use mathlib.Core.List.{List}
 use lib.ListN.{take, drop, getD}
 use Rattle.endian.specs.Little.{value}
+use Rattle.refusal.specs.Given.{Given, readingFloor, writingFloor}
 use Rattle.refusal.specs.Outcome.{Gives, written}
 use Rattle.refusal.specs.declared.Verdict.{Verdict}
 use Rattle.refusal.specs.declared.Verdict.the-variants.{Written, Floor as AboutFloor}
-use Rattle.floor.specs.Floor.{readFloor}
+use Rattle.floor.specs.Floor.{readFloor, floorVerdict}
 use Rattle.floor.specs.Numbers.{FloorNumbers, floorBytes, numbersOf, placeAt, laneAt, cartAt, bodyAt, writeFloor}
 use Rattle.floor.specs.Valid.{ValidFloor}
 use Rattle.floor.specs.declared.Floor.{Floor}
@@ -25,12 +26,16 @@ pub record AcceptedFloor (s : List ℕ) (f : Floor) : Type 0 where
 pub record FloorRead (s : List ℕ) (r : FloorAnswer) : Type 0 where
   -- the answer, for every file
   pub answer : r ≡ readFloor s
+  -- "Reading a floor: 1 .. 7"
+  pub numbers : Given readingFloor (floorVerdict r)
   -- "floor and plan files read and write back to the same bytes"
   pub accepted : (f : Floor) → r ≡ Read f → AcceptedFloor s f
 
 pub record FloorWritten (n : FloorNumbers) (before : List ℕ) (v : Verdict) (after : List ℕ) : Type 0 where
   -- the answer and every byte of the buffer, for all numbers
   pub outcome : Gives (writeFloor n before) v after
+  -- "refused as reading their file would be .., then 18"
+  pub numbers : Given writingFloor v
   -- numbers of the table are refused only for want of room
   pub complete : (f : Floor) → ValidFloor n f → Gives (written AboutFloor (floorBytes n) before) v after
   -- "What is written reads back as the same numbers."

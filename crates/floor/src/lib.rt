@@ -1,8 +1,11 @@
 // Floors: places, lanes and carts.
 mod judging;
+mod offsets;
 mod reading;
 mod writing;
 
+pub use offsets::cart_at;
+pub use offsets::lane_at;
 pub use reading::read;
 pub use reading::verdict_of;
 use refusal::Refusal;

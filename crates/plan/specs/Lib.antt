@@ -12,3 +12,4 @@ pub mod RoundTrip
 pub mod Judged
 pub mod Complete
 pub mod Read
+pub mod Refusing

@@ -1,5 +1,5 @@
 -- Writing a plan's numbers.
-use Prim.Native.Nat.{ℕ, _<_}
+use Prim.Native.Nat.{ℕ, _+_, _*_, _<_}
 use mathlib.Core.List.{List, _∷_, _++_, map, flatten}
 use Rattle.endian.specs.Little.{bytes}
 use Rattle.refusal.specs.Outcome.{Outcome, unchanged, written}
@@ -42,6 +42,10 @@ planBytes h rows = layout (planRecords h rows)
 -- the file of a plan's numbers
 abbrev pub planFile : PlanNumbers → List ℕ
 planFile n = planBytes (n .head) (flatten (n .rows))
+
+-- where cart c's row of so many steps lies in a plan's file: behind the head's ten bytes, the rows before it, and its own length and kind
+abbrev pub rowAt : ℕ → ℕ → ℕ
+rowAt steps c = 10 + c * (4 + steps) + 4
 
 -- whether reading accepts, or its refusal
 abbrev pub judgedNumbers : PlanAnswer → NumbersAnswer

@@ -3,6 +3,7 @@ use Prim.Native.Nat.{ℕ, _*_, _<_}
 use mathlib.Core.Path.{_≡_}
 use mathlib.Core.List.{List, [], flatten}
 use lib.ListN.{take, drop, getD}
+use Rattle.refusal.specs.Given.{Given, readingPlan, writingPlan}
 use Rattle.refusal.specs.Outcome.{Gives, written}
 use Rattle.refusal.specs.declared.Verdict.{Verdict}
 use Rattle.refusal.specs.declared.Verdict.the-variants.{Accepted, Written, Plan as AboutPlan}
@@ -29,12 +30,16 @@ pub record AcceptedPlan (floor s : List ℕ) (r : PlanRead) : Type 0 where
 pub record PlanReads (floor s : List ℕ) (r : PlanRead) : Type 0 where
   -- the answer, the block included, for every floor and plan
   pub answer : r ≡ readBoth floor s
+  -- "Reading a plan: the floor's, then 1 .."
+  pub numbers : Given readingPlan (r .verdict)
   -- "floor and plan files read and write back to the same bytes"
   pub accepted : r .verdict ≡ Accepted → AcceptedPlan floor s r
 
 pub record PlanWritten (floor : List ℕ) (h : Head) (rows before : List ℕ) (v : Verdict) (after : List ℕ) : Type 0 where
   -- the answer and every byte of the buffer, for all numbers
   pub outcome : Gives (writePlan floor h rows before) v after
+  -- "refused as reading their file would be .., then 18"
+  pub numbers : Given writingPlan v
   -- numbers of the table are refused only for want of room
   pub complete : (f : Floor) → readFloor floor ≡ FloorAccepted f → ValidPlan (record { head = h; rows = parts (h .steps) rows }) f
       → Gives (written AboutPlan (planBytes h rows) before) v after

@@ -9,6 +9,7 @@ pub use reading::read;
 use refusal::Refusal;
 use refusal::Verdict;
 pub use rows::judge_row;
+pub use rows::row_at;
 pub use writing::put_numbers;
 pub use writing::write;
 

@@ -4,8 +4,18 @@ use crate::RowAnswer;
 use floor::Floor;
 ghost use mathlib.Core.Path.{_≡_};
 ghost use mathlib.Core.Bool.{cond};
+ghost use Prim.Native.Nat.{_≤_};
 ghost use lib.Dec.{leb};
 ghost use Rattle.plan.specs.Plan.{judgedRow, rowFault};
+ghost use Rattle.plan.specs.Numbers.{rowAt};
+
+// The offset of cart c's row in a plan's file, its length and kind left out.
+pub fn row_at(steps: usize, c: u32) -> usize
+    requires { ⌜ steps ≤ 64 ⌝ }
+    ensures { λ r. ⌜ r ≡ rowAt steps c ⌝ }
+{
+    10 + c as usize * (4 + steps) + 4
+}
 
 // Judges a row on its body alone: so many steps, each place on the floor.
 pub fn judge_row(body: &[u8], steps: usize, places: usize) -> RowAnswer

@@ -8,6 +8,7 @@ use borrow.Author.Tests.{lt-ltb, le-ltb}
 use lib.ListN.{length, take, drop}
 use lib.Seq.{take-append-seam}
 use Rattle.refusal.specs.Codes.{refused}
+use Rattle.refusal.specs.Given.{writes, Refusals, Given}
 use Rattle.refusal.specs.Outcome.{Outcome, unchanged, written, Gives}
 use Rattle.refusal.specs.declared.Refusal.{Refusal}
 use Rattle.refusal.specs.declared.Verdict.{Verdict}
@@ -29,6 +30,16 @@ gives-written about bytes before v after h e q =
 pub written-if : (about : Refusal → Verdict) (bytes before : List ℕ) (v : Verdict) (after : List ℕ) → Gives (written about bytes before) v after
     → length bytes ≤ length before → v ≡ Written (length bytes)
 written-if about bytes before v after g h = g .answer ∙ simp (le-ltb (length before) (length bytes) h)
+
+-- writing is done, or refused by 18
+pub given-written : (t : Refusals) (about : Refusal → Verdict) (bytes before : List ℕ) → t .done ≡ writes → Given t (about (refused 18 (length bytes) 0))
+    → Given t (written about bytes before .answer)
+given-written t about bytes before d h = go (ltb (length before) (length bytes))
+  where
+    go : (b : Bool) → Given t (cond b (unchanged (about (refused 18 (length bytes) 0)) before)
+        (record { answer = Written (length bytes); out = bytes ++ drop (length bytes) before }) .answer)
+    go true = h
+    go false = d
 
 module _ (about : Refusal → Verdict) (apart : (r : Refusal) (k : ℕ) → about r ≡ Written k → ⊥)
     (bytes before : List ℕ) (v : Verdict) (after : List ℕ) (k : ℕ) where

@@ -2,16 +2,20 @@
 use Prim.Native.Nat.{ℕ, suc, _<_}
 use native.Mathlib.Omega.{arith}
 use mathlib.Core.Path.{_≡_, refl, sym, ap, subst, _∙_}
-use mathlib.Core.Bool.{Bool, true, false, _&&_}
+use mathlib.Core.Bool.{Bool, true, false, cond, _&&_, _||_}
 use mathlib.Core.Logic.{_⊎_, inl, inr, _↔_}
 use mathlib.Core.List.{List, [], _∷_, _++_}
-use lib.Dec.{T, ltb}
-use borrow.Author.Tests.{ltb-true}
-use Rattle.refusal.specs.Codes.{codeOf}
+use lib.Dec.{eqb, ltb}
+use borrow.Author.Tests.{eqb-true, ltb-true}
+use Rattle.refusal.specs.Codes.{firstFault, codeOf}
 use Rattle.refusal.specs.Given.{OneOf, Done, accepts, writes, Refusals, Given, RefusedAs, Answered}
 use Rattle.refusal.specs.declared.Code.{Code}
 use Rattle.refusal.specs.declared.Verdict.{Verdict}
 use Rattle.refusal.specs.declared.Verdict.the-variants.{Accepted, Written, Floor, Plan, Rules}
+
+both : (a b : Bool) → a && b ≡ true → (a ≡ true) × (b ≡ true)
+both true b e = (refl, e)
+both false b e = let y : _≡_ {A = ℕ} 0 1 = cc in absurd (omega arith)
 
 -- one of these is one of these and others
 pub one-left : (xs ys : List ℕ) (n : ℕ) → OneOf xs n → OneOf (xs ++ ys) n
@@ -23,6 +27,43 @@ pub one-right : (xs ys : List ℕ) (n : ℕ) → OneOf ys n → OneOf (xs ++ ys)
 one-right [] ys n h = h
 one-right (x ∷ xs) ys n h = inr (one-right xs ys n h)
 
+-- and one of any that hold them all: a test that computes on two lists
+abbrev pub among : List ℕ → ℕ → Bool
+among [] n = false
+among (x ∷ xs) n = eqb n x || among xs n
+
+abbrev pub allAmong : List ℕ → List ℕ → Bool
+allAmong ys [] = true
+allAmong ys (x ∷ xs) = among ys x && allAmong ys xs
+
+pub one-among : (ys : List ℕ) (n : ℕ) → among ys n ≡ true → OneOf ys n
+one-among [] n e = let y : _≡_ {A = ℕ} 0 1 = cc in absurd (omega arith)
+one-among (y ∷ ys) n e = go (eqb n y) refl (one-among ys n) e
+  where
+    go : (b : Bool) → eqb n y ≡ b → (among ys n ≡ true → OneOf ys n) → b || among ys n ≡ true → OneOf (y ∷ ys) n
+    go true q f e = inl (eqb-true n y q)
+    go false q f e = inr (f e)
+
+pub one-of-more : (xs ys : List ℕ) (n : ℕ) → allAmong ys xs ≡ true → OneOf xs n → OneOf ys n
+one-of-more [] ys n e h = absurd h
+one-of-more (x ∷ xs) ys n e (inl q) = subst (OneOf ys) (sym q) (one-among ys x (both (among ys x) (allAmong ys xs) e .0))
+one-of-more (x ∷ xs) ys n e (inr h) = one-of-more xs ys n (both (among ys x) (allAmong ys xs) e .1) h
+
+-- the first of several tests gives one of their numbers, or 0
+abbrev pub faultNumbers : List (Bool × ℕ) → List ℕ
+faultNumbers [] = []
+faultNumbers (t ∷ ts) = t .1 ∷ faultNumbers ts
+
+pub one-fault : (ts : List (Bool × ℕ)) → (firstFault ts ≡ 0) ⊎ OneOf (faultNumbers ts) (firstFault ts)
+one-fault [] = inl refl
+one-fault (t ∷ ts) = go (t .0) (one-fault ts)
+  where
+    go : (b : Bool) → (firstFault ts ≡ 0) ⊎ OneOf (faultNumbers ts) (firstFault ts)
+        → (cond b (t .1) (firstFault ts) ≡ 0) ⊎ OneOf (t .1 ∷ faultNumbers ts) (cond b (t .1) (firstFault ts))
+    go true h = inr (inl refl)
+    go false (inl e) = inl e
+    go false (inr h) = inr (inr h)
+
 -- no refusal has number 0: a test that computes on a table
 abbrev pub positive : List ℕ → Bool
 positive [] = true
@@ -30,10 +71,6 @@ positive (x ∷ xs) = ltb 0 x && positive xs
 
 abbrev pub numbered : Refusals → Bool
 numbered t = positive (t .floor) && (positive (t .plan) && positive (t .rules))
-
-both : (a b : Bool) → a && b ≡ true → (a ≡ true) × (b ≡ true)
-both true b e = (refl, e)
-both false b e = let y : _≡_ {A = ℕ} 0 1 = cc in absurd (omega arith)
 
 some-number : (xs : List ℕ) (n : ℕ) → positive xs ≡ true → OneOf xs n → n ≡ 0 → ⊥
 some-number [] n p h z = h

@@ -2,17 +2,19 @@ use Rattle.endian.specs.Little.{Bytes}
 use mathlib.Core.List.{List}
 use Rattle.floor.specs.Promises.{FloorRead}
 use Rattle.floor.specs.Located.{accepts}
+use Rattle.floor.specs.Refusing.{reading-given}
+use Rattle.refusal.specs.Given.{Given, readingFloor}
 use Rattle.floor.specs.declared.FloorAnswer.{FloorAnswer}
 use Rattle.record.specs.Found.{foundAt}
 use Rattle.record.specs.declared.Found.the-variants.{Whole}
 use borrow.Author.Needs.{needs}
 use Prim.Native.Nat.{ℕ, _+_, _-_, _≤_}
 use native.Mathlib.Omega.{arith}
-use mathlib.Core.Path.{_≡_, sym, ap, _∙_}
+use mathlib.Core.Path.{_≡_, sym, ap, subst, _∙_}
 use lib.ListN.{length, drop}
 use Rattle.record.specs.Record.{recordsIn}
 use Rattle.record.specs.Opened.{Opened, opened}
-use Rattle.floor.specs.Floor.{readOn, readFloor}
+use Rattle.floor.specs.Floor.{readOn, readFloor, floorVerdict}
 use Rattle.floor.specs.declared.FloorAnswer.the-variants.{Refused}
 use Rattle.floor.proofs.Steps.{too-long, begins, at-end, at-cut, at-fault, at-good}
 use Rattle.floor.proofs.reading.read.Statement.{statement}
@@ -24,11 +26,15 @@ Inv-loop s f₀ at₀ f at = (at ≤ length s) × (length s ≤ 65536) × (readO
 abbrev μ-loop : tie.MeasureT-loop
 μ-loop s f₀ at₀ f at = length s + 1 - at
 
--- the record that was found, and what that tells of the file
 -- the promise, from its first part
 promise : (s : List ℕ) (r : FloorAnswer) → Bytes s → r ≡ readFloor s → FloorRead s r
-promise s r b e = record { answer = e; accepted = λ f q. accepts s f b (sym e ∙ q) }
+promise s r b e = record {
+  answer = e;
+  numbers = subst (λ (a : FloorAnswer). Given readingFloor (floorVerdict a)) (sym e) (reading-given s);
+  accepted = λ f q. accepts s f b (sym e ∙ q);
+}
 
+-- the record that was found, and what that tells of the file
 found : (c : tie.After-known-told Inv-loop μ-loop)
     → foundAt (c .before .before .before .before .before .before .before .args .s .now) (c .before .before .before .before .loop .at) ≡ Whole
     (c .before .kind .given .0 .0) (c .before .kind .given .0 .1 .0) (c .before .kind .given .0 .1 .1 .0)

@@ -8,6 +8,8 @@ use Rattle.floor.specs.Floor.{readFloor}
 use Rattle.floor.specs.Numbers.{FloorNumbers, Words, numbers, floorBytes, byReading, writeFloor}
 use Rattle.floor.specs.Complete.{complete}
 use Rattle.floor.specs.Promises.{FloorWritten}
+use Rattle.floor.specs.Refusing.{writing-given}
+use Rattle.refusal.specs.Given.{Given, writingFloor}
 use Rattle.floor.specs.RoundTrip.{whole, reads-back}
 use Rattle.floor.specs.declared.FloorAnswer.{FloorAnswer}
 use borrow.Author.Needs.{needs}
@@ -24,6 +26,7 @@ promise n before v after w a e g =
     let o : Gives (writeFloor n before) v after = subst (λ (x : FloorAnswer). Gives (byReading x (floorBytes n) before) v after) (sym e) g in
     record {
       outcome = o;
+      numbers = subst (Given writingFloor) (sym (o .answer)) (writing-given n before);
       complete = λ f q. subst (λ (x : FloorAnswer). Gives (byReading x (floorBytes n) before) v after) (complete n f q) o;
       reads-back = reads-back n before v after w o;
     }

@@ -4,9 +4,11 @@ use native.Mathlib.Omega.{arith}
 use mathlib.Core.List.{List}
 use Rattle.endian.specs.Little.{Bytes}
 use Rattle.plan.specs.Promises.{PlanReads}
+use Rattle.plan.specs.Refusing.{reading-given}
+use Rattle.refusal.specs.Given.{Given, readingPlan}
 use Rattle.plan.specs.RoundTrip.{accepts}
 use Rattle.plan.specs.declared.PlanRead.{PlanRead}
-use mathlib.Core.Path.{sym, ap, _∙_}
+use mathlib.Core.Path.{sym, ap, subst, _∙_}
 use Rattle.floor.specs.declared.FloorAnswer.{FloorAnswer}
 use Rattle.plan.specs.Plan.{onFloor, readBoth}
 use borrow.Author.Needs.{needs}
@@ -15,7 +17,11 @@ use Rattle.plan.proofs.reading.read.Tie as tie
 
 -- the promise, from its first part
 promise : (floor s : List ℕ) (r : PlanRead) → Bytes s → r ≡ readBoth floor s → PlanReads floor s r
-promise floor s r b e = record { answer = e; accepted = λ v. accepts floor s r b v e }
+promise floor s r b e = record {
+  answer = e;
+  numbers = subst (λ (x : PlanRead). Given readingPlan (x .verdict)) (sym e) (reading-given floor s);
+  accepted = λ v. accepts floor s r b v e;
+}
 
 read-requires : tie.Need-read-requires
 read-requires c κs = search needs

@@ -18,6 +18,8 @@ use Rattle.floor.specs.Floor.{readFloor}
 use Rattle.floor.specs.declared.FloorAnswer.{FloorAnswer}
 use Rattle.plan.specs.Numbers.{headOf, byFloor, writePlan}
 use Rattle.plan.specs.Promises.{PlanWritten}
+use Rattle.plan.specs.Refusing.{writing-given}
+use Rattle.refusal.specs.Given.{Given, writingPlan}
 use Rattle.plan.specs.Numbers.{Narrow}
 use Rattle.plan.specs.RoundTrip.{reads-back}
 use Rattle.plan.specs.declared.Head.{Head}
@@ -47,6 +49,7 @@ promise floor h rows before v after w a e g =
     let o : Gives (writePlan floor h rows before) v after = subst (λ (x : FloorAnswer). Gives (byFloor x h rows before) v after) (sym e) g in
     record {
       outcome = o;
+      numbers = subst (Given writingPlan) (sym (o .answer)) (writing-given floor h rows before);
       complete = completes floor h rows before v after o;
       reads-back = λ k q. reads-back floor h rows before v after w k q o;
     }
