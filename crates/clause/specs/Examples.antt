@@ -1,12 +1,13 @@
--- The definitions on small cases, by computation.
+-- Worked cases: the part that a verdict's bytes pick, by computation.
 use Prim.Native.Nat.{ℕ}
 use mathlib.Core.Path.{_≡_, refl}
-use mathlib.Core.List.{List, [], _∷_}
+use mathlib.Core.List.{List, [], _∷_, _++_}
 use lib.ListN.{take}
 use Rattle.endian.specs.Little.{bytes, value}
 use Rattle.refusal.specs.Codes.{refused, codeOf, bytesOf}
-use Rattle.refusal.specs.declared.Verdict.the-variants.{Plan, Rules}
+use Rattle.refusal.specs.declared.Verdict.the-variants.{Accepted, Plan, Rules}
 use Rattle.clause.specs.Clause.{namesClause, picks, lineStart, lineLength, emptySpan, clauseIn, span, part}
+use Rattle.clause.specs.declared.Span.{Span}
 
 -- two clauses, `true` and ` !true`
 abbrev two : List ℕ
@@ -16,40 +17,29 @@ two = 116 ∷ 114 ∷ 117 ∷ 101 ∷ 10 ∷ 32 ∷ 33 ∷ 116 ∷ 114 ∷ 117 �
 abbrev rules : ℕ → ℕ → List ℕ
 rules number k = bytesOf (codeOf (Rules (refused number k 0)))
 
-pub clause-0 : span two (rules 17 0) ≡ record { offset = 0; length = 4 }
+-- the definitions that a case computes with, under one name
+computing : List ℕ → List ℕ → Span
 unfolding span picks namesClause clauseIn lineStart lineLength bytes value
-clause-0 = refl
+computing sheet verdict = span sheet verdict
 
--- spaces included
-pub clause-1 : part two (rules 16 1) ≡ 32 ∷ 33 ∷ 116 ∷ 114 ∷ 117 ∷ 101 ∷ []
-unfolding span picks namesClause clauseIn lineStart lineLength bytes value
-clause-1 = refl
-
-pub clause-2-lacking : span two (rules 17 2) ≡ emptySpan
-unfolding span picks namesClause clauseIn lineStart lineLength bytes value
-clause-2-lacking = refl
-
--- the second line without its byte 10
-pub unended-lacking : span (take 11 two) (rules 17 1) ≡ emptySpan
-unfolding span picks namesClause clauseIn lineStart lineLength bytes value
-unended-lacking = refl
-
--- a line of no bytes is a clause, and its part is empty where it stands
-pub empty-line : span (10 ∷ 10 ∷ []) (rules 17 1) ≡ record { offset = 1; length = 0 }
-unfolding span picks namesClause clauseIn lineStart lineLength bytes value
-empty-line = refl
-
--- 13 gives an offset and names no clause
-pub number-13 : span two (rules 13 1) ≡ emptySpan
-unfolding span picks namesClause clauseIn lineStart lineLength bytes value
-number-13 = refl
-
--- about the plan
-pub about-plan : span two (bytesOf (codeOf (Plan (refused 17 1 0)))) ≡ emptySpan
-unfolding span picks namesClause clauseIn lineStart lineLength bytes value
-about-plan = refl
-
--- 15 bytes of a verdict
-pub short-verdict : span two (take 15 (rules 17 1)) ≡ emptySpan
-unfolding span picks namesClause clauseIn lineStart lineLength bytes value
-short-verdict = refl
+pub worked :
+    (span two (rules 17 0) ≡ record { offset = 0; length = 4 })
+    -- spaces included
+    × (part two (rules 16 1) ≡ 32 ∷ 33 ∷ 116 ∷ 114 ∷ 117 ∷ 101 ∷ [])
+    -- a clause the sheet lacks, and a second line without its byte 10
+    × (span two (rules 17 2) ≡ emptySpan)
+    × (span (take 11 two) (rules 17 1) ≡ emptySpan)
+    -- a line of no bytes is a clause, and its part is empty where it stands
+    × (span (10 ∷ 10 ∷ []) (rules 17 1) ≡ record { offset = 1; length = 0 })
+    -- other numbers name no clause: 13 and 15 give an offset, 18 a length
+    × (span two (rules 13 1) ≡ emptySpan)
+    × (span two (rules 15 1) ≡ emptySpan)
+    × (span two (rules 18 1) ≡ emptySpan)
+    -- about the plan, and accepted
+    × (span two (bytesOf (codeOf (Plan (refused 17 1 0)))) ≡ emptySpan)
+    × (span two (bytesOf (codeOf Accepted)) ≡ emptySpan)
+    -- 15 and 17 bytes of a verdict
+    × (span two (take 15 (rules 17 1)) ≡ emptySpan)
+    × (span two (rules 17 1 ++ (0 ∷ [])) ≡ emptySpan)
+unfolding computing
+worked = (refl, refl, refl, refl, refl, refl, refl, refl, refl, refl, refl, refl)

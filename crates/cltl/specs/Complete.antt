@@ -16,7 +16,7 @@ use Rattle.cltl.specs.Rules.{tally, every, window, quorum, inner, count}
 use Rattle.cltl.specs.Basics.{lt-or-le, T-or-not, and-i, or-r}
 use Rattle.cltl.specs.Broken.{Val, Broken}
 use Rattle.cltl.specs.Inner.{inner-sound, inner-opp}
-use Rattle.cltl.specs.Quorum.{throughout, throughout-quorum}
+use Rattle.cltl.specs.Quorum.{throughout, throughout-quorum, all-quorum}
 use Rattle.cltl.specs.Tally.{every-at, every-of, tally-mono, tally-not, tally-least, tally-most, at-least-map}
 use Rattle.cltl.specs.Standing.{Standing, highest, gather, gathered}
 
@@ -129,14 +129,10 @@ module _ (h l carts d m : ℕ) (some : 0 < carts) (f : ℕ → ℕ → Bool) (s 
       others (suc i) p q =
           ⊎-elim (λ x. absurd (none (suc i) p (gone-is (suc i) .passes x))) (λ x. gone-is (suc i) .fails x) (T-or-not (every (along (suc i)) (suc d)))
 
-  all-quorum : m ≡ 1 → T (every (λ i. f i s) carts) → T (quorum h l carts d m f s)
-  unfolding quorum
-  all-quorum e x = or-r (leb m (throughout h l carts m f d s)) (eqb m 1 && every (λ i. f i s) carts) (and-i (eqb m 1) (every (λ i. f i s) carts) (eq→eqb e) x)
-
   -- with m = 1 some cart fails on s itself
   at-once : m ≡ 1 → Breaks
   at-once e = ⊎-elim (λ x. here (x .0) (x .1) (gone-is (x .0) .first (subst (λ (v : ℕ). T (not (f (x .0) v))) (sym step) (x .2))))
-      (λ x. absurd (broken (all-quorum e (every-of (λ i. f i s) carts (λ i p. yes (f i s) (x i p)))))) (find (λ i. not (f i s)) carts)
+      (λ x. absurd (broken (all-quorum h l carts m f d s e (λ i p. yes (f i s) (x i p))))) (find (λ i. not (f i s)) carts)
     where
       step : stepOf h l (s + 0) ≡ s
       step = let e : s + 0 ≡ s = omega arith in ap (stepOf h l) e ∙ step-low h l s low

@@ -1,14 +1,16 @@
--- Worked cases: windows, counts, U and R, and thresholds by computation; then what a run and the inner text are.
-use Prim.Native.Nat.{ℕ, suc, _≤_}
+-- Worked cases: one table by computation; then what a run and the inner text are.
+use Prim.Native.Nat.{ℕ, zero, suc, _+_, _-_, _≤_}
 use native.Mathlib.Omega.{arith}
 use mathlib.Core.Path.{_≡_, refl}
-use mathlib.Core.Bool.{Bool, true, false, not}
-use lib.Dec.{eqb}
-use Rattle.grammar.specs.Grammar.{leaf, next}
+use mathlib.Core.Bool.{Bool, true, false, not, cond, _&&_}
+use mathlib.Core.Logic.{_⊎_, inl, inr}
+use lib.Dec.{eqb, leb}
+use Rattle.grammar.specs.Grammar.{top, leaf, neg, and, next, until, release, ev, gl, Counted, counted, Clause}
 use Rattle.row.specs.Lasso.{nextStep, stepOf}
 use Rattle.cltl.specs.Threshold.{threshold, quota}
 use Rattle.cltl.specs.Meaning.{Rows, Run, Bears, Satisfies}
-use Rattle.cltl.specs.Rules.{fix, window, quorum, tally, every}
+use Rattle.cltl.specs.Rules.{fix, window, quorum, tally, every, judge, mark, inner, count, rules, hasNext}
+use Rattle.cltl.specs.Step.{lowest, failing}
 
 -- tests of a step
 abbrev always : ℕ → Bool
@@ -23,45 +25,133 @@ only k s = eqb s k
 abbrev but : ℕ → ℕ → Bool
 but k s = not (eqb s k)
 
--- "at all of counters s to s + d": true at steps 0 and 1 of three, so with d = 1 from step 0 on and not with d = 2
-pub inclusive : (window 3 0 (but 2) 1 0 ≡ true) × (window 3 0 (but 2) 2 0 ≡ false)
-unfolding window every stepOf
-inclusive = (refl, refl)
+-- document 01's rows 0 1 1 0 and 0 0 1 1: cart i is on place 1 at steps i + 1 and i + 2; place 0 bears m0 only, place 1 m1 only
+abbrev places : Rows
+places = record { carts = 2; h = 4; l = 0; bears = λ i s k. eqb k (cond (leb (i + 1) s && leb s (i + 2)) 1 0) }
 
--- the window turns into the lap: after step 2 of three comes step 0, or step 1 where the lap begins there
-pub turned : (window 3 0 (but 0) 1 2 ≡ false) × (window 3 1 (but 0) 1 2 ≡ true) × (window 3 1 (but 1) 1 2 ≡ false)
-unfolding window every stepOf
-turned = (refl, refl, refl)
+-- `[mk,m]`
+abbrev atLeast : ℕ → ℕ → Clause
+atLeast k m = leaf (counted (leaf k) m false)
 
--- "with m = 1 also if all N carts satisfy it at s itself": two carts, two steps, d = 1; both carts at step 0 only, or cart i at step i only
-pub all-carts : (quorum 2 0 2 1 1 (λ i. only 0) 0 ≡ true) × (quorum 2 0 2 1 2 (λ i. only 0) 0 ≡ false) × (quorum 2 0 2 1 1 only 0 ≡ false)
-unfolding quorum tally window every stepOf
-all-carts = (refl, refl, refl)
+-- whether it is kept with drift d, and the step that a refusal has
+abbrev judged : ℕ → Clause → Bool × ℕ
+judged d c = (rules places d c 0, failing places d c)
 
--- of three carts all but cart 1 at every step: two, and not three
-pub so-many : (quorum 2 0 3 1 2 (λ i s. but 1 i) 0 ≡ true) × (quorum 2 0 3 1 3 (λ i s. but 1 i) 0 ≡ false)
-unfolding quorum tally window every stepOf
-so-many = (refl, refl)
+-- the definitions that the table computes with, under one name
+computing : ℕ → Clause → Bool × ℕ
+unfolding threshold quota tally every fix window quorum nextStep stepOf judge mark inner count rules lowest failing
+computing d c = judged d c
 
--- a U b "with b reached", from step 1 of three, a always: b never, b at step 0 by the lap, b at step 0 in the run-in
-pub until-reached : (fix 3 0 true always never 3 1 ≡ false) × (fix 3 0 true always (only 0) 3 1 ≡ true) × (fix 3 1 true always (only 0) 3 1 ≡ false)
-unfolding fix nextStep
-until-reached = (refl, refl, refl)
+pub worked :
+    -- "at all of counters s to s + d": true at steps 0 and 1 of three, so with d = 1 from step 0 on and not with d = 2
+    (window 3 0 (but 2) 1 0 ≡ true)
+    × (window 3 0 (but 2) 2 0 ≡ false)
+    -- the window turns into the lap: after step 2 of three comes step 0, or step 1 where the lap begins there
+    × (window 3 0 (but 0) 1 2 ≡ false)
+    × (window 3 1 (but 0) 1 2 ≡ true)
+    × (window 3 1 (but 1) 1 2 ≡ false)
+    -- "with m = 1 also if all N carts satisfy it at s itself": two carts, two steps, d = 1; both carts at step 0 only, or cart i at step i only
+    × (quorum 2 0 2 1 1 (λ i. only 0) 0 ≡ true)
+    × (quorum 2 0 2 1 2 (λ i. only 0) 0 ≡ false)
+    × (quorum 2 0 2 1 1 only 0 ≡ false)
+    -- of three carts all but cart 1 at every step: two, and not three
+    × (quorum 2 0 3 1 2 (λ i s. but 1 i) 0 ≡ true)
+    × (quorum 2 0 3 1 3 (λ i s. but 1 i) 0 ≡ false)
+    -- a U b "with b reached", from step 1 of three, a always: b never, b at step 0 by the lap, b at step 0 in the run-in
+    × (fix 3 0 true always never 3 1 ≡ false)
+    × (fix 3 0 true always (only 0) 3 1 ≡ true)
+    × (fix 3 1 true always (only 0) 3 1 ≡ false)
+    -- a R b "with no need that a ever comes", from step 1 of three: b always, b up to step 2 where a is, b only before a
+    × (fix 3 0 false never always 3 1 ≡ true)
+    × (fix 3 0 false (only 2) (but 0) 3 1 ≡ true)
+    × (fix 3 0 false (only 0) (but 2) 3 1 ≡ false)
+    -- "!`[a,m]` becomes `[!a,N+1−m]`, N being the carts, never below 0": two carts
+    × (quota false 2 2 ≡ 1)
+    × (quota false 0 2 ≡ 3)
+    × (quota false 4 2 ≡ 0)
+    -- percentages are rounded up
+    × (threshold 25 true 12 ≡ 3)
+    × (threshold 25 true 13 ≡ 4)
+    × (threshold 100 true 32 ≡ 32)
+    × (threshold 0 true 32 ≡ 0)
+    × (threshold 1 true 1 ≡ 1)
+    × (threshold 3 false 2 ≡ 3)
+    -- "X outside a count": X at any depth, and neither true, U, R nor an X inside a count
+    × (hasNext (neg (gl (until top (next (atLeast 1 1))))) ≡ true)
+    × (hasNext (ev (release (next (atLeast 1 1)) top)) ≡ true)
+    × (hasNext (neg (and top (until (atLeast 0 0) (release (atLeast 0 3) (atLeast 0 0))))) ≡ false)
+    × (hasNext {L = Counted} (leaf (counted (next (leaf 1)) 1 false)) ≡ false)
+    -- "The step is the lowest where the body fails if the clause's outermost operator is G, else 0."
+    × (judged 0 (gl (atLeast 0 1)) ≡ (false, 2))
+    × (judged 1 (gl (atLeast 0 1)) ≡ (false, 1))
+    × (judged 0 (neg (ev (neg (atLeast 0 1)))) ≡ (false, 0))
+    × (judged 0 (neg (ev (atLeast 1 2))) ≡ (false, 0))
+    × (judged 0 (and (gl (atLeast 0 1)) (atLeast 0 3)) ≡ (false, 0))
+    × (judged 0 (and (atLeast 0 1) (atLeast 0 3)) ≡ (false, 0))
+    × (judged 0 (release (atLeast 0 3) (atLeast 0 1)) ≡ (false, 0))
+    × (judged 0 (until (atLeast 0 1) (atLeast 0 3)) ≡ (false, 0))
+    × (judged 0 (next (atLeast 0 2)) ≡ (false, 0))
+    -- a kept clause, by the all-carts case at step 2
+    × (judged 2 (ev (atLeast 1 1)) ≡ (true, 0))
+unfolding computing
+worked = (
+  refl,
+  refl,
+  refl,
+  refl,
+  refl,
+  refl,
+  refl,
+  refl,
+  refl,
+  refl,
+  refl,
+  refl,
+  refl,
+  refl,
+  refl,
+  refl,
+  refl,
+  refl,
+  refl,
+  refl,
+  refl,
+  refl,
+  refl,
+  refl,
+  refl,
+  refl,
+  refl,
+  refl,
+  refl,
+  refl,
+  refl,
+  refl,
+  refl,
+  refl,
+  refl,
+  refl,
+  refl,
+  refl,
+  refl,
+)
 
--- a R b "with no need that a ever comes", from step 1 of three: b always, b up to step 2 where a is, b only before a
-pub released : (fix 3 0 false never always 3 1 ≡ true) × (fix 3 0 false (only 2) (but 0) 3 1 ≡ true) × (fix 3 0 false (only 0) (but 2) 3 1 ≡ false)
-unfolding fix nextStep
-released = (refl, refl, refl)
-
--- "!`[a,m]` becomes `[!a,N+1−m]`, N being the carts, never below 0": two carts
-pub negated : (quota false 2 2 ≡ 1) × (quota false 0 2 ≡ 3) × (quota false 4 2 ≡ 0)
-unfolding quota
-negated = (refl, refl, refl)
-
--- percentages are rounded up
-pub rounded : (threshold 25 true 12 ≡ 3) × (threshold 25 true 13 ≡ 4) × (threshold 100 true 32 ≡ 32) × (threshold 0 true 32 ≡ 0) × (threshold 1 true 1 ≡ 1)
-unfolding threshold
-rounded = (refl, refl, refl, refl, refl)
+-- "all may pause": a run of two carts and drift 0 whose first tick moves neither
+pub paused : (r : Run 2 0) × ((t i : ℕ) → r .at t i ≡ t - 1)
+paused = (
+  record {
+    at = λ t i. t - 1;
+    start = λ i p. refl;
+    tick = λ t i p. first t;
+    again = λ t i p. (suc t, omega arith, omega arith);
+    near = λ t i j p q. omega arith;
+  },
+  λ t i. refl,
+)
+  where
+    first : (t : ℕ) → (suc t - 1 ≡ t - 1) ⊎ (suc t - 1 ≡ suc (t - 1))
+    first zero = inl refl
+    first (suc t) = inr (omega arith)
 
 -- "X is that cart's next move"
 pub next-own : (P : Rows) (i k v : ℕ) → Satisfies P i (next (leaf k)) v ≡ Bears P i k (suc v)

@@ -1,16 +1,19 @@
 -- What is claimed of cLTL+, for any rows with a cart and a lap, any clauses and drifts.
-use Prim.Native.Nat.{ℕ, _+_, _≤_, _<_}
-use mathlib.Core.Path.{_≡_}
-use mathlib.Core.Bool.{Bool, true}
-use mathlib.Core.Logic.{_↔_}
+use Prim.Native.Nat.{ℕ, suc, _+_, _*_, _-_, _≤_, _<_}
+use mathlib.Core.Path.{_≡_, refl}
+use mathlib.Core.Bool.{Bool, true, false, _&&_, _||_}
+use mathlib.Core.Logic.{_⊎_, _↔_}
 use native.Mathlib.Omega.{arith}
 use lib.Dec.{T}
 use Rattle.cltl.specs.Globally.{globally-broken}
-use Rattle.grammar.specs.Grammar.{gl, Inner, Counted, Clause}
-use Rattle.row.specs.Lasso.{stepOf}
+use Rattle.grammar.specs.Grammar.{top, leaf, neg, and, or, next, until, release, ev, gl, Inner, Counted, counted, Clause}
+use Rattle.row.specs.Lasso.{nextStep, stepOf}
 use Rattle.row.specs.Round.{step-low}
-use Rattle.cltl.specs.Meaning.{Rows, Proper, Run, Satisfies, TrueOf, InStepAt, TrueInStep}
-use Rattle.cltl.specs.Rules.{inner, count, rules, hasNext}
+use Rattle.cltl.specs.Threshold.{threshold, quota}
+use Rattle.cltl.specs.Meaning.{Rows, Proper, Until, AtLeast, Run, Satisfies, TrueOf, InStepAt, TrueInStep}
+use Rattle.cltl.specs.Rules.{judge, inner, count, rules, hasNext}
+use Rattle.cltl.specs.Lap.{fix-law, reach, forever}
+use Rattle.cltl.specs.Wording.{rounded-up, count-holds}
 use Rattle.cltl.specs.Inner.{inner-sound, inner-complete}
 use Rattle.cltl.specs.Sound.{rules-sound}
 use Rattle.cltl.specs.Monotone.{rules-mono}
@@ -19,6 +22,89 @@ use Rattle.cltl.specs.Standing.{gather, gathered, highest}
 use Rattle.cltl.specs.Broken.{countOr, Broken}
 use Rattle.cltl.specs.Complete.{count-complete}
 
+---- 'The sheet' and 'Drift rules', in document 01's words.
+-- "A percentage becomes a number of carts: percent × carts ÷ 100, rounded up": the least that is not below it. A number is itself.
+pub percentage : (k N : ℕ) → (k * N ≤ 100 * threshold k true N) × ((n : ℕ) → k * N ≤ 100 * n → threshold k true N ≤ n)
+percentage = rounded-up
+
+pub plain-number : (k N : ℕ) → threshold k false N ≡ k
+unfolding threshold
+plain-number k N = refl
+
+-- what the rules with drift d say of a clause at step s
+module _ (P : Rows) (d s : ℕ) where
+  abbrev Here : Clause → Bool
+  Here c = rules P d c s
+
+  -- the step after, and what they say at the step of a counter v
+  abbrev after : ℕ
+  after = nextStep (P .h) (P .l) s
+
+  abbrev On : Clause → ℕ → Type 0
+  On c v = T (rules P d c (stepOf (P .h) (P .l) v))
+
+  -- "F a is true U a; G a is !F !a; a R b is !(!a U !b)."
+  pub written-out : (a b : Clause)
+      → (Here (ev a) ≡ Here (until top a)) × (Here (gl a) ≡ Here (neg (ev (neg a)))) × (Here (release a b) ≡ Here (neg (until (neg a) (neg b))))
+  unfolding rules judge
+  written-out a b = (refl, refl, refl)
+
+  -- "Negations outside counts are first driven inward."
+  pub inward : (a b : Clause)
+      → (Here (neg (neg a)) ≡ Here a) × (Here (neg (and a b)) ≡ Here (or (neg a) (neg b))) × (Here (neg (or a b)) ≡ Here (and (neg a) (neg b)))
+      × (Here (neg (next a)) ≡ Here (next (neg a))) × (Here (neg (until a b)) ≡ Here (release (neg a) (neg b)))
+      × (Here (neg (release a b)) ≡ Here (until (neg a) (neg b))) × (Here (neg (ev a)) ≡ Here (gl (neg a))) × (Here (neg (gl a)) ≡ Here (ev (neg a)))
+  unfolding rules judge
+  inward a b = (refl, refl, refl, refl, refl, refl, refl, refl)
+
+  -- "Then !`[a,m]` becomes `[!a,N+1−m]`, N being the carts, never below 0."
+  pub negated-count : (a : Inner) (k : ℕ) (percent : Bool)
+      → Here (neg (leaf (counted a k percent))) ≡ Here (leaf (counted (neg a) (suc (P .carts) - threshold k percent (P .carts)) false))
+  unfolding rules judge count quota threshold inner
+  negated-count a k true = refl
+  negated-count a k false = refl
+
+  -- "`true` holds and its negation doesn't; an and is true if both sides are, an or if either is"
+  pub plain-rules : (a b : Clause)
+      → (Here top ≡ true) × (Here (neg top) ≡ false) × (Here (and a b) ≡ (Here a && Here b)) × (Here (or a b) ≡ (Here a || Here b))
+  unfolding rules judge
+  plain-rules a b = (refl, refl, refl, refl)
+
+  -- "With d = 0, X outside counts looks one step on." With d above 0 it is refused before (16).
+  pub next-rule : (a : Clause) → Here (next a) ≡ rules P d a after
+  unfolding rules judge
+  next-rule a = refl
+
+  module _ (proper : Proper P) (low : s < P .h) where
+    -- "a count with threshold m is true if at least m carts satisfy the inner text at all of counters s to s + d; with m = 1 also if all N carts satisfy
+    -- it at s itself"
+    pub count-rule : (a : Inner) (k : ℕ) (percent : Bool) → let m = threshold k percent (P .carts) in
+        T (Here (leaf (counted a k percent)))
+        ↔
+        (AtLeast (λ i. (j : ℕ) → j ≤ d → Satisfies P i a (s + j)) m (P .carts) ⊎
+        ((m ≡ 1) × ((i : ℕ) → i < P .carts → Satisfies P i a s)))
+    count-rule a k percent = count-holds P proper d s low a k percent
+
+    module _ (a b : Clause) where
+      -- "a U b: b here, or a here and a U b at the step after, with b reached": at a counter from s on, and a up to there
+      pub until-rule : Here (until a b) ≡ (Here b || (Here a && rules P d (until a b) after))
+      unfolding rules judge
+      until-rule = fix-law (P .h) (P .l) (proper .lap) true _ _ s low
+
+      pub until-reached : T (Here (until a b)) → Until (On a) (On b) s
+      unfolding rules judge
+      until-reached x = reach (P .h) (P .l) (proper .lap) (λ v. rules P d a v) (λ v. rules P d b v) s (rw (step-low (P .h) (P .l) s low) x)
+
+      -- "a R b: b here, and either a here or a R b at the step after, with no need that a ever comes": b for ever is enough
+      pub release-rule : Here (release a b) ≡ (Here b && (Here a || rules P d (release a b) after))
+      unfolding rules judge
+      release-rule = fix-law (P .h) (P .l) (proper .lap) false _ _ s low
+
+      pub release-unended : ((u : ℕ) → s ≤ u → On b u) → T (Here (release a b))
+      unfolding rules judge
+      release-unended f = rw (step-low (P .h) (P .l) s low) at (forever (P .h) (P .l) (proper .lap) (λ v. rules P d a v) (λ v. rules P d b v) (P .h) s f)
+
+---- Runs.
 module _ (P : Rows) (proper : Proper P) where
   -- inner text on a row is decided exactly, at every counter
   pub inner-exact : (i : ℕ) (a : Inner) (v : ℕ) → T (inner P i true a (stepOf (P .h) (P .l) v)) ↔ Satisfies P i a v

@@ -5,10 +5,11 @@ use mathlib.Core.Bool.{Bool, true, false, _&&_}
 use mathlib.Core.Logic.{_⊎_, inl, inr, ⊎-elim}
 use native.Mathlib.Omega.{arith}
 use lib.Dec.{T, leb, eqb, leb→le, eqb→eq, le→leb}
+use lib.Ieee.Fits.{eq→eqb}
 use Rattle.row.specs.Lasso.{nextStep, stepOf}
 use Rattle.row.specs.Round.{step-low, step-below, step-next}
 use Rattle.cltl.specs.Rules.{tally, every, window, quorum}
-use Rattle.cltl.specs.Basics.{and-l, and-r, or-l, or-cases, join-mono}
+use Rattle.cltl.specs.Basics.{and-l, and-r, and-i, or-l, or-r, or-cases, join-mono}
 use Rattle.cltl.specs.Tally.{every-at, every-of, every-agrees, tally-mono, tally-all}
 
 module _ (h l : ℕ) where
@@ -83,6 +84,12 @@ module _ (h l : ℕ) where
     pub throughout-quorum : (d s : ℕ) → m ≤ throughout d s → T (quorum h l carts d m f s)
     unfolding quorum
     throughout-quorum d s q = or-l (leb m (throughout d s)) _ (le→leb _ _ q)
+
+    pub all-quorum : (d s : ℕ) → m ≡ 1 → ((i : ℕ) → i < carts → T (f i s)) → T (quorum h l carts d m f s)
+    unfolding quorum
+    all-quorum d s e x =
+        let all : Bool = every (λ i. f i s) carts in
+        or-r (leb m (throughout d s)) (eqb m 1 && all) (and-i (eqb m 1) all (eq→eqb e) (every-of (λ i. f i s) carts x))
 
     -- without drift: at least m carts at the step
     pub quorum-none : (s : ℕ) → 0 < carts → T (quorum h l carts 0 m f s) → s < h → m ≤ tally (λ i. f i s) carts

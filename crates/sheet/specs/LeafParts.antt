@@ -20,7 +20,7 @@ use Rattle.token.specs.declared.PartRead.{PartRead}
 pub mark-part : (s : List ℕ) (n left : ℕ) (before : List ℕ) (r : PartRead) (after : List ℕ) (g : Got ℕ) → LeafIs markN s n left before r after g
     → PartIs markNodes flatMark s n left before r after (bind g (λ x m t. got (Form.leaf x) m t))
 unfolding bind flat flatMark
-mark-part s n left before r after (no w t) h = h
+mark-part s n left before r after (no w t) h = h .part
 mark-part s n left before r after (got x m t) h = placed-part markN markNodes flatMark s n left before r after x (Form.leaf x) m t refl h
 
 module _ (s : List ℕ) (level left i : ℕ) (l : i < length s) where

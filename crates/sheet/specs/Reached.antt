@@ -12,7 +12,7 @@ use Rattle.grammar.specs.Nodes.{Node, twoN, Op₂, until₂, release₂, flat}
 use Rattle.grammar.specs.Reader.{Got, got, no, Reader, pick, bind, skip, node, stop, reach, onward, untilAt, deeper, smalls, untils}
 use Rattle.grammar.specs.Steps.{until-is, until-end, until-stop, until-none, until-on}
 use Rattle.token.specs.Block.{twoByte}
-use Rattle.token.specs.Leaves.{LeafRefused}
+use Rattle.token.specs.Leaves.{PartRefused}
 use Rattle.token.specs.Parts.{Held, PartIs}
 use Rattle.token.specs.More.{WithNode}
 use Rattle.token.specs.Joined.{two-parts}
@@ -43,7 +43,7 @@ module _ {L : Type 0} (leafNodes : L → ℕ) (leafFlat : L → ℕ → List Nod
   -- by what a smallest part gave
   module _ (l : ℕ) (h : PartIs leafNodes leafFlat s n left before r block (smalls lf l left t)) where
     -- the answer, where the part was read or refused
-    by-part : (P : Got (Form L) → Type 0) → ((w : ℕ) (u : List ℕ) → LeafRefused s before r block w u → P (no w u))
+    by-part : (P : Got (Form L) → Type 0) → ((w : ℕ) (u : List ℕ) → PartRefused s before r block w u → P (no w u))
         → ((a : Form L) (m : ℕ) (u : List ℕ) → Held leafNodes leafFlat s n left before r block a m u → P (untilAt (deeper lf l) a m u (skip u)))
         → P (untils lf l left t)
     unfolding bind

@@ -156,10 +156,10 @@ module _ {L : Type 0} (leafNodes : L → ℕ) (leafFlat : L → ℕ → List Nod
       where
         noded : (m : ℕ) (u : List ℕ) → LeafIs (λ (u : Unit {0}). topN) s n left before r after (node (drop i s) m (λ m₁. got tt m₁ u))
             → P r after (node (drop i s) m (λ m₁. got top m₁ u))
-        noded zero u k = k
+        noded zero u k = k .part
         noded (suc m) u k = placed-part (λ (u : Unit {0}). topN) leafNodes leafFlat s n left before r after tt top m u refl k
 
         go : (g : Got (Unit {0})) → LeafIs (λ (u : Unit {0}). topN) s n left before r after (bind g (λ u m r₁. node (drop i s) m (λ m₁. got tt m₁ r₁)))
             → P r after (bind g (λ u m r₁. node (drop i s) m (λ m₁. got top m₁ r₁)))
-        go (no w u) k = k
+        go (no w u) k = k .part
         go (got x m u) k = noded m u k

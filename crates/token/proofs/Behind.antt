@@ -61,7 +61,7 @@ not-there s r c i q fine l is none e = record {
   inside = subst (λ (x : PartRead). x .at ≤ length s) (sym e) l;
   kept = λ h. let z : _≡_ {A = ℕ} 13 0 = sym (ap (λ (x : PartRead). x .fault) e) ∙ h in absurd (omega arith);
   found = λ h t z. absurd (none t z);
-  missing = λ h z. (ap (λ (x : PartRead). x .fault) e, ap (λ (x : PartRead). drop (x .at) s) e ∙ is, ap (λ (x : PartRead). x .left) e);
+  missing = λ h z. (ap (λ (x : PartRead). x .fault) e, ap (λ (x : PartRead). drop (x .at) s) e ∙ is, ap (λ (x : PartRead). x .left) e, ap (λ (x : PartRead). x .n) e);
 }
 
 pub is-there : (s : List ℕ) (r : PartRead) (c i : ℕ) → r .fault ≡ 0 → i < length s → drop i s ≡ skip (drop (r .at) s) → getD s i 0 ≡ c

@@ -44,7 +44,7 @@ pub refused-leaf : {A : Type 0} (node : A → Node) (s : List ℕ) (n left : ℕ
     → (w ≡ 0 → ⊥) → i ≤ length s → g ≡ no w (drop i s) → LeafIs node s n left before r before g
 refused-leaf node s n left before r w i g e some l q =
     subst (LeafIs node s n left before r before) (sym q)
-    (refused-at s before r before w i e some l refl)
+    (record { part = refused-at s before r before w i e some l refl; unchanged = refl })
 
 -- a token with its node
 pub placed-leaf : {A : Type 0} (node : A → Node) (s : List ℕ) (n left : ℕ) (before : List ℕ) (r : PartRead) (after : List ℕ) (x : A) (i : ℕ) (g : Got A)

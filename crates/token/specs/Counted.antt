@@ -13,7 +13,7 @@ use Rattle.grammar.specs.Nodes.{countN, flat, flatMark, flatInner, flatCount}
 use Rattle.grammar.specs.Standing.{clause-flat, inner-flat}
 use Rattle.grammar.specs.Reader.{Got, got, no, pick, bind, skip, number, percent, expect, expectAt, countEnd}
 use Rattle.token.specs.Block.{countByte, nodeBytes}
-use Rattle.token.specs.Leaves.{LeafRefused, Expected, limitGot, LimitIs}
+use Rattle.token.specs.Leaves.{PartRefused, Expected, limitGot, LimitIs}
 use Rattle.token.specs.Digits.{relabel, number-any, percent-any}
 use Rattle.token.specs.Parts.{Held, PartIs}
 use Rattle.token.specs.Counts.{countGot}
@@ -100,6 +100,7 @@ module _ (s : List ℕ) (n left : ℕ) (before : List ℕ) (long : length before
           number = ap (λ (x : PartRead). x .fault) e ∙ z .0;
           some = λ y. some (sym (ap (λ (x : PartRead). x .fault) e) ∙ y);
           none = ap (λ (x : PartRead). x .left) e;
+          nodes = ap (λ (x : PartRead). x .n) e;
           behind = ap (λ (x : PartRead). drop (x .at) s) e ∙ z .1;
           inside = subst (λ (x : PartRead). x .at ≤ length s) (sym e) in-text;
           block = size;
@@ -113,7 +114,7 @@ module _ (s : List ℕ) (n left : ℕ) (before : List ℕ) (long : length before
       unfolding flat flatCount flatInner
       count-node a v b = refl
 
-      unclosed : (u : List ℕ) → drop (k .at) s ≡ u → ((t : List ℕ) → skip u ≡ 93 ∷ t → ⊥) → LeafRefused s before z after 13 (skip u)
+      unclosed : (u : List ℕ) → drop (k .at) s ≡ u → ((t : List ℕ) → skip u ≡ 93 ∷ t → ⊥) → PartRefused s before z after 13 (skip u)
       unclosed u e none =
           let m = x .missing refl (λ t y. none t (ap skip (sym e) ∙ y)) in
           stay s before before block q _ z after 13 (skip u)
@@ -121,6 +122,7 @@ module _ (s : List ℕ) (n left : ℕ) (before : List ℕ) (long : length before
             number = m .0;
             some = λ y. let o : _≡_ {A = ℕ} 13 0 = sym (m .0) ∙ y in omega arith;
             none = m .2;
+            nodes = m .3;
             behind = m .1 ∙ ap skip e;
             inside = x .inside;
             block = size;
@@ -153,13 +155,13 @@ module _ (s : List ℕ) (n left : ℕ) (before : List ℕ) (long : length before
             where
               at : (o : List ℕ) → skip u ≡ o → C z after (bind (expectAt 93 (counted a v b) m o) (λ x m r₁. got (Form.leaf x) m r₁))
               at [] e =
-                  subst (LeafRefused s before z after 13) e
+                  subst (PartRefused s before z after 13) e
                   (unclosed u (y .1) (λ t′ f. let c : [] ≡ 93 ∷ t′ = sym e ∙ f in let d : 0 ≡ suc (length t′) = ap length c in omega arith))
               at (c ∷ o) e = pick-byte (eqb c 93) refl
                 where
                   pick-byte : (x : Bool) → eqb c 93 ≡ x → C z after (bind (pick x (got (counted a v b) m o) (no 13 (c ∷ o))) (λ x m r₁. got (Form.leaf x) m r₁))
                   pick-byte true f = closed a m t h′ v b u (y .1) (y .2) (y .3) o (e ∙ ap (λ (j : ℕ). j ∷ o) (eqb-true c 93 f))
-                  pick-byte false f = subst (LeafRefused s before z after 13) e (unclosed u (y .1) (λ t′ d. eqb-false c 93 f (heads (sym e ∙ d))))
+                  pick-byte false f = subst (PartRefused s before z after 13) e (unclosed u (y .1) (λ t′ d. eqb-false c 93 f (heads (sym e ∙ d))))
                     where
                       heads : {t′ : List ℕ} → c ∷ o ≡ 93 ∷ t′ → c ≡ 93
                       heads d = cc

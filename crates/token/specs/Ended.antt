@@ -10,7 +10,7 @@ use borrow.Author.Tests.{eqb-true, eqb-false}
 use Rattle.grammar.specs.Grammar.{Form}
 use Rattle.grammar.specs.Nodes.{Node}
 use Rattle.grammar.specs.Reader.{Got, got, no, pick, bind, skip, expectAt, expect}
-use Rattle.token.specs.Leaves.{LeafRefused, Expected}
+use Rattle.token.specs.Leaves.{PartRefused, Expected}
 use Rattle.token.specs.Parts.{Held, PartIs}
 use Rattle.token.specs.declared.PartRead.{PartRead}
 
@@ -18,7 +18,7 @@ module _ {L : Type 0} (leafNodes : L → ℕ) (leafFlat : L → ℕ → List Nod
     (c : ℕ) (q : PartRead) (w : Expected s r c q) where
   -- the byte is not there
   absent : (a : Form L) (m : ℕ) (t u : List ℕ) → Held leafNodes leafFlat s n left before r block a m t → length block ≡ length before
-      → skip t ≡ u → ((v : List ℕ) → skip t ≡ c ∷ v → ⊥) → LeafRefused s before q block 13 u
+      → skip t ≡ u → ((v : List ℕ) → skip t ≡ c ∷ v → ⊥) → PartRefused s before q block 13 u
   absent a m t u h long e none =
       let b = ap skip (h .behind) in
       let z = w .missing (h .fine) (λ v x. none v (sym b ∙ x)) in
@@ -26,6 +26,7 @@ module _ {L : Type 0} (leafNodes : L → ℕ) (leafFlat : L → ℕ → List Nod
         number = z .0;
         some = λ x. let y : _≡_ {A = ℕ} 13 0 = sym (z .0) ∙ x in omega arith;
         none = z .2;
+        nodes = z .3;
         behind = z .1 ∙ b ∙ e;
         inside = w .inside;
         block = long;
@@ -36,7 +37,7 @@ module _ {L : Type 0} (leafNodes : L → ℕ) (leafFlat : L → ℕ → List Nod
   unfolding bind expect expectAt
   ended-part (no v t) h long =
       let e : q ≡ r = w .refused (h .some) in
-      subst (λ (x : PartRead). LeafRefused s before x block v t) (sym e) h
+      subst (λ (x : PartRead). PartRefused s before x block v t) (sym e) h
   ended-part (got a m t) h long = go (skip t) refl
     where
       go : (u : List ℕ) → skip t ≡ u → PartIs leafNodes leafFlat s n left before q block (expectAt c a m u)

@@ -13,7 +13,7 @@ use Rattle.grammar.specs.Limits.{nodes}
 use Rattle.grammar.specs.Nodes.{Node, topN, markN, countN, oneN, twoN, Op₁, Op₂, flat}
 use Rattle.grammar.specs.Reader.{Got, got, no, bind}
 use Rattle.token.specs.Block.{oneByte, twoByte, nodeBytes, nodesBytes}
-use Rattle.token.specs.Leaves.{LeafRefused}
+use Rattle.token.specs.Leaves.{PartRefused}
 use Rattle.token.specs.Parts.{Held, PartIs}
 use Rattle.token.specs.More.{moreOne, WithNode}
 use Rattle.token.specs.declared.PartRead.{PartRead}
@@ -49,7 +49,7 @@ stored-nodes before n ns ms room =
 
 -- a refused part stays refused
 pub stay : (s before mid early : List ℕ) (r : PartRead) (node : List ℕ) (q : PartRead) (after : List ℕ) (w : ℕ) (t : List ℕ)
-    → LeafRefused s mid r early w t → length mid ≡ length before → WithNode early r node q after → LeafRefused s before q after w t
+    → PartRefused s mid r early w t → length mid ≡ length before → WithNode early r node q after → PartRefused s before q after w t
 stay s before mid early r node q after w t k long g =
     let e : q ≡ r = g .part ∙ ap (λ (b : Bool). cond b (moreOne r) r) (ne-eqb _ _ (k .some)) in
     let b : after ≡ early = g .block ∙ ap (λ (b : Bool). cond b (stored early (4 * r .n) node) early) (ne-eqb _ _ (k .some)) in
@@ -57,6 +57,7 @@ stay s before mid early r node q after w t k long g =
       number = ap (λ (x : PartRead). x .fault) e ∙ k .number;
       some = λ z. k .some (sym (ap (λ (x : PartRead). x .fault) e) ∙ z);
       none = ap (λ (x : PartRead). x .left) e ∙ k .none;
+      nodes = ap (λ (x : PartRead). x .n) e ∙ k .nodes;
       behind = ap (λ (x : PartRead). drop (x .at) s) e ∙ k .behind;
       inside = subst (λ (x : PartRead). x .at ≤ length s) (sym e) (k .inside);
       block = ap length b ∙ k .block ∙ long;

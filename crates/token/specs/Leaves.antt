@@ -13,14 +13,20 @@ use Rattle.token.specs.Block.{nodeBytes}
 use Rattle.token.specs.declared.PartRead.{PartRead}
 use Rattle.token.specs.declared.CountLimit.{CountLimit}
 
--- a refusal, and the block still has its length
-pub record LeafRefused (s before : List ℕ) (r : PartRead) (after : List ℕ) (w : ℕ) (rest : List ℕ) : Type 0 where
+-- a refusal: no node is counted or left, and the block still has its length
+pub record PartRefused (s before : List ℕ) (r : PartRead) (after : List ℕ) (w : ℕ) (rest : List ℕ) : Type 0 where
   pub number : r .fault ≡ w
   pub some : r .fault ≡ 0 → ⊥
   pub none : r .left ≡ 0
+  pub nodes : r .n ≡ 0
   pub behind : drop (r .at) s ≡ rest
   pub inside : r .at ≤ length s
   pub block : length after ≡ length before
+
+-- a refused leaf leaves the block as it is
+pub record LeafRefused (s before : List ℕ) (r : PartRead) (after : List ℕ) (w : ℕ) (rest : List ℕ) : Type 0 where
+  pub part : PartRefused s before r after w rest
+  pub unchanged : after ≡ before
 
 -- a leaf with its one node
 module _ {A : Type 0} (node : A → Node) (s : List ℕ) (n left : ℕ) (before : List ℕ) (r : PartRead) (after : List ℕ) where
@@ -45,7 +51,7 @@ pub record Expected (s : List ℕ) (r : PartRead) (c : ℕ) (q : PartRead) : Typ
   pub found : r .fault ≡ 0 → (t : List ℕ) → skip (drop (r .at) s) ≡ c ∷ t
       → (q .fault ≡ 0) × (drop (q .at) s ≡ t) × (q .left ≡ r .left) × (q .n ≡ r .n)
   pub missing : r .fault ≡ 0 → ((t : List ℕ) → skip (drop (r .at) s) ≡ c ∷ t → ⊥)
-      → (q .fault ≡ 13) × (drop (q .at) s ≡ skip (drop (r .at) s)) × (q .left ≡ 0)
+      → (q .fault ≡ 13) × (drop (q .at) s ≡ skip (drop (r .at) s)) × (q .left ≡ 0) × (q .n ≡ 0)
 
 -- `true`, from its first byte on
 abbrev pub wordGot : List ℕ → ℕ → ℕ → Got (Unit {0})

@@ -8,7 +8,7 @@ use Rattle.grammar.specs.Grammar.{Form}
 use Rattle.grammar.specs.Nodes.{Node, flat}
 use Rattle.grammar.specs.Reader.{Got, got, no}
 use Rattle.token.specs.Block.{nodesBytes}
-use Rattle.token.specs.Leaves.{LeafRefused}
+use Rattle.token.specs.Leaves.{PartRefused}
 use Rattle.token.specs.declared.PartRead.{PartRead}
 
 module _ {L : Type 0} (leafNodes : L → ℕ) (leafFlat : L → ℕ → List Node) (s : List ℕ) (n left : ℕ) (before : List ℕ) (r : PartRead) (after : List ℕ) where
@@ -24,4 +24,4 @@ module _ {L : Type 0} (leafNodes : L → ℕ) (leafFlat : L → ℕ → List Nod
 
   abbrev pub PartIs : Got (Form L) → Type 0
   PartIs (got a m rest) = Held a m rest
-  PartIs (no w rest) = LeafRefused s before r after w rest
+  PartIs (no w rest) = PartRefused s before r after w rest

@@ -7,17 +7,18 @@ use Rattle.record.specs.Buffer.{stored}
 use Rattle.grammar.specs.Grammar.{Form}
 use Rattle.grammar.specs.Nodes.{Node, flat}
 use Rattle.token.specs.Block.{nodesBytes}
-use Rattle.token.specs.Leaves.{LeafRefused, Placed}
+use Rattle.token.specs.Leaves.{PartRefused, Placed}
 use Rattle.token.specs.Parts.{Held}
 use Rattle.token.specs.Joined.{nodes-one}
 use Rattle.token.specs.declared.PartRead.{PartRead}
 
 pub refused-at : (s before : List ℕ) (r : PartRead) (block : List ℕ) (w i : ℕ) → r ≡ record { fault = w; at = i; left = 0; n = 0 } → (w ≡ 0 → ⊥) → i ≤ length s
-    → length block ≡ length before → LeafRefused s before r block w (drop i s)
+    → length block ≡ length before → PartRefused s before r block w (drop i s)
 refused-at s before r block w i e some l b = record {
   number = ap (λ (x : PartRead). x .fault) e;
   some = λ z. some (sym (ap (λ (x : PartRead). x .fault) e) ∙ z);
   none = ap (λ (x : PartRead). x .left) e;
+  nodes = ap (λ (x : PartRead). x .n) e;
   behind = ap (λ (x : PartRead). drop (x .at) s) e;
   inside = subst (λ (x : PartRead). x .at ≤ length s) (sym e) l;
   block = b;

@@ -5,12 +5,12 @@ use mathlib.Core.Path.{_≡_, refl, sym, ap, _∙_}
 use native.Mathlib.Omega.{arith}
 use Prim.Native.Nat.{ℕ, _≤_, _-_, suc}
 use Rattle.grammar.specs.Reader.{clauseLine}
-use Rattle.grammar.specs.Promises.{promises}
 use Rattle.grammar.specs.Nodes.{flatCount}
 use Rattle.grammar.specs.Limits.{countNodes}
 use Rattle.token.specs.Joined.{part-length}
 use Rattle.sheet.specs.Room.{part-inside, flat-size}
 use Rattle.sheet.specs.Rules.{rulesVerdict}
+use Rattle.sheet.specs.Reading.{rules-read}
 use Rattle.sheet.specs.Lines.{fromLine, too-long, empty, by-lines, all-read, line-33, line-refused, line-read}
 use Rattle.sheet.proofs.reading.read.Statement.{statement}
 use Rattle.sheet.proofs.reading.read.Tie as tie
@@ -26,22 +26,16 @@ refuse-at-requires c κs = omega arith
 
 returns : tie.Need-returns Inv-loop μ-loop
 returns c =
-    record {
-      answer = c .refuse-at .ensures ∙ sym (too-long (c .before .before .before .args .s .now) (c .before .if1 .taken));
-      meaning = promises
-          (c .before .before .before .args .s .now);
-    }
+    let s = c .before .before .before .args .s .now in
+    rules-read s _ (c .refuse-at .ensures ∙ sym (too-long s (c .before .if1 .taken)))
 
 refuse-at-requires-2 : tie.Need-refuse-at-requires-2 Inv-loop μ-loop
 refuse-at-requires-2 c κs = omega arith
 
 returns-2 : tie.Need-returns-2 Inv-loop μ-loop
 returns-2 c =
-    record {
-      answer = c .refuse-at2 .ensures ∙ sym (empty (c .before .before .before .before .args .s .now) (c .before .if2 .taken));
-      meaning = promises
-          (c .before .before .before .before .args .s .now);
-    }
+    let s = c .before .before .before .before .args .s .now in
+    rules-read s _ (c .refuse-at2 .ensures ∙ sym (empty s (c .before .if2 .taken)))
 
 loop-holds : tie.Need-loop-holds Inv-loop μ-loop
 loop-holds c =
@@ -55,12 +49,10 @@ returns-3 : tie.Need-returns-3 Inv-loop μ-loop
 returns-3 c =
     let s = c .before .before .before .before .before .before .before .args .s .now in
     let z : c .before .before .before .loop .k ≡ 0 = omega (arith, c .before .if3 .taken) in
-    record {
-      answer = c .refuse-at3 .ensures ∙ sym (c .before .before .before .loop .inv .3 ∙ ap
-          (λ (j : ℕ). fromLine s j (c .before .before .before .loop .at)) z ∙ line-33 s (c .before .before .before .loop .at)
-          (c .before .before .loop-test .taken));
-      meaning = promises s;
-    }
+    rules-read s _
+    (c .refuse-at3 .ensures ∙ sym (c .before .before .before .loop .inv .3 ∙ ap
+    (λ (j : ℕ). fromLine s j (c .before .before .before .loop .at)) z ∙ line-33 s (c .before .before .before .loop .at)
+    (c .before .before .loop-test .taken)))
 
 slice-aggregate-read-clause : tie.Need-slice-aggregate-read-clause Inv-loop μ-loop
 slice-aggregate-read-clause c = search needs
@@ -88,15 +80,12 @@ returns-4 c =
     let s = c .before .before .before .before .before .before .before .before .before .before .before .before .args .s .now in
     let l = c .before .before .before .before .before .before .before .before .loop in
     let e : l .k ≡ suc (l .k - 1) = omega (arith, c .before .before .before .before .before .before .if3 .left) in
-    record {
-      answer =
-          c .refuse-at4 .ensures
-          ∙ sym
-          (l .inv .3 ∙ ap (λ (j : ℕ). fromLine s j (l .at)) e ∙ line-refused s (l .nodes) (c .before .before .before .before .read-clause .result) _
-          (l .k - 1) (l .at) (c .before .before .before .before .before .before .before .loop-test .taken)
-          (c .before .before .before .before .read-clause .ensures) (c .before .if4 .taken));
-      meaning = promises s;
-    }
+    rules-read s _
+    (c .refuse-at4 .ensures
+    ∙ sym
+    (l .inv .3 ∙ ap (λ (j : ℕ). fromLine s j (l .at)) e ∙ line-refused s (l .nodes) (c .before .before .before .before .read-clause .result) _
+    (l .k - 1) (l .at) (c .before .before .before .before .before .before .before .loop-test .taken)
+    (c .before .before .before .before .read-clause .ensures) (c .before .if4 .taken)))
 
 sub-k : tie.Need-sub-k Inv-loop μ-loop
 sub-k c = omega (arith, c .before .before .before .before .before .if3 .left)
@@ -122,7 +111,7 @@ loop-again c =
 returns-5 : tie.Need-returns-5 Inv-loop μ-loop
 returns-5 c =
     let s = c .before .before .before .before .before .args .s .now in
-    record { answer = sym (c .before .loop .inv .3 ∙ all-read s (c .before .loop .k) (c .before .loop .at) (c .loop-test .left)); meaning = promises s }
+    rules-read s _ (sym (c .before .loop .inv .3 ∙ all-read s (c .before .loop .k) (c .before .loop .at) (c .loop-test .left)))
 
 pub read-spec : {M : Type 1} → statement M
 read-spec =
