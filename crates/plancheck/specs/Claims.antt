@@ -2,7 +2,7 @@
 use Prim.Native.Nat.{ℕ, _≤_}
 use native.Mathlib.Omega.{arith}
 use mathlib.Core.Path.{_≡_, refl, sym, ap, subst, _∙_}
-use mathlib.Core.Logic.{_⊎_, inl, inr, ⊎-elim}
+use mathlib.Core.Logic.{_⊎_, inl, inr, ⊎-elim, _↔_}
 use mathlib.Core.List.{List, [], _∷_}
 use lib.Dec.{T}
 use Rattle.endian.specs.Little.{bytes, Bytes}
@@ -26,7 +26,7 @@ use Rattle.cltl.specs.Meaning.{Proper, Run, TrueOf, TrueInStep}
 use Rattle.cltl.specs.Rules.{rules}
 use Rattle.cltl.specs.Promises as cltl
 use Rattle.plancheck.specs.Check.{planRows, clausesOf, checked}
-use Rattle.plancheck.specs.Promises.{Plain, ReadAndOpen, PlanChecked}
+use Rattle.plancheck.specs.Promises.{Plain, ReadAndOpen, Means, PlanChecked}
 use Rattle.plancheck.specs.Stages.{Kept, accepted-as, as-accepted, accepted-read}
 
 -- the plan with another drift
@@ -36,6 +36,16 @@ drifted p d = record { head = headOf (p .head .steps) (p .head .stem) d; rows = 
 drifted-file : (p : PlanNumbers) (d : ℕ) → stored (planFile p) 8 (bytes 2 d) ≡ planFile (drifted p d)
 unfolding layout encoded bytes
 drifted-file p d = refl
+
+-- the same of whatever says as much
+pub means-as : (floor s sheet : List ℕ) {yes yes′ : Type 0} → yes ↔ yes′ → Means floor s sheet yes → Means floor s sheet yes′
+means-as floor s sheet same w = record {
+  in-step = λ f p files none. let x = w .in-step f p files none in (λ y. x .0 (same .1 y), λ a. same .0 (x .1 a));
+  kept = λ f p cs a. let x = w .kept f p cs a in (λ y. x .0 (same .1 y), λ k. same .0 (x .1 k));
+  runs = λ y. w .runs (same .1 y);
+  smaller = λ y. w .smaller (same .1 y);
+  readable = λ y. w .readable (same .1 y);
+}
 
 module _ (floor s sheet : List ℕ) (fb : Bytes floor) (pb : Bytes s) where
   proper : (f : Floor) (p : PlanNumbers) → ReadAs floor s f p → Proper (planRows floor f p)
@@ -92,17 +102,19 @@ module _ (floor s sheet : List ℕ) (fb : Bytes floor) (pb : Bytes s) where
     kept-step : (c : Clause) → Kept (planRows floor f p) (p .head .drift) c → TrueInStep (planRows floor f p) c
     kept-step c k = cltl.in-step (planRows floor f p) (proper f p files) c .0 (subst (λ (d : ℕ). T (rules (planRows floor f p) d c 0)) none k)
 
-  pub claims : (v : Verdict) → v ≡ checked floor s sheet → PlanChecked floor s sheet v
-  claims v e = record {
-    verdict = e;
+  means : Means floor s sheet (checked floor s sheet ≡ Accepted)
+  means = record {
     in-step = λ f p files none. (
-      λ yes. let a = accepted-as floor s sheet f p files (sym e ∙ yes) in (a .0, a .1 .readable, all-map (kept-step f p files none) (a .0) (a .2)),
-      λ w. e ∙ as-accepted floor s sheet f p (w .0) (record { readable = w .1; no-16 = inl none }) (all-map (step-kept f p files none) (w .0) (w .2)),
+      λ yes. let a = accepted-as floor s sheet f p files yes in (a .0, a .1 .readable, all-map (kept-step f p files none) (a .0) (a .2)),
+      λ w. as-accepted floor s sheet f p (w .0) (record { readable = w .1; no-16 = inl none }) (all-map (step-kept f p files none) (w .0) (w .2)),
     );
-    kept = λ f p cs a. (λ yes. all-kept f p (a .readable .files) (sym e ∙ yes) cs (a .readable .clauses), λ k. e ∙ as-accepted floor s sheet f p cs a k);
-    runs = λ yes f p cs w plain r. in-runs f p (w .files) (sym e ∙ yes) cs w plain r;
-    smaller = λ yes f p files d less. less-drift f p files (sym e ∙ yes) d less;
+    kept = λ f p cs a. (λ yes. all-kept f p (a .readable .files) yes cs (a .readable .clauses), λ k. as-accepted floor s sheet f p cs a k);
+    runs = λ yes f p cs w plain r. in-runs f p (w .files) yes cs w plain r;
+    smaller = λ yes f p files d less. less-drift f p files yes d less;
     readable =
-        λ yes. let w = accepted-read floor s sheet (sym e ∙ yes) in let a = accepted-as floor s sheet (w .0) (w .1) (w .2) (sym e ∙ yes) in
+        λ yes. let w = accepted-read floor s sheet yes in let a = accepted-as floor s sheet (w .0) (w .1) (w .2) yes in
         (w .0, w .1, a .0, a .1);
   }
+
+  pub claims : (v : Verdict) → v ≡ checked floor s sheet → PlanChecked floor s sheet v
+  claims v e = record { verdict = e; means = means-as floor s sheet (λ yes. e ∙ yes, λ yes. sym e ∙ yes) means }

@@ -35,21 +35,26 @@ module _ (floor plan sheet : List ℕ) where
     pub readable : ReadAndOpen f p cs
     pub no-16 : (p .head .drift ≡ 0) ⊎ All Plain cs
 
-  pub record PlanChecked (v : Verdict) : Type 0 where
-    -- the answer, for every floor, plan and sheet
-    pub verdict : v ≡ checked floor plan sheet
+  -- what accepted means; `yes` says that the plan is accepted, by a verdict or by its number
+  pub record Means (yes : Type 0) : Type 0 where
     -- at drift 0: accepted exactly when all can be read, each cart begins at its start, its moves are open without end, and every clause is
     -- true in step
     pub in-step : (f : Floor) (p : PlanNumbers) → ReadAs floor plan f p → p .head .drift ≡ 0
-        → (v ≡ Accepted) ↔ ((cs : List Clause) × ReadAndOpen f p cs × All (TrueInStep (planRows floor f p)) cs)
+        → yes ↔ ((cs : List Clause) × ReadAndOpen f p cs × All (TrueInStep (planRows floor f p)) cs)
     -- nothing refused ahead of the clauses: accepted exactly when the drift rules keep every clause
     pub kept : (f : Floor) (p : PlanNumbers) (cs : List Clause) → NoneAhead f p cs
-        → (v ≡ Accepted) ↔ All (λ c. T (rules (planRows floor f p) (p .head .drift) c 0)) cs
+        → yes ↔ All (λ c. T (rules (planRows floor f p) (p .head .drift) c 0)) cs
     -- accepted, under clauses that use "next" only inside counts: every clause is true of every run within the drift
-    pub runs : v ≡ Accepted → (f : Floor) (p : PlanNumbers) (cs : List Clause) → ReadAndOpen f p cs → All Plain cs
+    pub runs : yes → (f : Floor) (p : PlanNumbers) (cs : List Clause) → ReadAndOpen f p cs → All Plain cs
         → (r : Run (f .carts) (p .head .drift)) → All (TrueOf (planRows floor f p) r) cs
     -- accepted too with every smaller drift: the same floor, sheet and plan but for the two bytes of d
-    pub smaller : v ≡ Accepted → (f : Floor) (p : PlanNumbers) → ReadAs floor plan f p → (d : ℕ) → d ≤ p .head .drift
+    pub smaller : yes → (f : Floor) (p : PlanNumbers) → ReadAs floor plan f p → (d : ℕ) → d ≤ p .head .drift
         → checked floor (stored plan 8 (bytes 2 d)) sheet ≡ Accepted
     -- what is accepted could be read, with nothing refused ahead of the clauses
-    pub readable : v ≡ Accepted → (f : Floor) × (p : PlanNumbers) × (cs : List Clause) × NoneAhead f p cs
+    pub readable : yes → (f : Floor) × (p : PlanNumbers) × (cs : List Clause) × NoneAhead f p cs
+
+  pub record PlanChecked (v : Verdict) : Type 0 where
+    -- the answer, for every floor, plan and sheet
+    pub verdict : v ≡ checked floor plan sheet
+    -- accepted, and what that means
+    pub means : Means (v ≡ Accepted)
