@@ -22,12 +22,14 @@ use Rattle.plan.specs.Complete.{file-reads}
 use Rattle.plan.specs.RoundTrip.{valid, bytes-back}
 use Rattle.grammar.specs.Grammar.{Clause}
 use Rattle.grammar.specs.Reader.{accepted, readSheet}
-use Rattle.cltl.specs.Meaning.{Proper, Run, TrueOf, TrueInStep}
+use Rattle.cltl.specs.Meaning.{Run, TrueOf, TrueInStep}
 use Rattle.cltl.specs.Rules.{rules}
 use Rattle.cltl.specs.Promises as cltl
 use Rattle.plancheck.specs.Check.{planRows, clausesOf, checked}
-use Rattle.plancheck.specs.Promises.{Plain, ReadAndOpen, Means, PlanChecked}
-use Rattle.plancheck.specs.Stages.{Kept, accepted-as, as-accepted, accepted-read}
+use Rattle.plancheck.specs.Meaning.{Plain, Kept, ReadAndOpen}
+use Rattle.plancheck.specs.Promises.{Means, PlanChecked}
+use Rattle.plancheck.specs.Stages.{proper, accepted-as, as-accepted, accepted-read}
+use Rattle.plancheck.specs.Refusing.{Meant, meant, is-16, is-17, is-sheet}
 
 -- the plan with another drift
 abbrev drifted : PlanNumbers → ℕ → PlanNumbers
@@ -48,9 +50,6 @@ means-as floor s sheet same w = record {
 }
 
 module _ (floor s sheet : List ℕ) (fb : Bytes floor) (pb : Bytes s) where
-  proper : (f : Floor) (p : PlanNumbers) → ReadAs floor s f p → Proper (planRows floor f p)
-  proper f p files = record { some = accepts floor f fb (files .floor-read) .valid .some-cart; lap = valid f s p (files .plan-read) .head .stem }
-
   same-clauses : (cs cs′ : List Clause) → readSheet sheet ≡ accepted cs → readSheet sheet ≡ accepted cs′ → cs ≡ cs′
   same-clauses cs cs′ e e′ = ap clausesOf (sym e ∙ e′)
 
@@ -61,7 +60,7 @@ module _ (floor s sheet : List ℕ) (fb : Bytes floor) (pb : Bytes s) where
         subst (All (Kept (planRows floor f p) (p .head .drift))) (same-clauses (a .0) cs (a .1 .readable .clauses) e) (a .2)
 
     in-runs : (cs : List Clause) → ReadAndOpen floor s sheet f p cs → All Plain cs → (r : Run (f .carts) (p .head .drift)) → All (TrueOf (planRows floor f p) r) cs
-    in-runs cs w plain r = all-both (λ c n k. cltl.runs (planRows floor f p) (proper f p files) (p .head .drift) c n k r) cs plain (all-kept cs (w .clauses))
+    in-runs cs w plain r = all-both (λ c n k. cltl.runs (planRows floor f p) (proper floor s fb f p files) (p .head .drift) c n k r) cs plain (all-kept cs (w .clauses))
 
     drifted-read : (d : ℕ) → d ≤ p .head .drift → ReadAs floor (stored s 8 (bytes 2 d)) f (drifted p d)
     drifted-read d less =
@@ -93,14 +92,14 @@ module _ (floor s sheet : List ℕ) (fb : Bytes floor) (pb : Bytes s) where
           no-16 = ⊎-elim (λ z. inl (omega arith))
               (λ x. inr x) (a .1 .no-16);
         })
-        (all-map (λ c k. cltl.smaller (planRows floor f p) (proper f p files) (p .head .drift) d less c 0 k) (a .0) (a .2))
+        (all-map (λ c k. cltl.smaller (planRows floor f p) (proper floor s fb f p files) (p .head .drift) d less c 0 k) (a .0) (a .2))
 
   module _ (f : Floor) (p : PlanNumbers) (files : ReadAs floor s f p) (none : p .head .drift ≡ 0) where
     step-kept : (c : Clause) → TrueInStep (planRows floor f p) c → Kept (planRows floor f p) (p .head .drift) c
-    step-kept c t = subst (λ (d : ℕ). T (rules (planRows floor f p) d c 0)) (sym none) (cltl.in-step (planRows floor f p) (proper f p files) c .1 t)
+    step-kept c t = subst (λ (d : ℕ). T (rules (planRows floor f p) d c 0)) (sym none) (cltl.in-step (planRows floor f p) (proper floor s fb f p files) c .1 t)
 
     kept-step : (c : Clause) → Kept (planRows floor f p) (p .head .drift) c → TrueInStep (planRows floor f p) c
-    kept-step c k = cltl.in-step (planRows floor f p) (proper f p files) c .0 (subst (λ (d : ℕ). T (rules (planRows floor f p) d c 0)) none k)
+    kept-step c k = cltl.in-step (planRows floor f p) (proper floor s fb f p files) c .0 (subst (λ (d : ℕ). T (rules (planRows floor f p) d c 0)) none k)
 
   means : Means floor s sheet (checked floor s sheet ≡ Accepted)
   means = record {
@@ -117,4 +116,14 @@ module _ (floor s sheet : List ℕ) (fb : Bytes floor) (pb : Bytes s) where
   }
 
   pub claims : (v : Verdict) → v ≡ checked floor s sheet → PlanChecked floor s sheet v
-  claims v e = record { verdict = e; means = means-as floor s sheet (λ yes. e ∙ yes, λ yes. sym e ∙ yes) means }
+  claims v e =
+      let m = subst (Meant floor s sheet) (sym e) (meant floor s sheet fb) in
+      record {
+        verdict = e;
+        means = means-as floor s sheet (λ yes. e ∙ yes, λ yes. sym e ∙ yes) means;
+        next-16 = λ k x q. is-16 floor s sheet k x (subst (Meant floor s sheet) q m);
+        fails-17 = λ k x q. is-17 floor s sheet k x (subst (Meant floor s sheet) q m);
+        floor-refused = λ x q. subst (Meant floor s sheet) q m;
+        plan-refused = λ x q. subst (Meant floor s sheet) q m;
+        sheet-refused = λ x q n16 n17. is-sheet floor s sheet x n16 n17 (subst (Meant floor s sheet) q m);
+      }

@@ -17,7 +17,8 @@ use Rattle.grammar.specs.Grammar.{top, Clause}
 use Rattle.cltl.specs.Meaning.{Run, TrueOf, TrueInStep}
 use Rattle.cltl.specs.Rules.{rules}
 use Rattle.plancheck.specs.Check.{planRows, checked}
-use Rattle.plancheck.specs.Promises.{Plain, ReadAndOpen, NoneAhead, PlanChecked}
+use Rattle.plancheck.specs.Meaning.{Plain, Kept, ReadAndOpen, NoneAhead}
+use Rattle.plancheck.specs.Promises.{PlanChecked}
 
 module _ (floor plan sheet : List ℕ) (v : Verdict) (w : PlanChecked floor plan sheet v) (yes : v ≡ Accepted) (f : Floor) (p : PlanNumbers)
     (cs : List Clause) (r : ReadAndOpen floor plan sheet f p cs) where
@@ -41,7 +42,7 @@ module _ (floor plan sheet : List ℕ) (v : Verdict) (w : PlanChecked floor plan
 
   -- with drift: what the rules keep is accepted, and nothing else is
   pub accepted-kept : (f : Floor) (p : PlanNumbers) (cs : List Clause) → NoneAhead floor plan sheet f p cs
-      → All (λ c. T (rules (planRows floor f p) (p .head .drift) c 0)) cs → v ≡ Accepted
+      → All (Kept (planRows floor f p) (p .head .drift)) cs → v ≡ Accepted
   accepted-kept f p cs a all = w .means .kept f p cs a .1 all
 
   -- and "next" outside a count is refused
