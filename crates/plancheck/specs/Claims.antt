@@ -2,7 +2,7 @@
 use Prim.Native.Nat.{ℕ, _≤_}
 use native.Mathlib.Omega.{arith}
 use mathlib.Core.Path.{_≡_, refl, sym, ap, subst, _∙_}
-use mathlib.Core.Logic.{_⊎_, inl, inr, ⊎-elim}
+use mathlib.Core.Logic.{_⊎_, inl, inr, ⊎-elim, _↔_}
 use mathlib.Core.List.{List, [], _∷_}
 use lib.Dec.{T}
 use Rattle.endian.specs.Little.{bytes, Bytes}
@@ -22,12 +22,14 @@ use Rattle.plan.specs.Complete.{file-reads}
 use Rattle.plan.specs.RoundTrip.{valid, bytes-back}
 use Rattle.grammar.specs.Grammar.{Clause}
 use Rattle.grammar.specs.Reader.{accepted, readSheet}
-use Rattle.cltl.specs.Meaning.{Proper, Run, TrueOf, TrueInStep}
+use Rattle.cltl.specs.Meaning.{Run, TrueOf, TrueInStep}
 use Rattle.cltl.specs.Rules.{rules}
 use Rattle.cltl.specs.Promises as cltl
 use Rattle.plancheck.specs.Check.{planRows, clausesOf, checked}
-use Rattle.plancheck.specs.Promises.{Plain, ReadAndOpen, PlanChecked}
-use Rattle.plancheck.specs.Stages.{Kept, accepted-as, as-accepted, accepted-read}
+use Rattle.plancheck.specs.Meaning.{Plain, Kept, ReadAndOpen}
+use Rattle.plancheck.specs.Promises.{Means, PlanChecked}
+use Rattle.plancheck.specs.Stages.{proper, accepted-as, as-accepted, accepted-read}
+use Rattle.plancheck.specs.Refusing.{Meant, meant, is-16, is-17, is-sheet}
 
 -- the plan with another drift
 abbrev drifted : PlanNumbers → ℕ → PlanNumbers
@@ -37,10 +39,17 @@ drifted-file : (p : PlanNumbers) (d : ℕ) → stored (planFile p) 8 (bytes 2 d)
 unfolding layout encoded bytes
 drifted-file p d = refl
 
-module _ (floor s sheet : List ℕ) (fb : Bytes floor) (pb : Bytes s) where
-  proper : (f : Floor) (p : PlanNumbers) → ReadAs floor s f p → Proper (planRows floor f p)
-  proper f p files = record { some = accepts floor f fb (files .floor-read) .valid .some-cart; lap = valid f s p (files .plan-read) .head .stem }
+-- the same of whatever says as much
+pub means-as : (floor s sheet : List ℕ) {yes yes′ : Type 0} → yes ↔ yes′ → Means floor s sheet yes → Means floor s sheet yes′
+means-as floor s sheet same w = record {
+  in-step = λ f p files none. let x = w .in-step f p files none in (λ y. x .0 (same .1 y), λ a. same .0 (x .1 a));
+  kept = λ f p cs a. let x = w .kept f p cs a in (λ y. x .0 (same .1 y), λ k. same .0 (x .1 k));
+  runs = λ y. w .runs (same .1 y);
+  smaller = λ y. w .smaller (same .1 y);
+  readable = λ y. w .readable (same .1 y);
+}
 
+module _ (floor s sheet : List ℕ) (fb : Bytes floor) (pb : Bytes s) where
   same-clauses : (cs cs′ : List Clause) → readSheet sheet ≡ accepted cs → readSheet sheet ≡ accepted cs′ → cs ≡ cs′
   same-clauses cs cs′ e e′ = ap clausesOf (sym e ∙ e′)
 
@@ -51,7 +60,7 @@ module _ (floor s sheet : List ℕ) (fb : Bytes floor) (pb : Bytes s) where
         subst (All (Kept (planRows floor f p) (p .head .drift))) (same-clauses (a .0) cs (a .1 .readable .clauses) e) (a .2)
 
     in-runs : (cs : List Clause) → ReadAndOpen floor s sheet f p cs → All Plain cs → (r : Run (f .carts) (p .head .drift)) → All (TrueOf (planRows floor f p) r) cs
-    in-runs cs w plain r = all-both (λ c n k. cltl.runs (planRows floor f p) (proper f p files) (p .head .drift) c n k r) cs plain (all-kept cs (w .clauses))
+    in-runs cs w plain r = all-both (λ c n k. cltl.runs (planRows floor f p) (proper floor s fb f p files) (p .head .drift) c n k r) cs plain (all-kept cs (w .clauses))
 
     drifted-read : (d : ℕ) → d ≤ p .head .drift → ReadAs floor (stored s 8 (bytes 2 d)) f (drifted p d)
     drifted-read d less =
@@ -83,26 +92,38 @@ module _ (floor s sheet : List ℕ) (fb : Bytes floor) (pb : Bytes s) where
           no-16 = ⊎-elim (λ z. inl (omega arith))
               (λ x. inr x) (a .1 .no-16);
         })
-        (all-map (λ c k. cltl.smaller (planRows floor f p) (proper f p files) (p .head .drift) d less c 0 k) (a .0) (a .2))
+        (all-map (λ c k. cltl.smaller (planRows floor f p) (proper floor s fb f p files) (p .head .drift) d less c 0 k) (a .0) (a .2))
 
   module _ (f : Floor) (p : PlanNumbers) (files : ReadAs floor s f p) (none : p .head .drift ≡ 0) where
     step-kept : (c : Clause) → TrueInStep (planRows floor f p) c → Kept (planRows floor f p) (p .head .drift) c
-    step-kept c t = subst (λ (d : ℕ). T (rules (planRows floor f p) d c 0)) (sym none) (cltl.in-step (planRows floor f p) (proper f p files) c .1 t)
+    step-kept c t = subst (λ (d : ℕ). T (rules (planRows floor f p) d c 0)) (sym none) (cltl.in-step (planRows floor f p) (proper floor s fb f p files) c .1 t)
 
     kept-step : (c : Clause) → Kept (planRows floor f p) (p .head .drift) c → TrueInStep (planRows floor f p) c
-    kept-step c k = cltl.in-step (planRows floor f p) (proper f p files) c .0 (subst (λ (d : ℕ). T (rules (planRows floor f p) d c 0)) none k)
+    kept-step c k = cltl.in-step (planRows floor f p) (proper floor s fb f p files) c .0 (subst (λ (d : ℕ). T (rules (planRows floor f p) d c 0)) none k)
 
-  pub claims : (v : Verdict) → v ≡ checked floor s sheet → PlanChecked floor s sheet v
-  claims v e = record {
-    verdict = e;
+  means : Means floor s sheet (checked floor s sheet ≡ Accepted)
+  means = record {
     in-step = λ f p files none. (
-      λ yes. let a = accepted-as floor s sheet f p files (sym e ∙ yes) in (a .0, a .1 .readable, all-map (kept-step f p files none) (a .0) (a .2)),
-      λ w. e ∙ as-accepted floor s sheet f p (w .0) (record { readable = w .1; no-16 = inl none }) (all-map (step-kept f p files none) (w .0) (w .2)),
+      λ yes. let a = accepted-as floor s sheet f p files yes in (a .0, a .1 .readable, all-map (kept-step f p files none) (a .0) (a .2)),
+      λ w. as-accepted floor s sheet f p (w .0) (record { readable = w .1; no-16 = inl none }) (all-map (step-kept f p files none) (w .0) (w .2)),
     );
-    kept = λ f p cs a. (λ yes. all-kept f p (a .readable .files) (sym e ∙ yes) cs (a .readable .clauses), λ k. e ∙ as-accepted floor s sheet f p cs a k);
-    runs = λ yes f p cs w plain r. in-runs f p (w .files) (sym e ∙ yes) cs w plain r;
-    smaller = λ yes f p files d less. less-drift f p files (sym e ∙ yes) d less;
+    kept = λ f p cs a. (λ yes. all-kept f p (a .readable .files) yes cs (a .readable .clauses), λ k. as-accepted floor s sheet f p cs a k);
+    runs = λ yes f p cs w plain r. in-runs f p (w .files) yes cs w plain r;
+    smaller = λ yes f p files d less. less-drift f p files yes d less;
     readable =
-        λ yes. let w = accepted-read floor s sheet (sym e ∙ yes) in let a = accepted-as floor s sheet (w .0) (w .1) (w .2) (sym e ∙ yes) in
+        λ yes. let w = accepted-read floor s sheet yes in let a = accepted-as floor s sheet (w .0) (w .1) (w .2) yes in
         (w .0, w .1, a .0, a .1);
   }
+
+  pub claims : (v : Verdict) → v ≡ checked floor s sheet → PlanChecked floor s sheet v
+  claims v e =
+      let m = subst (Meant floor s sheet) (sym e) (meant floor s sheet fb) in
+      record {
+        verdict = e;
+        means = means-as floor s sheet (λ yes. e ∙ yes, λ yes. sym e ∙ yes) means;
+        next-16 = λ k x q. is-16 floor s sheet k x (subst (Meant floor s sheet) q m);
+        fails-17 = λ k x q. is-17 floor s sheet k x (subst (Meant floor s sheet) q m);
+        floor-refused = λ x q. subst (Meant floor s sheet) q m;
+        plan-refused = λ x q. subst (Meant floor s sheet) q m;
+        sheet-refused = λ x q n16 n17. is-sheet floor s sheet x n16 n17 (subst (Meant floor s sheet) q m);
+      }

@@ -1,11 +1,13 @@
 -- definitions
 pub mod Check
+pub mod Meaning
 -- promises
 pub mod Promises
 -- worked cases
 pub mod Starred
 -- laws
 pub mod Stages
+pub mod Refusing
 pub mod Claims
 pub mod Demands
 pub mod Lines

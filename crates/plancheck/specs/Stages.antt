@@ -7,6 +7,7 @@ use mathlib.Core.Logic.{_⊎_, inl, inr}
 use mathlib.Core.List.{List, [], _∷_}
 use lib.Dec.{T, eqb}
 use borrow.Author.Tests.{eq-eqb, eqb-true}
+use Rattle.endian.specs.Little.{Bytes}
 use Rattle.refusal.specs.Codes.{refused}
 use Rattle.refusal.specs.Stages.{isAccepted, andThen}
 use Rattle.refusal.specs.Accepting.{both-accepted, stops, goes-on}
@@ -14,6 +15,7 @@ use Rattle.refusal.specs.declared.Refusal.{Refusal}
 use Rattle.refusal.specs.declared.Verdict.{Verdict}
 use Rattle.refusal.specs.declared.Verdict.the-variants.{Accepted, Rules as AboutRules}
 use Rattle.record.specs.All.{All}
+use Rattle.floor.specs.Located.{accepts}
 use Rattle.floor.specs.declared.Floor.{Floor}
 use Rattle.plan.specs.Plan.{PlanNumbers}
 use Rattle.plan.specs.After.{ReadAs}
@@ -25,10 +27,10 @@ use Rattle.grammar.specs.Grammar.{Clause}
 use Rattle.grammar.specs.Reader.{Read, accepted, readSheet}
 use Rattle.grammar.specs.Reader as reader
 use Rattle.sheet.specs.Rules.{readVerdict, rulesVerdict}
-use Rattle.cltl.specs.Meaning.{Rows}
+use Rattle.cltl.specs.Meaning.{Rows, Proper}
 use Rattle.cltl.specs.Rules.{rules, hasNext}
 use Rattle.plancheck.specs.Check.{planRows, clausesOf, nextVerdict, keptVerdict, clausesVerdict, stages, checked}
-use Rattle.plancheck.specs.Promises.{Plain, NoneAhead}
+use Rattle.plancheck.specs.Meaning.{Plain, Kept, NoneAhead}
 
 not-refused : {x : Refusal} → AboutRules x ≡ Accepted → ⊥
 not-refused e = let z : _≡_ {A = ℕ} 0 1 = cc in omega arith
@@ -61,19 +63,16 @@ plain-next n [] a = refl
 plain-next n (c ∷ cs) a = if-false (hasNext c) _ _ (a .0) ∙ plain-next (suc n) cs (a .1)
 
 module _ (P : Rows) (d : ℕ) where
-  abbrev pub Kept : Clause → Type 0
-  Kept c = T (rules P d c 0)
-
   -- no refusal 16
   abbrev pub No16 : List Clause → Type 0
   No16 cs = (d ≡ 0) ⊎ All Plain cs
 
-  verdict-kept : (n : ℕ) (cs : List Clause) → keptVerdict P d n cs ≡ Accepted → All Kept cs
+  verdict-kept : (n : ℕ) (cs : List Clause) → keptVerdict P d n cs ≡ Accepted → All (Kept P d) cs
   unfolding keptVerdict
   verdict-kept n [] e = tt
   verdict-kept n (c ∷ cs) e = let r = passes (rules P d c 0) (keptVerdict P d (suc n) cs) _ e in (r .0, verdict-kept (suc n) cs (r .1))
 
-  kept-verdict : (n : ℕ) (cs : List Clause) → All Kept cs → keptVerdict P d n cs ≡ Accepted
+  kept-verdict : (n : ℕ) (cs : List Clause) → All (Kept P d) cs → keptVerdict P d n cs ≡ Accepted
   unfolding keptVerdict
   kept-verdict n [] a = refl
   kept-verdict n (c ∷ cs) a = if-true (rules P d c 0) _ _ (a .0) ∙ kept-verdict (suc n) cs (a .1)
@@ -93,15 +92,19 @@ module _ (P : Rows) (d : ℕ) where
       go true = refl
       go false = plain-next 0 cs a
 
-  pub clauses-accepted : (cs : List Clause) → clausesVerdict P d cs ≡ Accepted → No16 cs × All Kept cs
+  pub clauses-accepted : (cs : List Clause) → clausesVerdict P d cs ≡ Accepted → No16 cs × All (Kept P d) cs
   clauses-accepted cs e = let r = both-accepted _ (keptVerdict P d 0 cs) e in (is-no-16 cs (r .0), verdict-kept 0 cs (r .1))
 
-  pub accepted-clauses : (cs : List Clause) → No16 cs → All Kept cs → clausesVerdict P d cs ≡ Accepted
+  pub accepted-clauses : (cs : List Clause) → No16 cs → All (Kept P d) cs → clausesVerdict P d cs ≡ Accepted
   accepted-clauses cs s a = ap (λ (v : Verdict). andThen v (keptVerdict P d 0 cs)) (no-16-is cs s) ∙ kept-verdict 0 cs a
 
 pub sheet-read : (r : Read) → readVerdict r ≡ Accepted → r ≡ accepted (clausesOf r)
 sheet-read (reader.accepted cs) e = refl
 sheet-read (reader.refused w k) e = absurd (not-refused e)
+
+pub proper : (floor plan : List ℕ) → Bytes floor → (f : Floor) (p : PlanNumbers) → ReadAs floor plan f p → Proper (planRows floor f p)
+proper floor plan fb f p files =
+    record { some = accepts floor f fb (files .floor-read) .valid .some-cart; lap = valid f plan p (files .plan-read) .head .stem }
 
 module _ (floor plan sheet : List ℕ) where
   abbrev K : Floor → PlanNumbers → Clause → Type 0

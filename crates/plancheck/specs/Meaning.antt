@@ -1,0 +1,87 @@
+-- What the verdicts of the check mean.
+use Prim.Native.Nat.{ℕ, _<_}
+use mathlib.Core.Path.{_≡_}
+use mathlib.Core.Logic.{_⊎_}
+use mathlib.Core.List.{List}
+use lib.Dec.{T}
+use lib.ListN.{length, getD}
+use Rattle.refusal.specs.declared.Refusal.{Refusal}
+use Rattle.refusal.specs.declared.Verdict.the-variants.{Plan as AboutPlan, Rules as AboutRules}
+use Rattle.record.specs.All.{All}
+use Rattle.floor.specs.Floor.{readFloor}
+use Rattle.floor.specs.declared.Floor.{Floor}
+use Rattle.floor.specs.declared.FloorAnswer.the-variants.{Read as FloorAccepted}
+use Rattle.plan.specs.Plan.{PlanNumbers, rejected, readPlan}
+use Rattle.plan.specs.After.{ReadAs}
+use Rattle.moves.specs.Promises.{AllUnending, Moving, FirstRefused}
+use Rattle.grammar.specs.Grammar.{top, gl, Clause}
+use Rattle.grammar.specs.Reader.{accepted, readSheet}
+use Rattle.sheet.specs.Rules.{rulesVerdict}
+use Rattle.cltl.specs.Meaning.{Rows}
+use Rattle.cltl.specs.Rules.{rules, hasNext}
+use Rattle.plancheck.specs.Check.{planRows}
+
+-- "next" only inside counts
+abbrev pub Plain : Clause → Type 0
+Plain c = T (hasNext c) → ⊥
+
+module _ (P : Rows) (d : ℕ) where
+  -- true at step 0 by the drift rules
+  abbrev pub Kept : Clause → Type 0
+  Kept c = T (rules P d c 0)
+
+  -- s is the lowest step where a fails by the drift rules
+  pub record LowestFailing (a : Clause) (s : ℕ) : Type 0 where
+    pub inside : s < P .h
+    pub fails : T (rules P d a s) → ⊥
+    pub before : (j : ℕ) → j < s → T (rules P d a j)
+
+  -- "The step is the lowest where the body fails if the clause's outermost operator is G, else 0."
+  pub record FailingStep (c : Clause) (s : ℕ) : Type 0 where
+    pub globally : (a : Clause) → c ≡ gl a → LowestFailing a s
+    pub otherwise : ((a : Clause) → c ≡ gl a → ⊥) → s ≡ 0
+
+module _ (floor plan : List ℕ) where
+  -- about the plan: refused as it is read, or, once read, as the first cart is whose moves are refused
+  abbrev pub PlanRefused : Refusal → Type 0
+  PlanRefused x =
+      (f : Floor) × (readFloor floor ≡ FloorAccepted f)
+      × ((readPlan f plan ≡ rejected x) ⊎ ((p : PlanNumbers) × ReadAs floor plan f p × FirstRefused floor f p (AboutPlan x)))
+
+module _ (floor plan sheet : List ℕ) where
+  -- floor, plan and sheet can be read, the plan begins at its carts' starts, and its moves are open at every counter
+  pub record ReadAndOpen (f : Floor) (p : PlanNumbers) (cs : List Clause) : Type 0 where
+    pub files : ReadAs floor plan f p
+    pub moves : AllUnending floor f p
+    pub clauses : readSheet sheet ≡ accepted cs
+
+  -- "Ahead of the clauses stand all refusals of the check but 17": there is none
+  pub record NoneAhead (f : Floor) (p : PlanNumbers) (cs : List Clause) : Type 0 where
+    pub readable : ReadAndOpen f p cs
+    pub no-16 : (p .head .drift ≡ 0) ⊎ All Plain cs
+
+  -- "16 with d above 0, X outside a count (lowest clause, 0)": floor, plan, moves and sheet are not refused, and clause k is the lowest
+  pub record Next16 (k : ℕ) : Type 0 where
+    pub floor-is : Floor
+    pub numbers : PlanNumbers
+    pub clauses : List Clause
+    pub readable : ReadAndOpen floor-is numbers clauses
+    pub drift : 0 < numbers .head .drift
+    pub there : k < length clauses
+    pub next : T (hasNext (getD clauses k top))
+    pub before : (j : ℕ) → j < k → Plain (getD clauses j top)
+
+  -- "17, lowest clause not true (clause, step)": nothing is refused ahead, every clause before k is kept, and k is not
+  pub record Fails17 (k s : ℕ) : Type 0 where
+    pub floor-is : Floor
+    pub numbers : PlanNumbers
+    pub clauses : List Clause
+    pub ahead : NoneAhead floor-is numbers clauses
+    pub there : k < length clauses
+    pub not-kept : Kept (planRows floor floor-is numbers) (numbers .head .drift) (getD clauses k top) → ⊥
+    pub before : (j : ℕ) → j < k → Kept (planRows floor floor-is numbers) (numbers .head .drift) (getD clauses j top)
+    pub step : FailingStep (planRows floor floor-is numbers) (numbers .head .drift) (getD clauses k top) s
+
+  -- about the sheet: its moves are open without end, and the sheet is refused as it is read
+  abbrev pub SheetRefused : Refusal → Type 0
+  SheetRefused x = Moving floor plan × (AboutRules x ≡ rulesVerdict sheet)
