@@ -1,18 +1,12 @@
 -- The reader on short sheets, and the level of one, by computation.
 use Prim.Native.Nat.{ℕ, zero, suc}
-use Prim.Native.Char.{code}
-use Prim.Native.String.{String, [] as end, _∷_ as _then_}
+use Prim.Native.String.{String}
 use mathlib.Core.Path.{_≡_, refl}
 use mathlib.Core.Bool.{true, false}
 use mathlib.Core.List.{List, [], _∷_, _++_}
-use Rattle.grammar.specs.Grammar.{Part, word, parens, one-small, one-until, one-and, Spaces.none, Rank, top, leaf, neg, and, or, until, release, Inner, counted, Count, Clause}
+use Rattle.grammar.specs.Grammar.{bytes, Part, word, parens, one-small, one-until, one-and, Spaces.none, Rank, top, leaf, neg, and, or, until, release, Inner, counted, Count, Clause}
 use Rattle.grammar.specs.Limits.{level, countLevel}
 use Rattle.grammar.specs.Reader.{bind, node, skip, expectAt, expect, literal, digits, number, percent, chainAt, chainMore, chain, andChain, orChain, byKind, smallAt, smallOf, byOnward, untilAt, untilOf, deeper, smalls, untils, ors, markBy, marks, inners, countEnd, countBy, counts, clauses, clauseLine, lines, Read, accepted, refused, outcome, start, readSheet}
-
--- a text's bytes
-abbrev bytes : String → List ℕ
-bytes end = []
-bytes (c then s) = code c ∷ bytes s
 
 -- the bytes of s, k times
 abbrev times : ℕ → String → List ℕ
