@@ -5,8 +5,9 @@ use mathlib.Core.Path.{_≡_}
 use mathlib.Core.Logic.{_⊎_}
 use mathlib.Core.Bool.{Bool}
 use mathlib.Core.List.{List, _∷_, _++_}
-use lib.ListN.{length, take, drop}
+use lib.ListN.{length, take, drop, getD}
 use Rattle.grammar.specs.Grammar.{bytes, Spaces, Number, Percent, Prefix, prefixByte, Reach, reachByte, Clause, Sheet}
+use Rattle.grammar.specs.Begun.{begun, TooMany}
 use Rattle.grammar.specs.Limits.{most, Sized, Ranged, Fits, FewLines, FewBytes}
 
 -- accepted: a sheet of the grammar, within the limits
@@ -66,6 +67,10 @@ pub record Allowed (s : List ℕ) (k : ℕ) : Type 0 where
   pub last : ℕ
   pub token : Token (drop k s) (drop last s)
   pub begins : Begins (take last s)
+
+-- "14 a token past a limit, or the first byte of the 33rd line": it would be the 129th node, or open level 33, or 32 lines stand before
+abbrev pub Over : List ℕ → ℕ → Type 0
+Over s k = ((k < length s) × (begun s k .lines ≡ 32)) ⊎ (Allowed s k × TooMany (begun s k) (getD s k 0))
 
 -- a whole number out of range from its first byte r to what is left, behind a mark's `m`, or behind a count's `,` and spaces
 pub data Large : List ℕ → List ℕ → List ℕ → Type 0 where

@@ -16,8 +16,8 @@ times (suc k) s = bytes s ++ times k s
 -- the definitions that a reading computes with, under one name
 reading : List ℕ → Read
 unfolding
-    bind node skip expectAt expect literal digits number percent chainAt chainMore chain andChain orChain byKind smallAt smallOf byOnward untilAt untilOf deeper smalls untils ors markBy marks inners
-    countEnd countBy counts clauses clauseLine lines outcome start readSheet
+    bind node skip expectAt expect literal digits number percent chainAt chainMore chain andChain orChain byKind smallAt smallOf byOnward untilAt untilOf
+    deeper smalls untils ors markBy marks inners countEnd countBy counts clauses clauseLine lines outcome start readSheet
 reading s = readSheet s
 
 abbrev one : Inner → Read
@@ -65,6 +65,7 @@ pub worked :
     × (readSheet (times 32 "true\n") ≡ accepted (lines-of 32))
     × (readSheet (times 33 "true\n") ≡ refused 14 160)
     × (readSheet (times 32 "true\n" ++ bytes "x") ≡ refused 14 160)
+    × (readSheet (times 32 "true\n" ++ bytes " true\n") ≡ refused 14 160)
     × (readSheet (times 16384 " ") ≡ refused 13 16384)
     × (readSheet (times 16385 " ") ≡ refused 12 0))
     -- marks to 31, numbers to 999, percentages to 100, without leading zeros; each line ended; some line
@@ -79,7 +80,7 @@ pub worked :
 unfolding reading
 worked = (
   (refl, refl, refl, refl, refl, refl, refl, refl),
-  (refl, refl, refl, refl, refl, refl, refl, refl, refl, refl, refl, refl, refl, refl, refl, refl, refl, refl),
+  (refl, refl, refl, refl, refl, refl, refl, refl, refl, refl, refl, refl, refl, refl, refl, refl, refl, refl, refl),
   (refl, refl, refl, refl, refl, refl, refl, refl),
 )
 

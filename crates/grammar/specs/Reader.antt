@@ -74,7 +74,9 @@ abbrev pub kind : ℕ → Kind
 kind b =
     pick (eqb b (code "t")) word
     (pick (eqb b (code "(")) paren
-    (pick (eqb b (code "!")) (prefix not) (pick (eqb b (code "X")) (prefix next) (pick (eqb b (code "F")) (prefix finally) (pick (eqb b (code "G")) (prefix globally) other)))))
+    (pick (eqb b (code "!")) (prefix not)
+    (pick (eqb b (code "X")) (prefix next)
+    (pick (eqb b (code "F")) (prefix finally) (pick (eqb b (code "G")) (prefix globally) other)))))
 
 pub data Onward : Type 0 where
   stop : Onward
