@@ -1,4 +1,5 @@
--- The reader of a sheet is sound: what it accepts is in the grammar and within the limits; and what it refuses could have gone on up to there, by 14 and 15 with a whole token.
+-- The reader of a sheet is sound: what it accepts is in the grammar and within the limits; and what it refuses could have gone on up to there,
+-- by 14 and 15 with a whole token.
 use Prim.Native.Nat.{ℕ, zero, suc, _+_, _-_, _≤_, _<_}
 use mathlib.Core.Path.{_≡_, refl, ap, subst, sym, _∙_}
 use mathlib.Core.Logic.{_⊎_, inl, inr, ⊎-elim}
@@ -361,7 +362,7 @@ begins-at {v = v} {cs = cs} x d = (v, cs, rw (swap-take x) d)
 near-at : {u v s t : List ℕ} {cs : List Clause} → Swap u v s t → (d : Sheet t cs) → Ranged d → BeginsInRange (take (length s - length u) s)
 near-at {v = v} {cs = cs} x d ok = let z = subst (λ (y : List ℕ). (c : Sheet y cs) × Ranged c) (sym (swap-take x)) (d, ok) in (v, cs, z .0, z .1)
 
-code-not : (n w : ℕ) → (13 ≤ n → n ≤ 15 → ⊥) → InSheet w → w ≡ n → ⊥
+pub code-not : (n w : ℕ) → (13 ≤ n → n ≤ 15 → ⊥) → InSheet w → w ≡ n → ⊥
 code-not n w h c e = ⊎-elim (λ i. h (omega arith) (omega arith)) (⊎-elim (λ i. h (omega arith) (omega arith)) (λ i. h (omega arith) (omega arith))) c
 
 append-nil : (l : List ℕ) → l ++ [] ≡ l

@@ -1,11 +1,13 @@
 -- What an answer means, in the words of the grammar and the limits.
 use Prim.Native.Nat.{ℕ, _≤_, _<_}
+use Prim.Native.Char.{code}
 use mathlib.Core.Path.{_≡_}
 use mathlib.Core.Logic.{_⊎_}
 use mathlib.Core.Bool.{Bool}
 use mathlib.Core.List.{List, _∷_, _++_}
-use lib.ListN.{length, take, drop}
-use Rattle.grammar.specs.Grammar.{Spaces, Number, Percent, Prefix, prefixByte, Reach, reachByte, Clause, Sheet}
+use lib.ListN.{length, take, drop, getD}
+use Rattle.grammar.specs.Grammar.{bytes, Spaces, Number, Percent, Prefix, prefixByte, Reach, reachByte, Clause, Sheet}
+use Rattle.grammar.specs.Begun.{begun, TooMany}
 use Rattle.grammar.specs.Limits.{most, Sized, Ranged, Fits, FewLines, FewBytes}
 
 -- accepted: a sheet of the grammar, within the limits
@@ -51,14 +53,14 @@ pub record WholePercent (s r : List ℕ) (p : Bool) : Type 0 where
 
 -- a whole token that is a node or makes a level, from its first byte to what is left
 pub data Token : List ℕ → List ℕ → Type 0 where
-  word : {r : List ℕ} → Token (116 ∷ 114 ∷ 117 ∷ 101 ∷ r) r
-  mark : {s r : List ℕ} {n : ℕ} → WholeNumber s r n → Token (109 ∷ s) r
-  paren : {r : List ℕ} → Token (40 ∷ r) r
-  bracket : {r : List ℕ} → Token (91 ∷ r) r
+  word : {r : List ℕ} → Token (bytes "true" ++ r) r
+  mark : {s r : List ℕ} {n : ℕ} → WholeNumber s r n → Token (code "m" ∷ s) r
+  paren : {r : List ℕ} → Token (code "(" ∷ r) r
+  bracket : {r : List ℕ} → Token (code "[" ∷ r) r
   prefix : {r : List ℕ} (o : Prefix) → Token (prefixByte o ∷ r) r
   reach : {r : List ℕ} (o : Reach) → Token (reachByte o ∷ r) r
-  and : {r : List ℕ} → Token (38 ∷ r) r
-  or : {r : List ℕ} → Token (124 ∷ r) r
+  and : {r : List ℕ} → Token (code "&" ∷ r) r
+  or : {r : List ℕ} → Token (code "|" ∷ r) r
 
 -- 14: one stands at k, and a sheet of the grammar begins with the bytes up to its end
 pub record Allowed (s : List ℕ) (k : ℕ) : Type 0 where
@@ -66,10 +68,14 @@ pub record Allowed (s : List ℕ) (k : ℕ) : Type 0 where
   pub token : Token (drop k s) (drop last s)
   pub begins : Begins (take last s)
 
+-- "14 a token past a limit, or the first byte of the 33rd line": it would be the 129th node, or open level 33, or 32 lines stand before
+abbrev pub Over : List ℕ → ℕ → Type 0
+Over s k = ((k < length s) × (begun s k .lines ≡ 32)) ⊎ (Allowed s k × TooMany (begun s k) (getD s k 0))
+
 -- a whole number out of range from its first byte r to what is left, behind a mark's `m`, or behind a count's `,` and spaces
 pub data Large : List ℕ → List ℕ → List ℕ → Type 0 where
-  mark : {r r₁ : List ℕ} {n : ℕ} → WholeNumber r r₁ n → 31 < n → Large (109 ∷ r) r r₁
-  count : {q r r₁ r₂ : List ℕ} {n : ℕ} {p : Bool} → Spaces q r → WholeNumber r r₁ n → WholePercent r₁ r₂ p → most p < n → Large (44 ∷ q) r r₂
+  mark : {r r₁ : List ℕ} {n : ℕ} → WholeNumber r r₁ n → 31 < n → Large (code "m" ∷ r) r r₁
+  count : {q r r₁ r₂ : List ℕ} {n : ℕ} {p : Bool} → Spaces q r → WholeNumber r r₁ n → WholePercent r₁ r₂ p → most p < n → Large (code "," ∷ q) r r₂
 
 -- 15: one stands at k, and a sheet of the grammar begins with the bytes up to its end, but none whose numbers are in range
 pub record OutOfRange (s : List ℕ) (k : ℕ) : Type 0 where

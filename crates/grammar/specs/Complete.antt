@@ -155,7 +155,7 @@ module _ (u u' : List ℕ) (same : SameHead u u') where
       ⊎-elim (λ z. inl (91, z .0, z .1, refl, bracket-agrees l n (z .0) s₁' s₂' s₃' s₄' s₅' s₆' t' a k p i c d e f g (z .2))) (λ z. inr z)
       (token u u' same (λ q. omega arith) near o)
 
-  clauses-agrees : (l : ℕ) → Agrees u u' same Count countLevel countNodes CountOk Rank.ors l (clauses l)
+  pub clauses-agrees : (l : ℕ) → Agrees u u' same Count countLevel countNodes CountOk Rank.ors l (clauses l)
   unfolding clauses
   clauses-agrees l = ors-agrees u u' same Count countLevel countNodes CountOk counts counts-agrees counts-short l
 
@@ -214,7 +214,7 @@ module _ (u u' : List ℕ) (same : SameHead u u') where
       (λ w r z. fault-map u u' same (λ o. (o .0 .0, o .0 .1)) (λ o. o .0) z))))
 
 ---- (b) A sheet of the grammar that is within the limits is accepted, and as it is there.
-itself : (s : List ℕ) → Swap [] [] s s
+pub itself : (s : List ℕ) → Swap [] [] s s
 itself [] = here
 itself (b ∷ s) = there (itself s)
 
@@ -255,7 +255,7 @@ pub record RefusedAt (s : List ℕ) (k w : ℕ) : Type 0 where
   pub over : w ≡ 14 → Beyond (take (suc k) s)
   pub there : w ≡ 14 → k < length s
 
-denied : {A : Type 0} {P : A → ℕ → List ℕ → Type 0} {Q : ℕ → List ℕ → Type 0} {w : ℕ} {r : List ℕ} → Each P Q (no w r) → Q w r
+pub denied : {A : Type 0} {P : A → ℕ → List ℕ → Type 0} {Q : ℕ → List ℕ → Type 0} {w : ℕ} {r : List ℕ} → Each P Q (no w r) → Q w r
 denied (denies q) = q
 
 none-of : (s : List ℕ) (w : ℕ) (r : List ℕ) → lines 32 s ≡ no w r → w ≡ 13 → (cs : List Clause) → Sheet s cs → ⊥
@@ -264,7 +264,8 @@ none-of s w r e i cs d =
     let z = denied y .past i in
     omega arith
 
-at-byte : (s : List ℕ) (w : ℕ) (r : List ℕ) → lines 32 s ≡ no w r → (v t : List ℕ) → Swap r v s t → (w ≡ 14 → 0 < length r) → RefusedAt s (length s - length r) w
+at-byte : (s : List ℕ) (w : ℕ) (r : List ℕ) → lines 32 s ≡ no w r → (v t : List ℕ) → Swap r v s t → (w ≡ 14 → 0 < length r)
+    → RefusedAt s (length s - length r) w
 at-byte s w [] e v t x f =
     record { stuck = λ i j. absurd (omega arith); ends = none-of s w [] e; over = λ i. absurd (omega (arith, f i)); there = λ i. absurd (omega (arith, f i)) }
 at-byte s w (b ∷ q) e v t x f = record {

@@ -62,7 +62,7 @@ pub data Keeps (m : Mode) (w : ℕ) (r : List ℕ) : List ℕ → List ℕ → T
   keeps-15 : {q v r₁ v₁ : List ℕ} → m ≡ whole → w ≡ 15 → Large q r r₁ → Swap r₁ v₁ q v → Keeps m w r q v
 
 module _ {L : Type 0} (Leaf : List ℕ → List ℕ → L → Type 0) (frame-leaf : (s r : List ℕ) (x : L) → Leaf s r x → Framed (λ s r. Leaf s r x) s r) where
-  pub frame : {k : Rank} {s r : List ℕ} {a : Form L} → Part Leaf k s r a → Framed (λ s r. Part Leaf k s r a) s r
+  unfoldable pub frame : {k : Rank} {s r : List ℕ} {a : Form L} → Part Leaf k s r a → Framed (λ s r. Part Leaf k s r a) s r
   frame (word x) t = let y = frame-spaces x (116 ∷ 114 ∷ 117 ∷ 101 ∷ t) in (y .0, swap-trans (y .1) (there (there (there (there here)))), word (y .2))
   frame (parens x p y) t =
       let c = frame-token y t in
@@ -90,10 +90,10 @@ module _ {L : Type 0} (Leaf : List ℕ → List ℕ → L → Type 0) (frame-lea
       let a = frame p (b .0) in
       (a .0, swap-trans (a .1) (swap-trans (b .1) (c .1)), Part.or (a .2) (b .2) (c .2))
 
-pub frame-mark : (s r : List ℕ) (k : ℕ) → Mark s r k → Framed (λ s r. Mark s r k) s r
+unfoldable pub frame-mark : (s r : List ℕ) (k : ℕ) → Mark s r k → Framed (λ s r. Mark s r k) s r
 frame-mark s r k (mark x n) t = let b = frame-number n t in let a = frame-token x (b .0) in (a .0, swap-trans (a .1) (b .1), mark (a .2) (b .2))
 
-pub frame-count : (s r : List ℕ) (x : Counted) → Count s r x → Framed (λ s r. Count s r x) s r
+unfoldable pub frame-count : (s r : List ℕ) (x : Counted) → Count s r x → Framed (λ s r. Count s r x) s r
 frame-count s r x (count o p c d e f g) t =
     let g' = frame-token g t in
     let f' = frame-percent f (g' .0) in

@@ -1,18 +1,12 @@
 -- The reader on short sheets, and the level of one, by computation.
 use Prim.Native.Nat.{ℕ, zero, suc}
-use Prim.Native.Char.{code}
-use Prim.Native.String.{String, [] as end, _∷_ as _then_}
+use Prim.Native.String.{String}
 use mathlib.Core.Path.{_≡_, refl}
 use mathlib.Core.Bool.{true, false}
 use mathlib.Core.List.{List, [], _∷_, _++_}
-use Rattle.grammar.specs.Grammar.{Part, word, parens, one-small, one-until, one-and, Spaces.none, Rank, top, leaf, neg, and, or, until, Inner, counted, Count}
+use Rattle.grammar.specs.Grammar.{bytes, Part, word, parens, one-small, one-until, one-and, Spaces.none, Rank, top, leaf, neg, and, or, until, release, Inner, counted, Count, Clause}
 use Rattle.grammar.specs.Limits.{level, countLevel}
 use Rattle.grammar.specs.Reader.{bind, node, skip, expectAt, expect, literal, digits, number, percent, chainAt, chainMore, chain, andChain, orChain, byKind, smallAt, smallOf, byOnward, untilAt, untilOf, deeper, smalls, untils, ors, markBy, marks, inners, countEnd, countBy, counts, clauses, clauseLine, lines, Read, accepted, refused, outcome, start, readSheet}
-
--- a text's bytes
-abbrev bytes : String → List ℕ
-bytes end = []
-bytes (c then s) = code c ∷ bytes s
 
 -- the bytes of s, k times
 abbrev times : ℕ → String → List ℕ
@@ -22,90 +16,73 @@ times (suc k) s = bytes s ++ times k s
 -- the definitions that a reading computes with, under one name
 reading : List ℕ → Read
 unfolding
-    bind node skip expectAt expect literal digits number percent chainAt chainMore chain andChain orChain byKind smallAt smallOf byOnward untilAt untilOf deeper smalls untils ors markBy marks inners
-    countEnd countBy counts clauses clauseLine lines outcome start readSheet
+    bind node skip expectAt expect literal digits number percent chainAt chainMore chain andChain orChain byKind smallAt smallOf byOnward untilAt untilOf
+    deeper smalls untils ors markBy marks inners countEnd countBy counts clauses clauseLine lines outcome start readSheet
 reading s = readSheet s
 
 abbrev one : Inner → Read
 one a = accepted (leaf (counted a 1 false) ∷ [])
 
-pub mark-1 : readSheet (bytes "[m1,1]\n") ≡ one (leaf 1)
-unfolding reading
-mark-1 = refl
+-- `true` in a chain of k `&`, behind k `!`, and on k lines
+abbrev ands : ℕ → Clause
+ands zero = top
+ands (suc k) = and (ands k) top
 
-pub two-lines : readSheet (bytes "true\n ! true \n") ≡ accepted (top ∷ neg top ∷ [])
-unfolding reading
-two-lines = refl
+abbrev nots : ℕ → Clause
+nots zero = top
+nots (suc k) = neg (nots k)
 
--- "the chain U/R grouping to the right, the others to the left"
-pub untils-right : readSheet (bytes "[m0 U m1 U m2,1]\n") ≡ one (until (leaf 0) (until (leaf 1) (leaf 2)))
-unfolding reading
-untils-right = refl
+abbrev lines-of : ℕ → List Clause
+lines-of zero = []
+lines-of (suc k) = top ∷ lines-of k
 
-pub ands-left : readSheet (bytes "[m0 & m1 & m2,1]\n") ≡ one (and (and (leaf 0) (leaf 1)) (leaf 2))
+-- The worked cases, one table.
+pub worked :
+    -- what a text means: "the chain U/R grouping to the right, the others to the left"; `|` over `&` over `U` and `R`
+    ((readSheet (bytes "[m1,1]\n") ≡ one (leaf 1))
+    × (readSheet (bytes "true\n ! true \n") ≡ accepted (top ∷ neg top ∷ []))
+    × (readSheet (bytes "[m0 R m1,1]\n") ≡ one (release (leaf 0) (leaf 1)))
+    × (readSheet (bytes "[m0 U m1 U m2,1]\n") ≡ one (until (leaf 0) (until (leaf 1) (leaf 2))))
+    × (readSheet (bytes "[m0 & m1 & m2,1]\n") ≡ one (and (and (leaf 0) (leaf 1)) (leaf 2)))
+    × (readSheet (bytes "[m0 | m1 | m2,1]\n") ≡ one (or (or (leaf 0) (leaf 1)) (leaf 2)))
+    × (readSheet (bytes "[m0 | m1 & m2 U m3,1]\n") ≡ one (or (leaf 0) (and (leaf 1) (until (leaf 2) (leaf 3)))))
+    × (readSheet (bytes "[m31,999]\n[m31,100%]\n") ≡ accepted (leaf (counted (leaf 31) 999 false) ∷ leaf (counted (leaf 31) 100 true) ∷ [])))
+    -- exactly 128 nodes, level 32, 32 lines and 16,384 bytes are taken, and one more is refused at its first byte: 63 times `true&` are 126 nodes,
+    -- and `[`, `!` and `U` count at their own byte. A mark out of range that is a node too many is 14, one without its number 13, a 33rd line 14 by any byte.
+    × ((readSheet (times 63 "true&" ++ bytes "[m1,1]\n") ≡ accepted (and (ands 62) (leaf (counted (leaf 1) 1 false)) ∷ []))
+    × (readSheet (times 63 "true&" ++ bytes "[!m1,1]\n") ≡ refused 14 317)
+    × (readSheet (times 63 "true&" ++ bytes "[!m32,1]\n") ≡ refused 14 317)
+    × (readSheet (times 63 "true&" ++ bytes "[!m,1]\n") ≡ refused 13 318)
+    × (readSheet (times 63 "true&" ++ bytes "!!!true\n") ≡ refused 14 317)
+    × (readSheet (times 63 "true&" ++ bytes "true U true\n") ≡ refused 14 322)
+    × (readSheet (times 64 "true&" ++ bytes "truex\n") ≡ refused 14 320)
+    × (readSheet (times 64 "true&" ++ bytes "[m1,1]\n") ≡ refused 14 320)
+    × (readSheet (times 32 "!" ++ bytes "true\n") ≡ accepted (nots 32 ∷ []))
+    × (readSheet (times 33 "!" ++ bytes "true\n") ≡ refused 14 32)
+    × (readSheet (times 32 "!" ++ bytes "[m0,1]\n") ≡ refused 14 32)
+    × (readSheet (times 31 "!" ++ bytes "(true U true)\n") ≡ refused 14 37)
+    × (readSheet (times 33 "true U " ++ bytes "true\n") ≡ refused 14 229)
+    × (readSheet (times 32 "true\n") ≡ accepted (lines-of 32))
+    × (readSheet (times 33 "true\n") ≡ refused 14 160)
+    × (readSheet (times 32 "true\n" ++ bytes "x") ≡ refused 14 160)
+    × (readSheet (times 32 "true\n" ++ bytes " true\n") ≡ refused 14 160)
+    × (readSheet (times 16384 " ") ≡ refused 13 16384)
+    × (readSheet (times 16385 " ") ≡ refused 12 0))
+    -- marks to 31, numbers to 999, percentages to 100, without leading zeros; each line ended; some line
+    × ((readSheet (bytes "[m01,1]\n") ≡ refused 13 3)
+    × (readSheet (bytes "[m32,1]\n") ≡ refused 15 2)
+    × (readSheet (bytes "[m0,1000]\n") ≡ refused 15 4)
+    × (readSheet (bytes "[m0,1000x") ≡ refused 15 4)
+    × (readSheet (bytes "[m0,101%]\n") ≡ refused 15 4)
+    × (readSheet (bytes "[m0,1 %]\n") ≡ refused 13 6)
+    × (readSheet (bytes "[m1,1]") ≡ refused 13 6)
+    × (readSheet (bytes "") ≡ refused 7 0))
 unfolding reading
-ands-left = refl
-
-pub ors-left : readSheet (bytes "[m0 | m1 | m2,1]\n") ≡ one (or (or (leaf 0) (leaf 1)) (leaf 2))
-unfolding reading
-ors-left = refl
-
--- "an or-chain with `|` over and-chains with `&` over until-chains"
-pub ranks : readSheet (bytes "[m0 | m1 & m2 U m3,1]\n") ≡ one (or (leaf 0) (and (leaf 1) (until (leaf 2) (leaf 3))))
-unfolding reading
-ranks = refl
-
--- 126 nodes, `[` and `!`: the mark would be the 129th. Whole it is 14 at its m, and without its number 13 at the byte behind.
-pub whole-mark-14 : readSheet (times 63 "true&" ++ bytes "[!m1,1]\n") ≡ refused 14 317
-unfolding reading
-whole-mark-14 = refl
-
-pub cut-mark-13 : readSheet (times 63 "true&" ++ bytes "[!m,1]\n") ≡ refused 13 318
-unfolding reading
-cut-mark-13 = refl
-
--- the 33rd `!` is one level too many, and the 33rd line one too many
-pub level-33 : readSheet (times 33 "!" ++ bytes "true\n") ≡ refused 14 32
-unfolding reading
-level-33 = refl
-
-pub line-33 : readSheet (times 33 "true\n") ≡ refused 14 160
-unfolding reading
-line-33 = refl
-
--- marks to 31, numbers to 999, percentages to 100, without leading zeros
-pub largest : readSheet (bytes "[m31,999]\n[m31,100%]\n") ≡ accepted (leaf (counted (leaf 31) 999 false) ∷ leaf (counted (leaf 31) 100 true) ∷ [])
-unfolding reading
-largest = refl
-
-pub leading-zero : readSheet (bytes "[m01,1]\n") ≡ refused 13 3
-unfolding reading
-leading-zero = refl
-
-pub mark-32 : readSheet (bytes "[m32,1]\n") ≡ refused 15 2
-unfolding reading
-mark-32 = refl
-
-pub number-1000 : readSheet (bytes "[m0,1000]\n") ≡ refused 15 4
-unfolding reading
-number-1000 = refl
-
-pub percent-101 : readSheet (bytes "[m0,101%]\n") ≡ refused 15 4
-unfolding reading
-percent-101 = refl
-
-pub space-before-percent : readSheet (bytes "[m0,1 %]\n") ≡ refused 13 6
-unfolding reading
-space-before-percent = refl
-
--- no byte 10 at the end, and no byte at all
-pub line-not-ended : readSheet (bytes "[m1,1]") ≡ refused 13 6
-unfolding reading
-line-not-ended = refl
-
-pub empty-sheet : readSheet (bytes "") ≡ refused 7 0
-unfolding reading
-empty-sheet = refl
+worked = (
+  (refl, refl, refl, refl, refl, refl, refl, refl),
+  (refl, refl, refl, refl, refl, refl, refl, refl, refl, refl, refl, refl, refl, refl, refl, refl, refl, refl, refl),
+  (refl, refl, refl, refl, refl, refl, refl, refl),
+)
 
 -- the level of `(true)&(true)`, as the limits have it: the `)` gives it back
 abbrev in-parens : {r : List ℕ} → Part Count Rank.untils (bytes "(true)" ++ r) r top

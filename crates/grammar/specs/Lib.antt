@@ -3,6 +3,7 @@ pub mod Grammar
 pub mod Limits
 pub mod Reader
 pub mod Nodes
+pub mod Begun
 pub mod Answers
 -- promises
 pub mod Promises
@@ -16,6 +17,9 @@ pub mod Agree
 pub mod Ranges
 pub mod Accepts
 pub mod Complete
+pub mod Tracks
+pub mod First
+pub mod Full
 pub mod Steps
 -- worked cases
 pub mod Examples

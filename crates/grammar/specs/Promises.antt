@@ -10,8 +10,10 @@ use Rattle.grammar.specs.Limits.{nodes, countNodes, Fits, FewLines, FewB
 use Rattle.grammar.specs.Nodes.{Node, flatClause, Stands, StandsCount}
 use Rattle.grammar.specs.Standing.{clause-stands, clause-length}
 use Rattle.grammar.specs.Reader.{accepted, refused, readSheet}
-use Rattle.grammar.specs.Answers.{Accepted, InSheet, RefusedBy, BeginsInRange, Never, Beyond, Allowed, OutOfRange}
+use Rattle.grammar.specs.Answers.{Accepted, InSheet, RefusedBy, BeginsInRange, Never, Beyond, Allowed, Over, OutOfRange}
 use Rattle.grammar.specs.Accepts.{sound, before-in-range, allowed-14, out-15}
+use Rattle.grammar.specs.First.{past-14, first-14, none-over}
+use Rattle.grammar.specs.Full.{line-33}
 use Rattle.grammar.specs.Complete.{complete, stuck-13, over-14, codes, long-12}
 
 pub record Promises (s : List ℕ) : Type 0 where
@@ -31,6 +33,12 @@ pub record Promises (s : List ℕ) : Type 0 where
   -- 14: a whole token that the grammar allows there, or the 33rd line; with its first byte every sheet is past the limit on levels, nodes or lines
   pub token-14 : (k : ℕ) → readSheet s ≡ refused 14 k → Allowed s k ⊎ ((cs : List Clause) × Sheet (take k s) cs × (length cs ≡ 32))
   pub over-14 : (k : ℕ) → readSheet s ≡ refused 14 k → (k < length s) × Beyond (take (suc k) s)
+  -- the first such: "at an equal offset 14, 15, 13"; and what is accepted has none
+  pub past-14 : (k : ℕ) → readSheet s ≡ refused 14 k → Over s k
+  pub first-14 : (w k j : ℕ) → InSheet w → readSheet s ≡ refused w k → j ≤ k → Over s j → (w ≡ 14) × (j ≡ k)
+  pub none-over : (cs : List Clause) → readSheet s ≡ accepted cs → (j : ℕ) → Over s j → ⊥
+  -- the 33rd line, whatever byte it begins with
+  pub line-33 : (k : ℕ) (cs : List Clause) (d : Sheet (take k s) cs) → Fits d → length cs ≡ 32 → k < length s → FewBytes s → readSheet s ≡ refused 14 k
   -- 15: the first byte of a number out of range, whole with its `%`, in a mark its first digit, that the grammar allows there
   pub number-15 : (k : ℕ) → readSheet s ≡ refused 15 k → OutOfRange s k
 
@@ -48,5 +56,9 @@ promises s = record {
   stuck-13 = stuck-13 s;
   token-14 = allowed-14 s;
   over-14 = over-14 s;
+  past-14 = past-14 s;
+  first-14 = first-14 s;
+  none-over = none-over s;
+  line-33 = line-33 s;
   number-15 = out-15 s;
 }

@@ -1,10 +1,11 @@
 -- What reading a sheet means: a definition that runs, by the levels still allowed and the nodes still allowed.
 use Prim.Native.Nat.{ℕ, zero, suc, _+_, _*_, _-_}
+use Prim.Native.Char.{code}
 use mathlib.Core.Bool.{Bool, true, false, _&&_}
 use mathlib.Core.List.{List, [], _∷_}
 use lib.ListN.{length}
 use lib.Dec.{leb, ltb, eqb}
-use Rattle.grammar.specs.Grammar.{Form, top, leaf, and, or, Prefix, not, next, finally, globally, prefixed, Reach, U, R, reached, Inner, Counted, counted, Clause}
+use Rattle.grammar.specs.Grammar.{bytes, Form, top, leaf, and, or, Prefix, not, next, finally, globally, prefixed, Reach, U, R, reached, Inner, Counted, counted, Clause}
 use Rattle.grammar.specs.Limits.{most}
 
 abbrev pub pick : {A : Type 0} → Bool → A → A → A
@@ -32,7 +33,7 @@ node at (suc n) f = f n
 ---- Bytes and tokens.
 unfoldable pub skip : List ℕ → List ℕ
 skip [] = []
-skip (b ∷ s) = let r = skip s in pick (eqb b 32) r (b ∷ s)
+skip (b ∷ s) = let r = skip s in pick (eqb b (code " ")) r (b ∷ s)
 
 -- byte c
 unfoldable pub expectAt : {A : Type 0} → ℕ → A → Reader A
@@ -50,19 +51,19 @@ literal (c ∷ w) a n [] = no 13 []
 literal (c ∷ w) a n (b ∷ s) = pick (eqb b c) (literal w a n s) (no 13 (b ∷ s))
 
 abbrev pub isDigit : ℕ → Bool
-isDigit b = leb 48 b && leb b 57
+isDigit b = leb (code "0") b && leb b (code "9")
 
 unfoldable pub digits : ℕ → Reader ℕ
 digits v n [] = got v n []
-digits v n (b ∷ s) = let g = digits (v * 10 + (b - 48)) n s in pick (isDigit b) g (got v n (b ∷ s))
+digits v n (b ∷ s) = let g = digits (v * 10 + (b - code "0")) n s in pick (isDigit b) g (got v n (b ∷ s))
 
 unfoldable pub number : Reader ℕ
 number n [] = no 13 []
-number n (b ∷ s) = pick (eqb b 48) (got 0 n s) (pick (isDigit b) (digits (b - 48) n s) (no 13 (b ∷ s)))
+number n (b ∷ s) = pick (eqb b (code "0")) (got 0 n s) (pick (isDigit b) (digits (b - code "0") n s) (no 13 (b ∷ s)))
 
 unfoldable pub percent : Reader Bool
 percent n [] = got false n []
-percent n (b ∷ s) = pick (eqb b 37) (got true n s) (got false n (b ∷ s))
+percent n (b ∷ s) = pick (eqb b (code "%")) (got true n s) (got false n (b ∷ s))
 
 ---- Parts: smallest parts, until-chains, and-chains, or-chains, over the reader of a leaf.
 pub data Kind : Type 0 where
@@ -71,16 +72,18 @@ pub data Kind : Type 0 where
 
 abbrev pub kind : ℕ → Kind
 kind b =
-    pick (eqb b 116) word
-    (pick (eqb b 40) paren
-    (pick (eqb b 33) (prefix not) (pick (eqb b 88) (prefix next) (pick (eqb b 70) (prefix finally) (pick (eqb b 71) (prefix globally) other)))))
+    pick (eqb b (code "t")) word
+    (pick (eqb b (code "(")) paren
+    (pick (eqb b (code "!")) (prefix not)
+    (pick (eqb b (code "X")) (prefix next)
+    (pick (eqb b (code "F")) (prefix finally) (pick (eqb b (code "G")) (prefix globally) other)))))
 
 pub data Onward : Type 0 where
   stop : Onward
   reach : Reach → Onward
 
 abbrev pub onward : ℕ → Onward
-onward b = pick (eqb b 85) (reach U) (pick (eqb b 82) (reach R) stop)
+onward b = pick (eqb b (code "U")) (reach U) (pick (eqb b (code "R")) (reach R) stop)
 
 -- the readers one level further in: none, or those of a smallest part and of an until-chain
 pub data Deeper (A : Type 0) : Type 0 where
@@ -103,15 +106,15 @@ module _ {A : Type 0} (c : ℕ) (join : A → A → A) where
 
 module _ {L : Type 0} where
   unfoldable pub andChain : Reader (Form L) → Reader (Form L)
-  andChain sub = chain 38 and sub
+  andChain sub = chain (code "&") and sub
 
   unfoldable pub orChain : Reader (Form L) → Reader (Form L)
-  orChain sub = chain 124 or (andChain sub)
+  orChain sub = chain (code "|") or (andChain sub)
 
   unfoldable pub byKind : Reader L → Deeper (Form L) → Kind → ℕ → ℕ → List ℕ → Got (Form L)
-  byKind lf d word n b r = bind (literal {A = Unit {0}} (114 ∷ 117 ∷ 101 ∷ []) tt n r) (λ u m r₁. node (b ∷ r) m (λ m₁. got top m₁ r₁))
+  byKind lf d word n b r = bind (literal {A = Unit {0}} (bytes "rue") tt n r) (λ u m r₁. node (b ∷ r) m (λ m₁. got top m₁ r₁))
   byKind lf shut paren n b r = no 14 (b ∷ r)
-  byKind lf (open' sm un) paren n b r = bind (orChain un n r) (λ a m r₁. expect 41 a m r₁)
+  byKind lf (open' sm un) paren n b r = bind (orChain un n r) (λ a m r₁. expect (code ")") a m r₁)
   byKind lf shut (prefix o) n b r = no 14 (b ∷ r)
   byKind lf (open' sm un) (prefix o) n b r = node (b ∷ r) n (λ m. bind (sm m r) (λ a m₁ r₁. got (prefixed o a) m₁ r₁))
   byKind lf d other n b r = bind (lf n (b ∷ r)) (λ x m r₁. got (leaf x) m r₁)
@@ -161,31 +164,31 @@ markBy true n b r = bind (number n r) (λ k m r₁. node (b ∷ r) m (λ m₁. p
 
 unfoldable pub marks : Reader ℕ
 marks n [] = no 13 []
-marks n (b ∷ r) = markBy (eqb b 109) n b r
+marks n (b ∷ r) = markBy (eqb b (code "m")) n b r
 
 unfoldable pub inners : ℕ → Reader Inner
 inners l = ors (λ i. marks) l
 
 -- a number at its first byte, and the `]`
 unfoldable pub countEnd : Inner → Reader Counted
-countEnd a n s = bind (number n s) (λ k m r. bind (percent m r) (λ p m₁ r₁. pick (leb k (most p)) (expect 93 (counted a k p) m₁ r₁) (no 15 s)))
+countEnd a n s = bind (number n s) (λ k m r. bind (percent m r) (λ p m₁ r₁. pick (leb k (most p)) (expect (code "]") (counted a k p) m₁ r₁) (no 15 s)))
 
 -- a count, at its first byte
 unfoldable pub countBy : ℕ → Bool → ℕ → ℕ → List ℕ → Got Counted
 countBy l false n b r = no 13 (b ∷ r)
 countBy zero true n b r = no 14 (b ∷ r)
-countBy (suc l) true n b r = node (b ∷ r) n (λ m. bind (bind (inners l m r) (λ a m₁ r₁. expect 44 a m₁ r₁)) (λ a m₁ r₁. countEnd a m₁ (skip r₁)))
+countBy (suc l) true n b r = node (b ∷ r) n (λ m. bind (bind (inners l m r) (λ a m₁ r₁. expect (code ",") a m₁ r₁)) (λ a m₁ r₁. countEnd a m₁ (skip r₁)))
 
 unfoldable pub counts : ℕ → Reader Counted
 counts l n [] = no 13 []
-counts l n (b ∷ r) = countBy l (eqb b 91) n b r
+counts l n (b ∷ r) = countBy l (eqb b (code "[")) n b r
 
 unfoldable pub clauses : ℕ → Reader Clause
 clauses l = ors counts l
 
 ---- The sheet.
 unfoldable pub clauseLine : Reader Clause
-clauseLine n s = bind (clauses 32 n s) (λ c m r. expect 10 c m r)
+clauseLine n s = bind (clauses 32 n s) (λ c m r. expect (code "\n") c m r)
 
 -- the lines still allowed
 unfoldable pub lines : ℕ → List ℕ → Got (List Clause)
