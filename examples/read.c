@@ -18,7 +18,7 @@ static size_t load(const char *folder, const char *name, uint8_t *to)
 
 int main(int argc, char **argv)
 {
-    static const char *const names[] = {"", "floor", "plan", "rules"};
+    static const char *const names[] = {"", "floor ", "plan ", "rules "};
     static uint8_t floor[LONGEST], plan[LONGEST];
     if (argc != 2) {
         fprintf(stderr, "usage: read FOLDER\n");
@@ -29,6 +29,6 @@ int main(int argc, char **argv)
     if (v.number == 0)
         puts("accepted");
     else
-        printf("refused %s %u %u %u\n", names[v.about], v.number, v.first, v.second);
+        printf("refused %s%u %u %u\n", names[v.about], v.number, v.first, v.second);
     return 0;
 }

@@ -5,7 +5,8 @@
  *
  * What the caller answers for, since nothing can check it: each pointer is valid for its length, `places` is aligned as a
  * uint32_t, nothing else writes to the buffers during a call, and a buffer that is written to (`out`, the plan of a
- * replacement) overlaps no other buffer of the call.
+ * replacement) overlaps no other buffer of the call. And h, l, d and s are 16-bit: C narrows a larger argument without a word, so
+ * that a drift of 65,536 arrives here as 0.
  */
 #ifndef CARTPLAN_H
 #define CARTPLAN_H
@@ -17,9 +18,10 @@
 extern "C" {
 #endif
 
-/* about: the file that is refused: 0 none, 1 floor, 2 plan, 3 rules.
- * number: 0 accepted or done, else the refusal's number.
- * first, second: the refusal's two further numbers; where a result was written to out, first is its length in bytes. */
+/* number: 0 exactly if the operation accepted or was done, else the refusal's number. Ask this one, never about.
+ * about: the file that is refused: 1 floor, 2 plan, 3 rules; 0 where nothing is refused.
+ * first, second: the refusal's two further numbers. Where nothing is refused both are 0, but that first is the length in bytes of a
+ * result that was written to out. */
 struct cartplan_verdict {
     uint32_t about, number, first, second;
 };

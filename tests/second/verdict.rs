@@ -39,16 +39,14 @@ impl Verdict {
 
 impl fmt::Display for Verdict {
     fn fmt(&self, f: &mut fmt::Formatter) -> fmt::Result {
-        let file = ["", "floor", "plan", "rules"];
+        if self.number == 0 {
+            return write!(f, "accepted ({} {})", self.first, self.second);
+        }
+        let file = ["", "floor ", "plan ", "rules "];
         match file.get(self.about as usize) {
-            Some(&"") => write!(
-                f,
-                "accepted ({} {} {})",
-                self.number, self.first, self.second
-            ),
             Some(name) => write!(
                 f,
-                "refused {name} {} {} {}",
+                "refused {name}{} {} {}",
                 self.number, self.first, self.second
             ),
             None => write!(f, "{self:?}"),

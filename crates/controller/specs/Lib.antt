@@ -1,1 +1,4 @@
+-- definitions
 pub mod Edge
+-- laws
+pub mod Told

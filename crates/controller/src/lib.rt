@@ -1,16 +1,15 @@
 // The functions that the table controllers call from C: include/cartplan.h.
 use clause::Span;
 use refusal::Code;
-ghost use mathlib.Core.Path.{_≡_};
 ghost use Rattle.floor.specs.Numbers.{numbers};
 ghost use Rattle.plan.specs.Numbers.{headOf};
 ghost use Rattle.clause.specs.Promises.{Picked};
-ghost use Rattle.controller.specs.Edge.{readFloorCode, readPlanCode, FloorWrittenCode, PlanWrittenCode, RulesReadCode, MovesCheckedCode, PlanCheckedCode, MovedOnCode, RowReplacedCode};
+ghost use Rattle.controller.specs.Edge.{FloorReadCode, PlanReadCode, FloorWrittenCode, PlanWrittenCode, RulesReadCode, MovesCheckedCode, PlanCheckedCode, MovedOnCode, RowReplacedCode};
 
 // Reads a floor.
 #[no_mangle]
 pub extern "C" fn cartplan_read_floor(floor: &[u8]) -> Code
-    ensures { λ c. ⌜ c ≡ readFloorCode (now (floor .entry)) ⌝ }
+    ensures { λ c. ⌜ FloorReadCode (now (floor .entry)) c ⌝ }
 {
     refusal::code_of(floor::verdict_of(floor::read(floor)))
 }
@@ -18,7 +17,7 @@ pub extern "C" fn cartplan_read_floor(floor: &[u8]) -> Code
 // Reads a floor, and a plan for it.
 #[no_mangle]
 pub extern "C" fn cartplan_read_plan(floor: &[u8], plan: &[u8]) -> Code
-    ensures { λ c. ⌜ c ≡ readPlanCode (now (floor .entry)) (now (plan .entry)) ⌝ }
+    ensures { λ c. ⌜ PlanReadCode (now (floor .entry)) (now (plan .entry)) c ⌝ }
 {
     let r = plan::read(floor, plan);
     let v = r.verdict;

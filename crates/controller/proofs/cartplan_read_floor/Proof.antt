@@ -1,7 +1,5 @@
-use mathlib.Core.Path.{ap, _∙_}
-use Rattle.refusal.specs.Codes.{codeOf}
-use Rattle.floor.specs.Floor.{floorVerdict}
 use borrow.Author.Needs.{needs}
+use Rattle.controller.specs.Told.{floor-read}
 use Rattle.controller.proofs.cartplan_read_floor.Statement.{statement}
 use Rattle.controller.proofs.cartplan_read_floor.Tie as tie
 
@@ -15,7 +13,9 @@ code-of-requires : tie.Need-code-of-requires
 code-of-requires c κs = search needs
 
 returns : tie.Need-returns
-returns c = c .code-of .ensures ∙ ap codeOf (c .before .verdict-of .ensures ∙ ap floorVerdict (c .before .before .read .ensures .answer))
+returns c =
+    let r = c .before .before .read .ensures in
+    floor-read _ _ r (r .numbers) _ (c .before .verdict-of .ensures) _ (c .code-of .ensures)
 
 pub cartplan-read-floor-spec : {M : Type 1} → statement M
 cartplan-read-floor-spec =
