@@ -2,9 +2,7 @@
 ghost use mathlib.Core.Path.{_≡_};
 ghost use Prim.Native.Nat.{_+_, _-_, _≤_, _<_};
 ghost use mathlib.Core.Bool.{cond};
-ghost use mathlib.Core.List.{[], _∷_};
 ghost use lib.ListN.{length, drop};
-ghost use Rattle.endian.specs.Little.{value};
 ghost use Rattle.refusal.specs.Distinct.{wordAt};
 ghost use Rattle.clause.specs.Clause.{namesClause, picks, isEnd, lineStart, lineLength, emptySpan, clauseIn};
 ghost use Rattle.clause.specs.Promises.{Picked, Shown};
@@ -26,19 +24,12 @@ fn empty_span() -> Span
     }
 }
 
-// The number of four bytes, the lowest first.
-fn number32(a: u8, b: u8, c: u8, d: u8) -> usize
-    ensures { λ r. ⌜ r ≡ value (a ∷ b ∷ c ∷ d ∷ []) ⌝ }
-{
-    (a as usize) + (b as usize) * 256 + (c as usize) * 65536 + (d as usize) * 16777216
-}
-
 // The number in the four bytes from an offset on.
 fn word_at(s: &[u8], at: usize) -> usize
     requires { ⌜ at + 4 ≤ length (now s) ⌝ }
     ensures { λ r. ⌜ r ≡ wordAt at (now (s .entry)) ⌝ }
 {
-    number32(s[at], s[at + 1], s[at + 2], s[at + 3])
+    endian::number32(s[at], s[at + 1], s[at + 2], s[at + 3]) as usize
 }
 
 // Whether a refusal's number is one that comes with a clause's number.

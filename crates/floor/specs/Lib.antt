@@ -12,3 +12,5 @@ pub mod Walk
 pub mod Located
 pub mod Complete
 pub mod Refusing
+-- worked cases
+pub mod Examples

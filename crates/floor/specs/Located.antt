@@ -16,7 +16,7 @@ use Rattle.floor.specs.Floor.{readFloor}
 use Rattle.floor.specs.Numbers.{bodiesOf, numbersOf, placeAt, laneAt, cartAt, bodyAt}
 use Rattle.floor.specs.Sorted.{Sorted, LaneOk, CartOk}
 use Rattle.floor.specs.Valid.{ValidFloor}
-use Rattle.floor.specs.RoundTrip.{whole, accepted-sorted, accepted-within, bytes-back}
+use Rattle.floor.specs.RoundTrip.{whole, accepted-sorted, accepted-within, bytes-back, written-again}
 use Rattle.floor.specs.Promises.{AcceptedFloor}
 use Rattle.floor.specs.declared.Floor.{Floor}
 use Rattle.floor.specs.declared.FloorAnswer.the-variants.{Read}
@@ -155,4 +155,11 @@ module _ (s : List ℕ) (f : Floor) (b : Bytes s) (e : readFloor s ≡ Read f) w
       }
 
   pub accepts : AcceptedFloor s f
-  accepts = record { valid = valid; writes-back = bytes-back s f b e; place = place-located; lane = lane-located; cart = cart-located }
+  accepts = record {
+    valid = valid;
+    writes-back = bytes-back s f b e;
+    written-again = written-again s f b e;
+    place = place-located;
+    lane = lane-located;
+    cart = cart-located;
+  }

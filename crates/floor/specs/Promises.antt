@@ -19,6 +19,7 @@ use Rattle.floor.specs.declared.FloorAnswer.the-variants.{Read}
 pub record AcceptedFloor (s : List ℕ) (f : Floor) : Type 0 where
   pub valid : ValidFloor (numbersOf s) f
   pub writes-back : floorBytes (numbersOf s) ≡ s
+  pub written-again : (before : List ℕ) → writeFloor (numbersOf s) before ≡ written AboutFloor s before
   pub place : (i : ℕ) → i < f .places → value (bodyAt 4 (placeAt i) s) ≡ getD (numbersOf s .places) i 0
   pub lane : (j : ℕ) → j < f .lanes → bodyAt 3 (laneAt f j) s ≡ take 3 (drop (3 * j) (numbersOf s .lanes))
   pub cart : (n : ℕ) → n < f .carts → bodyAt 2 (cartAt f n) s ≡ take 2 (drop (2 * n) (numbersOf s .carts))

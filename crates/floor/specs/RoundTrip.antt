@@ -15,8 +15,8 @@ use Rattle.record.specs.All.{AllOf}
 use Rattle.record.specs.Laid.{parts-encodable, flatten-parts, parts-flatten}
 use Rattle.record.specs.RoundTrip.{AllEncodable, encodable-append, records-layout, layout-records, AllBytes, records-bytes}
 use Rattle.refusal.specs.Codes.{atOffset}
-use Rattle.refusal.specs.Outcome.{Gives}
-use Rattle.refusal.specs.Held.{written-front}
+use Rattle.refusal.specs.Outcome.{Gives, written}
+use Rattle.refusal.specs.Held.{about-floor, written-front}
 use Rattle.refusal.specs.declared.Refusal.{Refusal}
 use Rattle.refusal.specs.declared.Verdict.{Verdict}
 use Rattle.refusal.specs.declared.Verdict.the-variants.{Written, Floor as AboutFloor}
@@ -181,10 +181,14 @@ bytes-back s f b e =
     ∙ sym (o .in-order))
     ∙ layout-records s b (whole s f e .uncut)
 
--- what is written reads back as the same numbers
-about-floor : (r : Refusal) (k : ℕ) → AboutFloor r ≡ Written k → ⊥
-about-floor r k e = let z : _≡_ {A = ℕ} 0 1 = cc in omega arith
+-- read, then written: the same bytes
+pub written-again : (s : List ℕ) (f : Floor) → Bytes s → readFloor s ≡ Read f → (before : List ℕ)
+    → writeFloor (numbersOf s) before ≡ written AboutFloor s before
+unfolding writeFloor
+written-again s f b e before =
+    ap (λ (x : List ℕ). byReading (readFloor x) x before) (bytes-back s f b e) ∙ ap (λ (a : FloorAnswer). byReading a s before) e
 
+-- what is written reads back as the same numbers
 pub reads-back : (n : FloorNumbers) (before : List ℕ) (v : Verdict) (after : List ℕ) → Words (n .places) → Gives (writeFloor n before) v after
     → (k : ℕ) → v ≡ Written k → (f : Floor) × (readFloor (take k after) ≡ Read f) × (numbersOf (take k after) ≡ n)
 unfolding writeFloor

@@ -5,21 +5,13 @@ ghost use lib.ListN.{length};
 ghost use Rattle.marks.specs.Bears.{marksOf, blockPlace, OnFloor};
 ghost use Rattle.marks.specs.Stored.{Stored, WordAt, joined};
 
-fn wide(b: u8) -> u64
-    ensures { λ r. ⌜ (r ≡ b) × (r < 256) ⌝ }
-{
-    b as u64
-}
-
 // The marks of a place.
 fn marks_of(floor: &[u8], place: u8) -> u64
     requires { ⌜ 8 * place + 8 ≤ length (now floor) ⌝ }
     ensures { λ r. ⌜ r ≡ marksOf (now (floor .entry)) place ⌝ }
 {
     let at = endian::wide(place) * 8;
-    let low = wide(floor[at + 4]) + wide(floor[at + 5]) * 256;
-    let high = wide(floor[at + 6]) + wide(floor[at + 7]) * 256;
-    low + high * 65536
+    endian::number32(floor[at + 4], floor[at + 5], floor[at + 6], floor[at + 7]) as u64
 }
 
 // The place on step s of cart i.

@@ -13,3 +13,5 @@ pub mod Judged
 pub mod Complete
 pub mod Read
 pub mod Refusing
+-- worked cases
+pub mod Examples

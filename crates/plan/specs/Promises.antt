@@ -25,6 +25,7 @@ pub record AcceptedPlan (floor s : List ℕ) (r : PlanRead) : Type 0 where
   pub held : r .plan ≡ planOf numbers
   pub valid : ValidPlan numbers (r .floor)
   pub writes-back : planFile numbers ≡ s
+  pub written-again : (before : List ℕ) → writePlan floor (numbers .head) (flatten (numbers .rows)) before ≡ written AboutPlan s before
   pub row : (c : ℕ) → c < r .floor .carts → take (numbers .head .steps) (drop (64 * c) (r .plan .block)) ≡ getD (numbers .rows) c []
 
 pub record PlanReads (floor s : List ℕ) (r : PlanRead) : Type 0 where

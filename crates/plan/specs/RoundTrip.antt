@@ -17,8 +17,8 @@ use Rattle.record.specs.Parts.{parts, ofKind, laid}
 use Rattle.record.specs.All.{All, AllOf, each}
 use Rattle.record.specs.Laid.{parts-flatten, flatten-parts, short-encodable}
 use Rattle.record.specs.RoundTrip.{AllEncodable, length-encoded, records-layout, layout-records, AllBytes, records-bytes}
-use Rattle.refusal.specs.Outcome.{Gives}
-use Rattle.refusal.specs.Held.{written-front}
+use Rattle.refusal.specs.Outcome.{Gives, written}
+use Rattle.refusal.specs.Held.{about-floor, about-plan, written-front}
 use Rattle.refusal.specs.declared.Verdict.{Verdict}
 use Rattle.refusal.specs.declared.Verdict.the-variants.{Accepted, Written, Floor as AboutFloor, Plan as AboutPlan}
 use Rattle.floor.specs.Floor.{readFloor}
@@ -27,6 +27,7 @@ use Rattle.floor.specs.declared.FloorAnswer.the-variants.{Read as FloorAccepted
 use Rattle.floor.specs.declared.Floor.{Floor}
 use Rattle.plan.specs.Plan.{PlanNumbers, PlanAnswer, accepted, rejected, headFrom, judgedPlaces, judgedHead, rowFault, onward, readRows, behindHead, readRecords, readPlan, blockOf, planRead, onFloor, readBoth}
 use Rattle.plan.specs.Numbers.{Narrow, headBytes, rowRecords, planRecords, planBytes, byReading, byFloor, writePlan}
+use Rattle.plan.specs.After.{ReadAs}
 use Rattle.plan.specs.Promises.{AcceptedPlan}
 use Rattle.plan.specs.declared.PlanRead.{PlanRead}
 use Rattle.plan.specs.Valid.{InRange, ValidPlan}
@@ -163,6 +164,15 @@ bytes-back f s n b e =
     (parts-flatten (n .head .steps) (n .rows) (w .range .some) (w .sizes)) ∙ sym (w .records))
     ∙ layout-records s b (w .uncut)
 
+-- read, then written: the same bytes
+pub written-again : (floor s : List ℕ) (f : Floor) (n : PlanNumbers) → Bytes s → ReadAs floor s f n → (before : List ℕ)
+    → writePlan floor (n .head) (flatten (n .rows)) before ≡ written AboutPlan s before
+unfolding writePlan
+written-again floor s f n b w before =
+    ap (λ (a : FloorAnswer). byFloor a (n .head) (flatten (n .rows)) before) (w .floor-read)
+    ∙ ap (λ (x : List ℕ). byReading (readPlan f x) x before) (bytes-back f s n b (w .plan-read))
+    ∙ ap (λ (a : PlanAnswer). byReading a s before) (w .plan-read)
+
 pub head-read : (h : Head) → Narrow h → headFrom (headBytes h) ≡ h
 unfolding bytes
 head-read h w = rw (value-bytes 2 (h .steps) (w .steps), value-bytes 2 (h .stem) (w .stem), value-bytes 2 (h .drift) (w .drift))
@@ -207,12 +217,6 @@ numbers-back f h rows n w e =
     (head, ap flatten (sym (bodies-of 5 (parts (h .steps) rows) (n .rows) t)) ∙ flatten-parts (h .steps) rows some)
 
 -- what is written reads back as the same numbers
-about-floor : (r : Refusal) (k : ℕ) → AboutFloor r ≡ Written k → ⊥
-about-floor r k e = let z : _≡_ {A = ℕ} 0 1 = cc in omega arith
-
-about-plan : (r : Refusal) (k : ℕ) → AboutPlan r ≡ Written k → ⊥
-about-plan r k e = let z : _≡_ {A = ℕ} 0 1 = cc in omega arith
-
 module _ (floor : List ℕ) (h : Head) (rows before : List ℕ) (v : Verdict) (after : List ℕ) (w : Narrow h) (k : ℕ) (e : v ≡ Written k) where
   abbrev Back : Type 0
   Back =
@@ -269,6 +273,7 @@ module _ (floor s : List ℕ) (r : PlanRead) (b : Bytes s) (v : r .verdict ≡ A
         held = ap (λ (y : PlanRead). y .plan) e;
         valid = subst (ValidPlan n) g (valid f s n q);
         writes-back = bytes-back f s n b q;
+        written-again = written-again floor s f n b (record { floor-read = p; plan-read = q });
         row =
             λ c l. ap (λ (y : PlanRead). take (n .head .steps) (drop (64 * c) (y .plan .block))) e
             ∙ row-located f s n q c (subst (λ (x : Floor). c < x .carts) (sym g) l);

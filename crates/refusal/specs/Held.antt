@@ -1,5 +1,6 @@
 -- Writing, by whether there is room; and a buffer to which bytes were written begins with them.
 use Prim.Native.Nat.{ℕ, _≤_, _<_}
+use native.Mathlib.Omega.{arith}
 use mathlib.Core.Path.{_≡_, sym, ap₂, _∙_}
 use mathlib.Core.Bool.{Bool, true, false, cond}
 use mathlib.Core.List.{List, _++_}
@@ -12,7 +13,7 @@ use Rattle.refusal.specs.Given.{writes, Refusals, Given}
 use Rattle.refusal.specs.Outcome.{Outcome, unchanged, written, Gives}
 use Rattle.refusal.specs.declared.Refusal.{Refusal}
 use Rattle.refusal.specs.declared.Verdict.{Verdict}
-use Rattle.refusal.specs.declared.Verdict.the-variants.{Written}
+use Rattle.refusal.specs.declared.Verdict.the-variants.{Written, Floor, Plan}
 
 pub gives-short : (about : Refusal → Verdict) (bytes before : List ℕ) (v : Verdict) → length before < length bytes
     → v ≡ about (refused 18 (length bytes) 0)
@@ -40,6 +41,13 @@ given-written t about bytes before d h = go (ltb (length before) (length bytes))
         (record { answer = Written (length bytes); out = bytes ++ drop (length bytes) before }) .answer)
     go true = h
     go false = d
+
+-- a refusal is no result
+pub about-floor : (r : Refusal) (k : ℕ) → Floor r ≡ Written k → ⊥
+about-floor r k e = let z : _≡_ {A = ℕ} 0 1 = cc in omega arith
+
+pub about-plan : (r : Refusal) (k : ℕ) → Plan r ≡ Written k → ⊥
+about-plan r k e = let z : _≡_ {A = ℕ} 0 1 = cc in omega arith
 
 module _ (about : Refusal → Verdict) (apart : (r : Refusal) (k : ℕ) → about r ≡ Written k → ⊥)
     (bytes before : List ℕ) (v : Verdict) (after : List ℕ) (k : ℕ) where

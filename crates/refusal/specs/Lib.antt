@@ -7,3 +7,4 @@ pub mod Numbered
 pub mod Held
 pub mod Faults
 pub mod Accepting
+pub mod Examples

@@ -1,4 +1,4 @@
-use Rattle.clause.proofs.Words.{four-at}
+use Rattle.endian.specs.RoundTrip.{four-at}
 use Rattle.endian.specs.Little.{value}
 use mathlib.Core.Path.{sym, ap, _∙_}
 use native.Mathlib.Omega.{arith}
@@ -30,6 +30,9 @@ shared-slice-read-number32-4 c = search needs
 number32-requires : tie.Need-number32-requires
 number32-requires c κs = search needs
 
+cast-result : tie.Need-cast-result
+cast-result c = search needs
+
 returns : tie.Need-returns
 returns c =
     let a = c .before .before .before .before .before .before .args in
@@ -47,4 +50,5 @@ word-at-spec =
     add-number32-3
     shared-slice-read-number32-4
     number32-requires
+    cast-result
     returns)

@@ -1,0 +1,65 @@
+-- Small floors from bytes to the verdict, and written, by computation.
+use Prim.Native.Nat.{ℕ}
+use mathlib.Core.Path.{_≡_, refl}
+use mathlib.Core.List.{List, [], _∷_, _++_, flatten}
+use lib.ListN.{replicate}
+use Rattle.endian.specs.Little.{bytes, value}
+use Rattle.refusal.specs.Codes.{atOffset, refused}
+use Rattle.refusal.specs.Outcome.{Outcome, unchanged}
+use Rattle.refusal.specs.declared.Verdict.{Verdict}
+use Rattle.refusal.specs.declared.Verdict.the-variants.{Accepted, Written, Floor as AboutFloor}
+use Rattle.record.specs.Record.{encoded, layout, split, recordsIn}
+use Rattle.record.specs.Parts.{partsIn, parts}
+use Rattle.floor.specs.Floor.{judged, walk, readFloor, floorVerdict}
+use Rattle.floor.specs.Numbers.{numbers, bodiesOf, numbersOf, writeFloor}
+use Rattle.floor.specs.declared.FloorAnswer.the-variants.{Read}
+
+-- a place with m0, a lane from it to itself for class 0, a cart of class 0 on it
+abbrev place : List ℕ
+place = 4 ∷ 0 ∷ 1 ∷ 0 ∷ 1 ∷ 0 ∷ 0 ∷ 0 ∷ []
+
+abbrev lane : List ℕ
+lane = 3 ∷ 0 ∷ 2 ∷ 0 ∷ 0 ∷ 0 ∷ 1 ∷ []
+
+abbrev cart : List ℕ
+cart = 2 ∷ 0 ∷ 3 ∷ 0 ∷ 0 ∷ 0 ∷ []
+
+abbrev carts : List ℕ
+carts = flatten (replicate 32 cart)
+
+abbrev verdict : List ℕ → Verdict
+verdict s = floorVerdict (readFloor s)
+
+-- a buffer of so many bytes
+abbrev blank : ℕ → List ℕ
+blank n = replicate n 9
+
+abbrev writing : List ℕ → List ℕ → List ℕ → ℕ → Outcome
+writing p l c n = writeFloor (numbers p l c) (blank n)
+
+-- the definitions that these cases compute with, under one name
+computing : List ℕ → List ℕ → List ℕ → ℕ → Verdict × Outcome
+unfolding flatten bytes value encoded layout split recordsIn partsIn parts judged walk readFloor bodiesOf writeFloor
+computing p l c n = (verdict p, writing p l c n)
+
+-- the order at one offset, the offset of each, and the end
+pub floors :
+    (verdict (1 ∷ 0 ∷ 9 ∷ 0 ∷ 0 ∷ []) ≡ AboutFloor (refused 3 0 0))
+    × (verdict (place ++ (lane ++ place)) ≡ AboutFloor (refused 3 15 0))
+    × (verdict (place ++ (carts ++ (1 ∷ 0 ∷ 3 ∷ 0 ∷ 0 ∷ []))) ≡ AboutFloor (refused 4 200 0))
+    × (verdict (place ++ (carts ++ (2 ∷ 0 ∷ 3 ∷ 0 ∷ 8 ∷ 0 ∷ []))) ≡ AboutFloor (refused 5 200 0))
+    × (verdict (place ++ (2 ∷ 0 ∷ 3 ∷ 0 ∷ 8 ∷ 0 ∷ [])) ≡ AboutFloor (refused 6 8 0))
+    × (verdict (place ++ (3 ∷ 0 ∷ 2 ∷ 0 ∷ 0 ∷ 1 ∷ 1 ∷ [])) ≡ AboutFloor (refused 6 8 0))
+    × (verdict place ≡ AboutFloor (refused 7 8 0))
+    × (verdict (place ++ (1 ∷ [])) ≡ AboutFloor (refused 2 8 0))
+    × (verdict [] ≡ AboutFloor (refused 7 0 0))
+    × (verdict (place ++ carts) ≡ Accepted)
+    × (readFloor (place ++ (place ++ (lane ++ cart))) ≡ Read (record { places = 2; lanes = 1; carts = 1 }))
+    × (numbersOf (place ++ (lane ++ cart)) ≡ numbers (1 ∷ []) (0 ∷ 0 ∷ 1 ∷ []) (0 ∷ 0 ∷ []))
+    -- written: a byte too few, a byte more than needed, and numbers that no file could give
+    × (writing (1 ∷ []) [] (0 ∷ 0 ∷ []) 13 ≡ unchanged (AboutFloor (refused 18 14 0)) (blank 13))
+    × (writing (1 ∷ []) [] (0 ∷ 0 ∷ []) 15 ≡ record { answer = Written 14; out = place ++ (cart ++ (9 ∷ [])) })
+    × (writing (1 ∷ []) (0 ∷ 0 ∷ []) (0 ∷ 0 ∷ []) 99 ≡ unchanged (AboutFloor (refused 4 8 0)) (blank 99))
+    × (writing [] [] (0 ∷ 0 ∷ []) 0 ≡ unchanged (AboutFloor (refused 6 0 0)) [])
+unfolding computing
+floors = (refl, refl, refl, refl, refl, refl, refl, refl, refl, refl, refl, refl, refl, refl, refl, refl)
