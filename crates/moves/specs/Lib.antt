@@ -5,4 +5,7 @@ pub mod Promises
 -- laws
 pub mod CartBytes
 pub mod Judged
+pub mod Refusing
 pub mod Unending
+-- worked cases
+pub mod Examples
