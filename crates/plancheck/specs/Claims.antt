@@ -2,8 +2,8 @@
 use Prim.Native.Nat.{ℕ, _≤_}
 use native.Mathlib.Omega.{arith}
 use mathlib.Core.Path.{_≡_, refl, sym, ap, subst, _∙_}
-use mathlib.Core.Logic.{_⊎_, inl, inr, ⊎-elim, _↔_}
-use mathlib.Core.List.{List, [], _∷_}
+use mathlib.Core.Logic.{inl, inr, ⊎-elim, _↔_}
+use mathlib.Core.List.{List}
 use lib.Dec.{T}
 use Rattle.endian.specs.Little.{bytes, Bytes}
 use Rattle.refusal.specs.declared.Verdict.{Verdict}
@@ -16,24 +16,20 @@ use Rattle.floor.specs.declared.Floor.{Floor}
 use Rattle.plan.specs.Plan.{PlanNumbers, readPlan}
 use Rattle.plan.specs.Plan as plan
 use Rattle.plan.specs.Valid.{ValidPlan}
-use Rattle.plan.specs.Numbers.{headOf, planFile}
+use Rattle.plan.specs.Numbers.{planFile}
 use Rattle.plan.specs.After.{ReadAs}
 use Rattle.plan.specs.Complete.{file-reads}
 use Rattle.plan.specs.RoundTrip.{valid, bytes-back}
 use Rattle.grammar.specs.Grammar.{Clause}
-use Rattle.grammar.specs.Reader.{accepted, readSheet}
-use Rattle.cltl.specs.Meaning.{Run, TrueOf, TrueInStep}
+use Rattle.grammar.specs.Answers.{Accepted as IsSheet}
+use Rattle.cltl.specs.Meaning.{Rows, Run, TrueOf, TrueInStep}
 use Rattle.cltl.specs.Rules.{rules}
 use Rattle.cltl.specs.Promises as cltl
-use Rattle.plancheck.specs.Check.{planRows, clausesOf, checked}
-use Rattle.plancheck.specs.Meaning.{Plain, Kept, ReadAndOpen}
+use Rattle.plancheck.specs.Check.{planRows, checked}
+use Rattle.plancheck.specs.Meaning.{drifted, Plain, Kept, ReadAndOpen}
 use Rattle.plancheck.specs.Promises.{Means, PlanChecked}
-use Rattle.plancheck.specs.Stages.{proper, accepted-as, as-accepted, accepted-read}
+use Rattle.plancheck.specs.Stages.{same-clauses, proper, accepted-as, as-accepted, accepted-read}
 use Rattle.plancheck.specs.Refusing.{Meant, meant, is-16, is-17, is-sheet}
-
--- the plan with another drift
-abbrev drifted : PlanNumbers → ℕ → PlanNumbers
-drifted p d = record { head = headOf (p .head .steps) (p .head .stem) d; rows = p .rows }
 
 drifted-file : (p : PlanNumbers) (d : ℕ) → stored (planFile p) 8 (bytes 2 d) ≡ planFile (drifted p d)
 unfolding layout encoded bytes
@@ -50,17 +46,17 @@ means-as floor s sheet same w = record {
 }
 
 module _ (floor s sheet : List ℕ) (fb : Bytes floor) (pb : Bytes s) where
-  same-clauses : (cs cs′ : List Clause) → readSheet sheet ≡ accepted cs → readSheet sheet ≡ accepted cs′ → cs ≡ cs′
-  same-clauses cs cs′ e e′ = ap clausesOf (sym e ∙ e′)
-
   module _ (f : Floor) (p : PlanNumbers) (files : ReadAs floor s f p) (yes : checked floor s sheet ≡ Accepted) where
-    all-kept : (cs : List Clause) → readSheet sheet ≡ accepted cs → All (Kept (planRows floor f p) (p .head .drift)) cs
+    all-kept : (cs : List Clause) → IsSheet sheet cs → All (Kept (planRows floor f p) (p .head .drift)) cs
     all-kept cs e =
         let a = accepted-as floor s sheet f p files yes in
-        subst (All (Kept (planRows floor f p) (p .head .drift))) (same-clauses (a .0) cs (a .1 .readable .clauses) e) (a .2)
+        subst (All (Kept (planRows floor f p) (p .head .drift))) (same-clauses sheet (a .0) cs (a .1 .readable .clauses) e) (a .2)
 
-    in-runs : (cs : List Clause) → ReadAndOpen floor s sheet f p cs → All Plain cs → (r : Run (f .carts) (p .head .drift)) → All (TrueOf (planRows floor f p) r) cs
-    in-runs cs w plain r = all-both (λ c n k. cltl.runs (planRows floor f p) (proper floor s fb f p files) (p .head .drift) c n k r) cs plain (all-kept cs (w .clauses))
+    in-runs : (cs : List Clause) → ReadAndOpen floor s sheet f p cs → All Plain cs → (r : Run (f .carts) (p .head .drift))
+        → All (TrueOf (planRows floor f p) r) cs
+    in-runs cs w plain r =
+        let P : Rows = planRows floor f p in
+        all-both (λ c n k. cltl.runs P (proper floor s fb f p files) (p .head .drift) c n k r) cs plain (all-kept cs (w .clauses))
 
     drifted-read : (d : ℕ) → d ≤ p .head .drift → ReadAs floor (stored s 8 (bytes 2 d)) f (drifted p d)
     drifted-read d less =
@@ -109,7 +105,7 @@ module _ (floor s sheet : List ℕ) (fb : Bytes floor) (pb : Bytes s) where
     );
     kept = λ f p cs a. (λ yes. all-kept f p (a .readable .files) yes cs (a .readable .clauses), λ k. as-accepted floor s sheet f p cs a k);
     runs = λ yes f p cs w plain r. in-runs f p (w .files) yes cs w plain r;
-    smaller = λ yes f p files d less. less-drift f p files yes d less;
+    smaller = λ yes f p files d less. (drifted-read f p files yes d less, less-drift f p files yes d less);
     readable =
         λ yes. let w = accepted-read floor s sheet yes in let a = accepted-as floor s sheet (w .0) (w .1) (w .2) yes in
         (w .0, w .1, a .0, a .1);

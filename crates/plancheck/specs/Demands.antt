@@ -1,13 +1,14 @@
 -- What the promise gives, clause by clause and byte by byte: a reader of it alone can conclude this.
 use Prim.Native.Nat.{ℕ, _≤_, _<_}
-use mathlib.Core.Path.{_≡_}
+use mathlib.Core.Path.{_≡_, subst, subst₃}
 use mathlib.Core.Logic.{_⊎_}
 use mathlib.Core.List.{List}
 use lib.Dec.{T}
 use lib.ListN.{length, getD}
 use Rattle.endian.specs.Little.{bytes}
+use Rattle.refusal.specs.Codes.{refused}
 use Rattle.refusal.specs.declared.Verdict.{Verdict}
-use Rattle.refusal.specs.declared.Verdict.the-variants.{Accepted}
+use Rattle.refusal.specs.declared.Verdict.the-variants.{Accepted, Rules as AboutRules}
 use Rattle.record.specs.All.{All, each}
 use Rattle.record.specs.Buffer.{stored}
 use Rattle.floor.specs.declared.Floor.{Floor}
@@ -15,36 +16,74 @@ use Rattle.plan.specs.Plan.{PlanNumbers}
 use Rattle.plan.specs.After.{ReadAs}
 use Rattle.grammar.specs.Grammar.{top, Clause}
 use Rattle.cltl.specs.Meaning.{Run, TrueOf, TrueInStep}
-use Rattle.cltl.specs.Rules.{rules}
+use Rattle.cltl.specs.Rules.{hasNext}
 use Rattle.plancheck.specs.Check.{planRows, checked}
-use Rattle.plancheck.specs.Meaning.{Plain, Kept, ReadAndOpen, NoneAhead}
-use Rattle.plancheck.specs.Promises.{PlanChecked}
+use Rattle.plancheck.specs.Meaning.{drifted, Plain, Kept, FailingStep, ReadAndOpen, NoneAhead}
+use Rattle.plancheck.specs.Promises.{Means, PlanChecked}
+use Rattle.plancheck.specs.Stages.{same-clauses}
 
-module _ (floor plan sheet : List ℕ) (v : Verdict) (w : PlanChecked floor plan sheet v) (yes : v ≡ Accepted) (f : Floor) (p : PlanNumbers)
-    (cs : List Clause) (r : ReadAndOpen floor plan sheet f p cs) where
-  -- accepted, "next" only inside counts: clause k is true of every run within the drift
-  pub clause-in-run : All Plain cs → (run : Run (f .carts) (p .head .drift)) (k : ℕ) → k < length cs → TrueOf (planRows floor f p) run (getD cs k top)
-  clause-in-run plain run k q = each (TrueOf (planRows floor f p) run) top cs k (w .means .runs yes f p cs r plain run) q
+---- Accepted, by the verdict or by C's number.
+module _ (floor plan sheet : List ℕ) (yes : Type 0) (w : Means floor plan sheet yes) where
+  module _ (f : Floor) (p : PlanNumbers) (cs : List Clause) where
+    -- "next" only inside counts: clause k is true of every run within the drift
+    pub clause-in-run : yes → ReadAndOpen floor plan sheet f p cs → All Plain cs → (run : Run (f .carts) (p .head .drift)) (k : ℕ) → k < length cs
+        → TrueOf (planRows floor f p) run (getD cs k top)
+    clause-in-run a r plain run k q = each (TrueOf (planRows floor f p) run) top cs k (w .runs a f p cs r plain run) q
 
-  -- accepted with every smaller drift: the check's own answer on the plan with other bytes for d
-  pub accepted-with : (d : ℕ) → d ≤ p .head .drift → checked floor (stored plan 8 (bytes 2 d)) sheet ≡ Accepted
-  accepted-with d less = w .means .smaller yes f p (r .files) d less
+    -- in step: what is true of every clause is accepted, and nothing else is
+    pub accepted-in-step : ReadAndOpen floor plan sheet f p cs → p .head .drift ≡ 0 → All (TrueInStep (planRows floor f p)) cs → yes
+    accepted-in-step r none all = w .in-step f p (r .files) none .1 (cs, r, all)
 
-module _ (floor plan sheet : List ℕ) (v : Verdict) (w : PlanChecked floor plan sheet v) where
-  -- in step: what is true of every clause is accepted, and nothing else is
-  pub accepted-in-step : (f : Floor) (p : PlanNumbers) (cs : List Clause) → ReadAndOpen floor plan sheet f p cs → p .head .drift ≡ 0
-      → All (TrueInStep (planRows floor f p)) cs → v ≡ Accepted
-  accepted-in-step f p cs r none all = w .means .in-step f p (r .files) none .1 (cs, r, all)
+    pub true-in-step : ReadAndOpen floor plan sheet f p cs → p .head .drift ≡ 0 → yes → All (TrueInStep (planRows floor f p)) cs
+    true-in-step r none a =
+        let x = w .in-step f p (r .files) none .0 a in
+        subst (All (TrueInStep (planRows floor f p))) (same-clauses sheet (x .0) cs (x .1 .clauses) (r .clauses)) (x .2)
 
-  pub true-in-step : (f : Floor) (p : PlanNumbers) → ReadAs floor plan f p → p .head .drift ≡ 0 → v ≡ Accepted
-      → (cs : List Clause) × ReadAndOpen floor plan sheet f p cs × All (TrueInStep (planRows floor f p)) cs
-  true-in-step f p files none e = w .means .in-step f p files none .0 e
+    -- with drift: what the rules keep is accepted, and nothing else is
+    pub accepted-kept : NoneAhead floor plan sheet f p cs → All (Kept (planRows floor f p) (p .head .drift)) cs → yes
+    accepted-kept a all = w .kept f p cs a .1 all
 
-  -- with drift: what the rules keep is accepted, and nothing else is
-  pub accepted-kept : (f : Floor) (p : PlanNumbers) (cs : List Clause) → NoneAhead floor plan sheet f p cs
-      → All (Kept (planRows floor f p) (p .head .drift)) cs → v ≡ Accepted
-  accepted-kept f p cs a all = w .means .kept f p cs a .1 all
+    pub kept-accepted : NoneAhead floor plan sheet f p cs → yes → All (Kept (planRows floor f p) (p .head .drift)) cs
+    kept-accepted a y = w .kept f p cs a .0 y
 
-  -- and "next" outside a count is refused
-  pub no-next : v ≡ Accepted → (f : Floor) × (p : PlanNumbers) × (cs : List Clause) × ReadAndOpen floor plan sheet f p cs × ((p .head .drift ≡ 0) ⊎ All Plain cs)
-  no-next e = let a = w .means .readable e in (a .0, a .1, a .2, a .3 .readable, a .3 .no-16)
+  -- every smaller drift: the check's own answer on the plan with other bytes for d, and what that plan is
+  module _ (f : Floor) (p : PlanNumbers) (files : ReadAs floor plan f p) (d : ℕ) (less : d ≤ p .head .drift) where
+    pub accepted-with : yes → checked floor (stored plan 8 (bytes 2 d)) sheet ≡ Accepted
+    accepted-with a = w .smaller a f p files d less .1
+
+    pub reads-with : yes → ReadAs floor (stored plan 8 (bytes 2 d)) f (drifted p d)
+    reads-with a = w .smaller a f p files d less .0
+
+  -- what could not be read, or has "next" outside a count under drift, is not accepted
+  pub no-next : yes → (f : Floor) × (p : PlanNumbers) × (cs : List Clause) × ReadAndOpen floor plan sheet f p cs × ((p .head .drift ≡ 0) ⊎ All Plain cs)
+  no-next e = let a = w .readable e in (a .0, a .1, a .2, a .3 .readable, a .3 .no-16)
+
+---- Refused by 16 or 17, in the caller's own reading of floor, plan and sheet.
+same-floor : (floor plan : List ℕ) (f g : Floor) (p q : PlanNumbers) → ReadAs floor plan f p → ReadAs floor plan g q → f ≡ g
+same-floor floor plan f g p q a b = let x = a .floor-read in let y = b .floor-read in cc
+
+same-plan : (floor plan : List ℕ) (f g : Floor) (p q : PlanNumbers) → ReadAs floor plan f p → ReadAs floor plan g q → p ≡ q
+same-plan floor plan f g p q a b = let x = a .plan-read in let y = b .plan-read in let e = same-floor floor plan f g p q a b in cc
+
+module _ (floor plan sheet : List ℕ) (v : Verdict) (w : PlanChecked floor plan sheet v) (f : Floor) (p : PlanNumbers) (cs : List Clause)
+    (r : ReadAndOpen floor plan sheet f p cs) (k s : ℕ) where
+  -- 16: clause k is there and has "next" outside its counts
+  pub clause-16 : v ≡ AboutRules (refused 16 k s) → (k < length cs) × T (hasNext (getD cs k top))
+  clause-16 e =
+      let x = w .next-16 k s e .1 in
+      subst (λ (ds : List Clause). (k < length ds) × T (hasNext (getD ds k top)))
+      (same-clauses sheet (x .clauses) cs (x .readable .clauses) (r .clauses)) (x .there, x .next)
+
+  -- 17: clause k is there and not kept, and s is its step
+  pub clause-17 : v ≡ AboutRules (refused 17 k s)
+      → (k < length cs) × (Kept (planRows floor f p) (p .head .drift) (getD cs k top) → ⊥)
+      × FailingStep (planRows floor f p) (p .head .drift) (getD cs k top) s
+  clause-17 e =
+      let x = w .fails-17 k s e in
+      let a = x .ahead .readable in
+      subst₃
+      (λ (g : Floor) (q : PlanNumbers) (ds : List Clause). (k < length ds)
+      × (Kept (planRows floor g q) (q .head .drift) (getD ds k top) → ⊥) × FailingStep (planRows floor g q) (q .head .drift) (getD ds k top) s)
+      (same-floor floor plan (x .floor-is) f (x .numbers) p (a .files) (r .files))
+      (same-plan floor plan (x .floor-is) f (x .numbers) p (a .files) (r .files)) (same-clauses sheet (x .clauses) cs (a .clauses) (r .clauses))
+      (x .there, x .not-kept, x .step)

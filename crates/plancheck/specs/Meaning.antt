@@ -12,14 +12,19 @@ use Rattle.floor.specs.Floor.{readFloor}
 use Rattle.floor.specs.declared.Floor.{Floor}
 use Rattle.floor.specs.declared.FloorAnswer.the-variants.{Read as FloorAccepted}
 use Rattle.plan.specs.Plan.{PlanNumbers, rejected, readPlan}
+use Rattle.plan.specs.Numbers.{headOf}
 use Rattle.plan.specs.After.{ReadAs}
 use Rattle.moves.specs.Promises.{AllUnending, Moving, FirstRefused}
 use Rattle.grammar.specs.Grammar.{top, gl, Clause}
-use Rattle.grammar.specs.Reader.{accepted, readSheet}
+use Rattle.grammar.specs.Answers.{Accepted}
 use Rattle.sheet.specs.Rules.{rulesVerdict}
 use Rattle.cltl.specs.Meaning.{Rows}
 use Rattle.cltl.specs.Rules.{rules, hasNext}
 use Rattle.plancheck.specs.Check.{planRows}
+
+-- the same plan with drift d
+abbrev pub drifted : PlanNumbers → ℕ → PlanNumbers
+drifted p d = record { head = headOf (p .head .steps) (p .head .stem) d; rows = p .rows }
 
 -- "next" only inside counts
 abbrev pub Plain : Clause → Type 0
@@ -53,7 +58,7 @@ module _ (floor plan sheet : List ℕ) where
   pub record ReadAndOpen (f : Floor) (p : PlanNumbers) (cs : List Clause) : Type 0 where
     pub files : ReadAs floor plan f p
     pub moves : AllUnending floor f p
-    pub clauses : readSheet sheet ≡ accepted cs
+    pub clauses : Accepted sheet cs
 
   -- "Ahead of the clauses stand all refusals of the check but 17": there is none
   pub record NoneAhead (f : Floor) (p : PlanNumbers) (cs : List Clause) : Type 0 where

@@ -18,7 +18,7 @@ use Rattle.plan.specs.After.{ReadAs}
 use Rattle.grammar.specs.Grammar.{Clause}
 use Rattle.cltl.specs.Meaning.{Run, TrueOf, TrueInStep}
 use Rattle.plancheck.specs.Check.{planRows, checked}
-use Rattle.plancheck.specs.Meaning.{Plain, Kept, ReadAndOpen, NoneAhead, Next16, Fails17, PlanRefused, SheetRefused}
+use Rattle.plancheck.specs.Meaning.{drifted, Plain, Kept, ReadAndOpen, NoneAhead, Next16, Fails17, PlanRefused, SheetRefused}
 
 module _ (floor plan sheet : List ℕ) where
   -- what accepted means; `yes` says that the plan is accepted, by a verdict or by its number
@@ -33,9 +33,9 @@ module _ (floor plan sheet : List ℕ) where
     -- accepted, under clauses that use "next" only inside counts: every clause is true of every run within the drift
     pub runs : yes → (f : Floor) (p : PlanNumbers) (cs : List Clause) → ReadAndOpen floor plan sheet f p cs → All Plain cs
         → (r : Run (f .carts) (p .head .drift)) → All (TrueOf (planRows floor f p) r) cs
-    -- accepted too with every smaller drift: the same floor, sheet and plan but for the two bytes of d
+    -- accepted too with every smaller drift: the same floor, sheet and plan but for the two bytes of d, which read as the same plan with drift d
     pub smaller : yes → (f : Floor) (p : PlanNumbers) → ReadAs floor plan f p → (d : ℕ) → d ≤ p .head .drift
-        → checked floor (stored plan 8 (bytes 2 d)) sheet ≡ Accepted
+        → ReadAs floor (stored plan 8 (bytes 2 d)) f (drifted p d) × (checked floor (stored plan 8 (bytes 2 d)) sheet ≡ Accepted)
     -- what is accepted could be read, with nothing refused ahead of the clauses
     pub readable : yes → (f : Floor) × (p : PlanNumbers) × (cs : List Clause) × NoneAhead floor plan sheet f p cs
 

@@ -9,7 +9,7 @@ use lib.Dec.{T, eqb}
 use lib.ListN.{length, getD}
 use borrow.Author.Tests.{eqb-true, eqb-false}
 use Rattle.endian.specs.Little.{Bytes}
-use Rattle.refusal.specs.Codes.{refused, codeOf}
+use Rattle.refusal.specs.Codes.{refused}
 use Rattle.refusal.specs.Stages.{isAccepted, andThen}
 use Rattle.refusal.specs.Accepting.{accepted-is}
 use Rattle.refusal.specs.declared.Refusal.{Refusal}
@@ -54,7 +54,8 @@ module _ (Ok Bad : Clause → Type 0) (r : ℕ → Clause → Refusal) where
     is : v ≡ AboutRules (r (n + index) (getD cs index top))
 
   module _ (verdict : ℕ → List Clause → Verdict) (none : (n : ℕ) → verdict n [] ≡ Accepted)
-      (step : (n : ℕ) (c : Clause) (cs : List Clause) → (Bad c × (verdict n (c ∷ cs) ≡ AboutRules (r n c))) ⊎ (Ok c × (verdict n (c ∷ cs) ≡ verdict (suc n) cs))) where
+      (step : (n : ℕ) (c : Clause) (cs : List Clause)
+      → (Bad c × (verdict n (c ∷ cs) ≡ AboutRules (r n c))) ⊎ (Ok c × (verdict n (c ∷ cs) ≡ verdict (suc n) cs))) where
     first-clause : (n : ℕ) (cs : List Clause) → (All Ok cs × (verdict n cs ≡ Accepted)) ⊎ FirstClause n cs (verdict n cs)
     first-clause n [] = inl (tt, none n)
     first-clause n (c ∷ cs) = go (step n c cs) (first-clause (suc n) cs)
@@ -259,7 +260,7 @@ module _ (floor plan sheet : List ℕ) where
         reader-only w k (inr (inr (inr (inr e)))) = omega arith
 
         go : (r : Read) → readSheet sheet ≡ r → Meant (andThen (readVerdict r) (clausesVerdict P (p .head .drift) (clausesOf r)))
-        go (reader.accepted cs) e = on-16 cs (record { files = files; moves = u; clauses = e })
+        go (reader.accepted cs) e = on-16 cs (record { files = files; moves = u; clauses = promises sheet .sound cs e })
         go (reader.refused w k) e =
             let n = reader-only w k (promises sheet .codes w k e) in
             let moving : Moving floor plan = record { floor-is = f; numbers = p; read = files; unending = u } in

@@ -26,6 +26,8 @@ use Rattle.moves.specs.Unending.{all-unending, all-accepted}
 use Rattle.grammar.specs.Grammar.{Clause}
 use Rattle.grammar.specs.Reader.{Read, accepted, readSheet}
 use Rattle.grammar.specs.Reader as reader
+use Rattle.grammar.specs.Answers.{Accepted as IsSheet}
+use Rattle.grammar.specs.Promises.{promises}
 use Rattle.sheet.specs.Rules.{readVerdict, rulesVerdict}
 use Rattle.cltl.specs.Meaning.{Rows, Proper}
 use Rattle.cltl.specs.Rules.{rules, hasNext}
@@ -98,6 +100,13 @@ module _ (P : Rows) (d : ℕ) where
   pub accepted-clauses : (cs : List Clause) → No16 cs → All (Kept P d) cs → clausesVerdict P d cs ≡ Accepted
   accepted-clauses cs s a = ap (λ (v : Verdict). andThen v (keptVerdict P d 0 cs)) (no-16-is cs s) ∙ kept-verdict 0 cs a
 
+-- a sheet of the grammar within the limits is what the reader accepts
+pub grammar-read : (s : List ℕ) (cs : List Clause) → IsSheet s cs → readSheet s ≡ accepted cs
+grammar-read s cs a = promises s .complete cs (a .sheet) (a .fits) (a .few) (a .some) (a .short)
+
+pub same-clauses : (s : List ℕ) (cs ds : List Clause) → IsSheet s cs → IsSheet s ds → cs ≡ ds
+same-clauses s cs ds a b = ap clausesOf (sym (grammar-read s cs a) ∙ grammar-read s ds b)
+
 pub sheet-read : (r : Read) → readVerdict r ≡ Accepted → r ≡ accepted (clausesOf r)
 sheet-read (reader.accepted cs) e = refl
 sheet-read (reader.refused w k) e = absurd (not-refused e)
@@ -119,10 +128,11 @@ module _ (floor plan sheet : List ℕ) where
     stages-accepted e =
         let m = both-accepted (movesVerdict floor f p) _ e in
         let r = both-accepted (rulesVerdict sheet) _ (m .1) in
-        let k = clauses-accepted (planRows floor f p) (p .head .drift) (clausesOf (readSheet sheet)) (r .1) in (
+        let k = clauses-accepted (planRows floor f p) (p .head .drift) (clausesOf (readSheet sheet)) (r .1) in
+        let cs = promises sheet .sound _ (sheet-read (readSheet sheet) (r .0)) in (
           clausesOf (readSheet sheet),
           record
-              { readable = record { files = files; moves = all-unending floor p stem-low f (m .0); clauses = sheet-read (readSheet sheet) (r .0) }; no-16 = k .0 },
+              { readable = record { files = files; moves = all-unending floor p stem-low f (m .0); clauses = cs }; no-16 = k .0 },
           k .1,
         )
 
@@ -132,7 +142,7 @@ module _ (floor plan sheet : List ℕ) where
       let w = a .readable in
       let m = all-accepted floor p (stem-low f p (w .files)) f (w .moves) in
       ap (λ (v : Verdict). andThen v (andThen (rulesVerdict sheet) (clausesVerdict (planRows floor f p) (p .head .drift) (clausesOf (readSheet sheet))))) m
-      ∙ ap (λ (r : Read). andThen (readVerdict r) (clausesVerdict (planRows floor f p) (p .head .drift) (clausesOf r))) (w .clauses)
+      ∙ ap (λ (r : Read). andThen (readVerdict r) (clausesVerdict (planRows floor f p) (p .head .drift) (clausesOf r))) (grammar-read sheet cs (w .clauses))
       ∙ accepted-clauses (planRows floor f p) (p .head .drift) cs (a .no-16) k
 
   pub stages-read : (f : Floor) (p : PlanNumbers) → ReadAs floor plan f p → checked floor plan sheet ≡ stages floor sheet f p
