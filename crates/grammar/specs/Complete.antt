@@ -11,8 +11,8 @@ use borrow.Author.Tests.{ltb-true, leb-false, ne-eqb, le-ltb, lt-ltb}
 use Rattle.grammar.specs.Grammar.{Spaces, Number, nought, other, Percent, without, sign, Rank, Part, Mark, mark, Inner, counted, Count, count, Clause, Sheet, done, line}
 use Rattle.grammar.specs.Limits.{level, nodes, InRange, markLevel, markNodes, MarkOk, countLevel, countNodes, CountOk, most, Sized, Ranged, Fits, FewLines, FewBytes}
 use Rattle.grammar.specs.Reader.{pick, Got, got, no, bind, skip, isDigit, expect, number, percent, ors, markBy, marks, inners, countEnd, countBy, counts, clauses, clauseLine, lines, accepted, refused, outcome, start, readSheet}
-use Rattle.grammar.specs.Answers.{RefusedBy, InSheet, Never, Beyond, Token}
-use Rattle.grammar.specs.Ends.{Swap, here, there, whole, not-near, keeps-near, keeps-13, keeps-14, keeps-15, swap-short, frame-count}
+use Rattle.grammar.specs.Answers.{RefusedBy, InSheet, Never, Beyond}
+use Rattle.grammar.specs.Ends.{Swap, here, there, whole, not-near, keeps-near, keeps-13, keeps-14, keeps-15, swap-short, token-in, frame-count}
 use Rattle.grammar.specs.Each.{Each, gives, denies, each-bind, each-map, each-both, each-node, either, number-keeps}
 use Rattle.grammar.specs.Sound.{spaces-short, part-short}
 use Rattle.grammar.specs.Accepts.{GoesOn, on, full, refusal}
@@ -280,20 +280,10 @@ at-byte s w (b ∷ q) e v t x f = record {
       let s' : List ℕ = take (suc (length s - length (b ∷ q))) s ++ y in
       subst (Reading (b ∷ q) (b ∷ y) both 32 s' cs d) e (lines-agrees (b ∷ q) (b ∷ y) both 32 s s' cs d (swap-on x y))
 
-token-some : {r r₁ : List ℕ} → Token r r₁ → 0 < length r
-token-some Token.word = omega arith
-token-some (Token.mark y) = omega arith
-token-some Token.paren = omega arith
-token-some Token.bracket = omega arith
-token-some (Token.prefix o) = omega arith
-token-some (Token.reach o) = omega arith
-token-some Token.and = omega arith
-token-some Token.or = omega arith
-
 goes-refused : (s : List ℕ) (w : ℕ) (r : List ℕ) → (w ≡ 15 → ⊥) → lines 32 s ≡ no w r → GoesOn whole 32 s w r → RefusedAt s (length s - length r) w
 goes-refused s w r h e (on x d (keeps-near i) o) = not-near i
 goes-refused s w r h e (on {v = v} {s' = t} x d (keeps-13 i) a) = at-byte s w r e v t x (λ j. omega arith)
-goes-refused s w r h e (on {v = v} {s' = t} x d (keeps-14 i o y) a) = at-byte s w r e v t x (λ j. token-some o)
+goes-refused s w r h e (on {v = v} {s' = t} x d (keeps-14 i o y) a) = at-byte s w r e v t x (λ j. let h = token-in o in omega arith)
 goes-refused s w r h e (on x d (keeps-15 m i o y) a) = absurd (h i)
 goes-refused s w r h e (full {s' = t} x d i j k a) = at-byte s w r e [] t x (λ i. k)
 

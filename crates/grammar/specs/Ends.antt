@@ -1,5 +1,5 @@
 -- A text with another end; every relation of the grammar holds whatever stands behind it.
-use Prim.Native.Nat.{ℕ, _≤_}
+use Prim.Native.Nat.{ℕ, _≤_, _<_}
 use mathlib.Core.Path.{_≡_, refl, ap}
 use mathlib.Core.Bool.{Bool}
 use mathlib.Core.List.{List, [], _∷_, _++_}
@@ -46,6 +46,17 @@ frame-number (other {b = b} h k x) t = let y = frame-digits x t in (b ∷ y .0, 
 pub frame-percent : {p : Bool} {s r : List ℕ} → Percent s r p → Framed (λ s r. Percent s r p) s r
 frame-percent without t = (t, here, without)
 frame-percent sign t = (37 ∷ t, there here, sign)
+
+-- a token is some bytes
+pub token-in : {q t : List ℕ} → Token q t → length t < length q
+token-in Token.word = omega arith
+token-in {t = t} (Token.mark y) = let h = swap-short (frame-number (y .number) t .1) in omega arith
+token-in Token.paren = omega arith
+token-in Token.bracket = omega arith
+token-in (Token.prefix o) = omega arith
+token-in (Token.reach o) = omega arith
+token-in Token.and = omega arith
+token-in Token.or = omega arith
 
 -- a text that goes on where another is refused: with its numbers in range, or with the token that is refused
 pub data Mode : Type 0 where

@@ -2,22 +2,23 @@
 use Prim.Native.Nat.{ℕ, zero, suc, _+_, _-_, _≤_, _<_}
 use mathlib.Core.Path.{_≡_, refl, ap, subst, sym, _∙_}
 use mathlib.Core.Logic.{_⊎_, inl, inr, ⊎-elim}
-use mathlib.Core.Bool.{Bool, true, false}
+use mathlib.Core.Bool.{Bool, true}
 use mathlib.Core.List.{List, [], _∷_, _++_, append-assoc}
 use native.Mathlib.Omega.{arith}
 use lib.ListN.{length, take, drop, getD, length-drop}
+use lib.Seq.{take-length}
 use lib.Dec.{ltb}
-use Rattle.grammar.specs.Grammar.{Form, Spaces, none, space, Digits, end, digit, Number, nought, other, Percent, without, sign, Prefix, not, next, finally, globally, prefixByte, prefixed, Reach, U, R, reachByte, reached, Rank, Part, word, parens, prefix, one-small, reach, one-until, one-and, Mark, mark, Counted, Count, count, Clause, Sheet, done, line}
+use Rattle.grammar.specs.Grammar.{Form, Spaces, none, space, Digits, end, digit, Number, nought, other, Percent, without, sign, prefixByte, reachByte, Rank, Part, word, parens, prefix, one-small, reach, one-until, one-and, Mark, mark, Counted, Count, count, Clause, Sheet, done, line}
 use Rattle.grammar.specs.Limits.{nodes, markNodes, countNodes}
-use Rattle.grammar.specs.Begun.{Begun, onBy, after, begun, TooMany}
-use Rattle.grammar.specs.Reader.{Got, got, no, lines, accepted, refused, outcome, start, readSheet}
-use Rattle.grammar.specs.Answers.{InSheet, Never, Token, Allowed, Large, OutOfRange, Over}
-use Rattle.grammar.specs.Ends.{swap-short, frame-number}
-use Rattle.grammar.specs.Each.{Each, gives, denies, either, is-digit}
+use Rattle.grammar.specs.Begun.{isNode, opens, Begun, onBy, after, begun, TooMany}
+use Rattle.grammar.specs.Reader.{Got, lines, accepted, refused, outcome, start, readSheet}
+use Rattle.grammar.specs.Answers.{InSheet, Begins, Never, Token, Allowed, Large, Over}
+use Rattle.grammar.specs.Ends.{token-in}
+use Rattle.grammar.specs.Each.{Each, gives, denies, either, never, is-digit}
 use Rattle.grammar.specs.Sound.{nodes-prefix, nodes-reach}
 use Rattle.grammar.specs.Accepts.{Refusal, refusal, code-not, allowed-14, out-15}
 use Rattle.grammar.specs.Complete.{stuck-13, denied}
-use Rattle.grammar.specs.Tracks.{quiet-digit, prefix-facts, reach-facts, Track, here, on, Hits, Stops, Begin, lines-tracked}
+use Rattle.grammar.specs.Tracks.{Quiet, quiet-digit, prefix-facts, reach-facts, Track, here, on, Hits, Stops, Begin, lines-tracked}
 
 ---- What is begun, along a derivation: the nodes are those that the limits count, and the lines those of the sheet.
 spaces-after : {s r : List ℕ} (x : Begun) → Spaces s r → after x s ≡ after x r
@@ -104,6 +105,15 @@ sheet-lines (line {r = r} p y rest) x =
     let j = u .lines in
     omega arith
 
+-- so a clause's bytes begin the nodes that the limit counts, and a sheet's its lines
+pub begun-nodes : {s : List ℕ} {c : Clause} → Part Count Rank.ors s [] c → begun s (length s) .nodes ≡ nodes countNodes c
+begun-nodes {s} p =
+    let u = part-adds Count countNodes count-adds p (Begin 0) in
+    omega (arith, ap (λ (l : List ℕ). after (Begin 0) l .nodes) (take-length s), ap (λ (z : Begun). z .nodes) (u .same), u .nodes)
+
+pub begun-lines : {s : List ℕ} {cs : List Clause} → Sheet s cs → begun s (length s) .lines ≡ length cs
+begun-lines {s} d = omega (arith, ap (λ (l : List ℕ). after (Begin 0) l .lines) (take-length s), sheet-lines d (Begin 0))
+
 ---- Along a track, by offsets.
 track-short : {x y : Begun} {s r : List ℕ} → Track x s r y → length r ≤ length s
 track-short here = omega arith
@@ -132,58 +142,64 @@ hits-at [] (suc k) y h = absurd h
 hits-at (b ∷ s) zero y h = (omega arith, h)
 hits-at (b ∷ s) (suc k) y h = let z = hits-at s k y h in (omega (arith, z .0), z .1)
 
--- a token is some bytes
-token-in : {q t : List ℕ} → Token q t → length t < length q
-token-in Token.word = omega arith
-token-in {t = t} (Token.mark y) = let h = swap-short (frame-number (y .number) t .1) in omega arith
-token-in Token.paren = omega arith
-token-in Token.bracket = omega arith
-token-in (Token.prefix o) = omega arith
-token-in (Token.reach o) = omega arith
-token-in Token.and = omega arith
-token-in Token.or = omega arith
-
 allowed-in : (s : List ℕ) (k : ℕ) (a : Allowed s k) → (k < length s) × (k < a .last)
 allowed-in s k a =
     let h : length s - a .last < length s - k = simp length-drop at (token-in (a .token)) in
     (omega arith, omega arith)
 
--- no token begins with a digit
-token-digit : {q t r : List ℕ} {b : ℕ} → Token q t → q ≡ b ∷ r → 48 ≤ b → b ≤ 57 → ⊥
-token-digit {b = b} Token.word e h k = let z : 116 ≡ b = cc in omega arith
-token-digit {b = b} (Token.mark y) e h k = let z : 109 ≡ b = cc in omega arith
-token-digit {b = b} Token.paren e h k = let z : 40 ≡ b = cc in omega arith
-token-digit {b = b} Token.bracket e h k = let z : 91 ≡ b = cc in omega arith
-token-digit {b = b} (Token.prefix not) e h k = let z : 33 ≡ b = cc in omega arith
-token-digit {b = b} (Token.prefix next) e h k = let z : 88 ≡ b = cc in omega arith
-token-digit {b = b} (Token.prefix finally) e h k = let z : 70 ≡ b = cc in omega arith
-token-digit {b = b} (Token.prefix globally) e h k = let z : 71 ≡ b = cc in omega arith
-token-digit {b = b} (Token.reach U) e h k = let z : 85 ≡ b = cc in omega arith
-token-digit {b = b} (Token.reach R) e h k = let z : 82 ≡ b = cc in omega arith
-token-digit {b = b} Token.and e h k = let z : 38 ≡ b = cc in omega arith
-token-digit {b = b} Token.or e h k = let z : 124 ≡ b = cc in omega arith
+-- the byte that a token begins with is a node or opens a level
+loud : (b c : ℕ) → c ≡ b → isNode c ≡ true → Quiet b → ⊥
+loud b c e h q = never (sym (q .node) ∙ ap isNode (sym e) ∙ h)
+
+pub token-loud : {q t r : List ℕ} {b : ℕ} → Token q t → q ≡ b ∷ r → Quiet b → ⊥
+token-loud {b = b} Token.word e q = loud b 116 (cc) refl q
+token-loud {b = b} (Token.mark y) e q = loud b 109 (cc) refl q
+token-loud {b = b} Token.paren e q = let z : 40 ≡ b = cc in never (sym (q .level) ∙ ap opens (sym z))
+token-loud {b = b} Token.bracket e q = loud b 91 (cc) refl q
+token-loud {b = b} (Token.prefix o) e q = loud b (prefixByte o) (cc) (prefix-facts o .0) q
+token-loud {b = b} (Token.reach o) e q = loud b (reachByte o) (cc) (reach-facts o .0) q
+token-loud {b = b} Token.and e q = loud b 38 (cc) refl q
+token-loud {b = b} Token.or e q = loud b 124 (cc) refl q
 
 token-number : {q r t : List ℕ} {n : ℕ} → Token q t → Number q r n → ⊥
-token-number o nought = token-digit o refl (omega arith) (omega arith)
-token-number o (other h k y) = token-digit o refl (omega arith) k
+token-number o nought = token-loud o refl (quiet-digit 48 refl)
+token-number o (other {b = b} h k y) = token-loud o refl (quiet-digit b (is-digit b (omega arith) k))
 
 large-number : {q r r₁ t : List ℕ} → Large q r r₁ → Token r t → ⊥
 large-number (Large.mark y h) o = token-number o (y .number)
 large-number (Large.count c y z h) o = token-number o (y .number)
 
-take-more : (m n : ℕ) (s : List ℕ) → m ≤ n → (q : List ℕ) × (take n s ≡ take m s ++ q)
+-- what begins with more begins with less
+take-more : (m n : ℕ) (s : List ℕ) → (n < length s → m ≤ n) → (q : List ℕ) × (take n s ≡ take m s ++ q)
 take-more zero n s h = (take n s, refl)
-take-more (suc m) zero s h = absurd (omega arith)
+take-more (suc m) zero [] h = ([], refl)
+take-more (suc m) zero (b ∷ s) h = let i = h (omega arith) in absurd (omega arith)
 take-more (suc m) (suc n) [] h = ([], refl)
-take-more (suc m) (suc n) (b ∷ s) h = let z = take-more m n s (omega arith) in (z .0, ap (λ (l : List ℕ). b ∷ l) (z .1))
+take-more (suc m) (suc n) (b ∷ s) h = let z = take-more m n s (λ i. let k = h (omega arith) in omega arith) in (z .0, ap (λ (l : List ℕ). b ∷ l) (z .1))
+
+pub take-then : (m n : ℕ) (s t : List ℕ) → (n < length s → m ≤ n) → (q : List ℕ) × (take n s ++ t ≡ take m s ++ q)
+take-then m n s t h =
+    let z = take-more m n s h in
+    (z .0 ++ t, ap (λ (l : List ℕ). l ++ t) (z .1) ∙ append-assoc (take m s) (z .0) t)
+
+pub never-begins : (m n : ℕ) (s : List ℕ) → m ≤ n → Never (take m s) → Begins (take n s) → ⊥
+never-begins m n s h f b = let z = take-then m n s (b .0) (λ i. h) in f (z .0) (b .1) (subst (λ (l : List ℕ). Sheet l (b .1)) (z .1) (b .2))
 
 never-allowed : (s : List ℕ) (k : ℕ) → (k < length s → Never (take (suc k) s)) → Allowed s k → ⊥
-never-allowed s k f a =
-    let h = allowed-in s k a in
-    let z = take-more (suc k) (a .last) s (omega (arith, h .1)) in
-    let b = a .begins in
-    let e = ap (λ (l : List ℕ). l ++ b .0) (z .1) ∙ append-assoc (take (suc k) s) (z .0) (b .0) in
-    f (h .0) (z .0 ++ b .0) (b .1) (subst (λ (l : List ℕ). Sheet l (b .1)) e (b .2))
+never-allowed s k f a = let h = allowed-in s k a in never-begins (suc k) (a .last) s (omega (arith, h .1)) (f (h .0)) (a .begins)
+
+-- bytes that begin and end nothing
+after-quiet : (s : List ℕ) (k : ℕ) (x : Begun) → Quiet (getD s k 0) → after x (take (suc k) s) ≡ after x (take k s)
+after-quiet [] zero x q = refl
+after-quiet [] (suc k) x q = refl
+after-quiet (b ∷ s) zero x q = q .same x
+after-quiet (b ∷ s) (suc k) x q = after-quiet s k (onBy b x) q
+
+pub begun-on : (s : List ℕ) (k d : ℕ) → ((j : ℕ) → j < d → Quiet (getD s (k + j) 0)) → begun s (k + d) ≡ begun s k
+begun-on s k zero f = let e : k + 0 ≡ k = omega arith in ap (begun s) e
+begun-on s k (suc d) f =
+    let e : k + suc d ≡ suc (k + d) = omega arith in
+    ap (begun s) e ∙ after-quiet s (k + d) (Begin 0) (f d (omega arith)) ∙ begun-on s k d (λ j h. f j (omega arith))
 
 ---- The laws.
 -- what stands at offset k, where a sheet is refused

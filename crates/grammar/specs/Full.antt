@@ -1,13 +1,13 @@
 -- 32 lines within the limits and then any byte: 14 there.
-use Prim.Native.Nat.{ℕ, zero, suc, _+_, _-_, _≤_, _<_, max}
-use mathlib.Core.Path.{_≡_, refl, ap, subst, sym, _∙_}
-use mathlib.Core.Logic.{_⊎_, inl, inr}
+use Prim.Native.Nat.{ℕ, suc, _-_, _≤_, _<_, max}
+use mathlib.Core.Path.{_≡_, refl, ap, subst, _∙_}
+use mathlib.Core.Logic.{inl, inr}
 use mathlib.Core.Bool.{Bool}
 use mathlib.Core.List.{List, [], _∷_, _++_}
 use native.Mathlib.Omega.{arith}
 use lib.ListN.{length, take, drop, take-append-drop, length-drop}
 use borrow.Author.Tests.{le-ltb}
-use Rattle.grammar.specs.Grammar.{Form, Spaces, Rank, Part, word, parens, prefix, one-small, reach, one-until, one-and, Mark, mark, Counted, Count, count, Clause, Sheet, done, line}
+use Rattle.grammar.specs.Grammar.{Form, Spaces, Rank, Part, word, parens, prefix, one-small, reach, one-until, one-and, Mark, Counted, Count, count, Clause, Sheet, done, line}
 use Rattle.grammar.specs.Limits.{level, markLevel, countLevel, nodes, countNodes, InRange, CountOk, Fits, FewBytes}
 use Rattle.grammar.specs.Reader.{pick, Got, got, no, bind, expect, clauses, clauseLine, lines, refused, outcome, start, readSheet}
 use Rattle.grammar.specs.Ends.{Swap, here, there, swap-trans, Framed, frame-token, frame, frame-mark, frame-count}

@@ -20,6 +20,7 @@ pub mod Complete
 pub mod Tracks
 pub mod First
 pub mod Full
+pub mod Only
 pub mod Steps
 -- worked cases
 pub mod Examples

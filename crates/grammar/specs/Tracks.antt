@@ -561,7 +561,8 @@ Begin i = record { lines = i; nodes = 0; levels = [] }
 pub lines-tracked : (k i : ℕ) (s : List ℕ) → i + k ≡ 32 → Each (λ cs m r. (y : Begun) × Track (Begin i) s [] y) (Stops (Begin i) s) (lines k s)
 unfolding lines clauseLine
 lines-tracked zero i [] h = gives (Begin i, here)
-lines-tracked zero i (b ∷ s) h = denies (record { at = Begin i; track = here; hits = λ e. inl (let j = h in omega arith); few = λ e. absurd (e refl) })
+lines-tracked zero i (b ∷ s) h =
+    let z : i ≡ 32 = omega arith in denies (record { at = Begin i; track = here; hits = λ e. inl z; few = λ e. absurd (e refl) })
 lines-tracked (suc k) i [] h = gives (Begin i, here)
 lines-tracked (suc k) i (b ∷ s) h =
     let few : i < 32 = omega arith in
