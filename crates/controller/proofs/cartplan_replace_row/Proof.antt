@@ -13,7 +13,7 @@ same-length : tie.Need-same-length
 same-length c = search needs
 
 returns : tie.Need-returns
-returns c = row-replaced _ _ _ _ _ _ (c .before .replace-row .ensures) (c .before .replace-row .ensures .numbers) _ (c .code-of .ensures)
+returns c = row-replaced _ _ _ _ _ _ (c .before .before .before .replace-row .ensures) (c .before .before .before .replace-row .ensures .numbers) _ (c .code-of .ensures)
 
 pub cartplan-replace-row-spec : {M : Type 1} → statement M
 cartplan-replace-row-spec =

@@ -13,7 +13,7 @@ same-length : tie.Need-same-length
 same-length c = search needs
 
 returns : tie.Need-returns
-returns c = floor-written _ _ _ _ (c .before .write .ensures) (c .before .write .ensures .numbers) _ (c .code-of .ensures)
+returns c = floor-written _ _ _ _ (c .before .before .before .write .ensures) (c .before .before .before .write .ensures .numbers) _ (c .code-of .ensures)
 
 pub cartplan-write-floor-spec : {M : Type 1} → statement M
 cartplan-write-floor-spec =
