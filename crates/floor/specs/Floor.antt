@@ -1,10 +1,10 @@
 -- Reading a floor: "For each record, offset at its start: 2 .. 6. At the end 7."
-use Prim.Native.Nat.{ℕ, zero, suc, _+_}
+use Prim.Native.Nat.{ℕ, _+_}
 use mathlib.Core.Bool.{Bool, true, false, cond, not, _||_}
 use mathlib.Core.List.{List, [], _∷_}
 use lib.Dec.{eqb, leb, ltb}
 use lib.ListN.{length, getD}
-use Rattle.refusal.specs.Codes.{atOffset, firstFault}
+use Rattle.refusal.specs.Codes.{atOffset, firstFault, unlessFault}
 use Rattle.refusal.specs.declared.Verdict.{Verdict}
 use Rattle.refusal.specs.declared.Verdict.the-variants.{Accepted, Floor as AboutFloor}
 use Rattle.record.specs.Record.{Record, Split, recordsIn}
@@ -65,8 +65,7 @@ counted f unknown = f
 
 -- a record refused, or counted in
 abbrev pub judgedBy : ℕ → Floor → RecordAnswer
-judgedBy zero g = Good g
-judgedBy (suc n) g = Fault (suc n)
+judgedBy n g = unlessFault n (Good g) Fault
 
 unfoldable pub judged : Floor → Kind → List ℕ → RecordAnswer
 judged f k body = judgedBy (faultOf f k body) (counted f k)

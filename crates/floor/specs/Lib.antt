@@ -12,5 +12,6 @@ pub mod Walk
 pub mod Located
 pub mod Complete
 pub mod Refusing
+pub mod Demands
 -- worked cases
 pub mod Examples

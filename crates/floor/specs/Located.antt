@@ -10,7 +10,7 @@ use Rattle.endian.specs.Little.{bytes, value, Bytes}
 use Rattle.record.specs.Record.{encoded, layout, recordsIn}
 use Rattle.record.specs.Parts.{ofKind}
 use Rattle.record.specs.All.{AllOf, each}
-use Rattle.record.specs.Laid.{layout-append, length-flatten, field-of}
+use Rattle.record.specs.Laid.{layout-append, length-bodies, length-flatten, field-of}
 use Rattle.record.specs.RoundTrip.{length-encoded, layout-records}
 use Rattle.floor.specs.Floor.{readFloor}
 use Rattle.floor.specs.Numbers.{bodiesOf, numbersOf, placeAt, laneAt, cartAt, bodyAt}
@@ -23,17 +23,6 @@ use Rattle.floor.specs.declared.FloorAnswer.the-variants.{Read}
 
 -- records of one kind and size in a row, whatever stands behind them
 module _ (k size : ℕ) where
-  row-length : (xs : List (List ℕ)) → AllOf size xs → length (layout (map (ofKind k) xs)) ≡ (4 + size) * length xs
-  unfolding layout
-  row-length [] h = sym (mul-zero (4 + size))
-  row-length (x ∷ xs) h =
-      let a = length-append (encoded (ofKind k x)) (layout (map (ofKind k) xs)) in
-      let b = length-encoded (ofKind k x) in
-      let c = row-length xs (h .1) in
-      let d = h .0 in
-      let e = mul-suc (4 + size) (length xs) in
-      omega arith
-
   row-at : (xs : List (List ℕ)) (t : List ℕ) (i : ℕ) → AllOf size xs → i < length xs
       → bodyAt size ((4 + size) * i) (layout (map (ofKind k) xs) ++ t) ≡ getD xs i []
   unfolding layout encoded bytes
@@ -87,7 +76,7 @@ module _ (s : List ℕ) (f : Floor) (b : Bytes s) (e : readFloor s ≡ Read f) w
   -- what stands so far behind the places
   past-places : (m : ℕ) → drop (8 * f .places + m) s ≡ drop m behind
   past-places m =
-      let n : 8 * f .places + m ≡ length (layout (map (ofKind 1) places)) + m = omega (arith, row-length 1 4 places (ordered .place-sizes), ordered .places) in
+      let n : 8 * f .places + m ≡ length (layout (map (ofKind 1) places)) + m = omega (arith, length-bodies 1 4 places (ordered .place-sizes), ordered .places) in
       ap₂ drop n file ∙ drop-append-add (layout (map (ofKind 1) places)) behind m
 
   place-located : (i : ℕ) → i < f .places → value (bodyAt 4 (placeAt i) s) ≡ getD (numbersOf s .places) i 0
@@ -109,7 +98,7 @@ module _ (s : List ℕ) (f : Floor) (b : Bytes s) (e : readFloor s ≡ Read f) w
       let k : cartAt f n + 4 ≡ 8 * f .places + (7 * f .lanes + (6 * n + 4)) = omega arith in
       let m : n < length carts = omega (arith, ordered .carts) in
       let far : 7 * f .lanes + (6 * n + 4) ≡ length (layout (map (ofKind 2) lanes)) + (6 * n + 4) =
-      omega (arith, row-length 2 3 lanes (ordered .lane-sizes), ordered .lanes) in
+      omega (arith, length-bodies 2 3 lanes (ordered .lane-sizes), ordered .lanes) in
       ap (λ (x : ℕ). take 2 (drop x s)) k ∙ ap (take 2) (past-places (7 * f .lanes + (6 * n + 4))
       ∙ ap (λ (x : ℕ). drop x behind) far ∙ drop-append-add (layout (map (ofKind 2) lanes)) (layout (map (ofKind 3) carts)) (6 * n + 4)
       ∙ ap (drop (6 * n + 4)) (sym (append-nil (layout (map (ofKind 3) carts)))))

@@ -9,14 +9,14 @@ use lib.Dec.{eqb, ltb}
 use lib.ListN.{length}
 use Rattle.refusal.specs.Codes.{atOffset}
 use Rattle.refusal.specs.Given.{OneOf, Given, floorNumbers, readingFloor, writingFloor}
-use Rattle.refusal.specs.Numbered.{one-among, one-of-more, one-fault}
+use Rattle.refusal.specs.Numbered.{one-among, one-of-more, by-number}
 use Rattle.refusal.specs.Outcome.{Gives, Outcome}
 use Rattle.refusal.specs.Held.{given-written}
 use Rattle.refusal.specs.declared.Refusal.{Refusal}
 use Rattle.refusal.specs.declared.Verdict.{Verdict}
 use Rattle.refusal.specs.declared.Verdict.the-variants.{Floor as AboutFloor}
 use Rattle.record.specs.Record.{Record, recordsIn}
-use Rattle.floor.specs.Floor.{Kind, kindOf, outOfPlace, sizeOf, full, badField, faultOf, counted, judgedBy, judged, onward, walk, atEnd, emptyFloor, readOn, readFloor, floorVerdict}
+use Rattle.floor.specs.Floor.{Kind, kindOf, outOfPlace, sizeOf, full, badField, counted, judged, onward, walk, atEnd, emptyFloor, readOn, readFloor, floorVerdict}
 use Rattle.floor.specs.Numbers.{FloorNumbers, floorBytes, byReading, writeFloor}
 use Rattle.floor.specs.declared.Floor.{Floor}
 use Rattle.floor.specs.declared.RecordAnswer.{RecordAnswer}
@@ -34,13 +34,8 @@ FaultListed (Fault n) = OneOf floorNumbers n
 fault-listed : (f : Floor) (k : Kind) (body : List ℕ) → FaultListed (judged f k body)
 unfolding judged
 fault-listed f k body =
-    go (faultOf f k body)
-    (one-fault ((outOfPlace f k, 3) ∷ (not (eqb (length body) (sizeOf k)), 4) ∷ (full f k, 5) ∷ (badField f k body, 6) ∷ []))
-  where
-    go : (n : ℕ) → (n ≡ 0) ⊎ OneOf (3 ∷ 4 ∷ 5 ∷ 6 ∷ []) n → FaultListed (judgedBy n (counted f k))
-    go zero h = tt
-    go (suc n) (inl e) = absurd (omega arith)
-    go (suc n) (inr h) = one-of-more (3 ∷ 4 ∷ 5 ∷ 6 ∷ []) floorNumbers (suc n) refl h
+    let tests : List (Bool × ℕ) = (outOfPlace f k, 3) ∷ (not (eqb (length body) (sizeOf k)), 4) ∷ (full f k, 5) ∷ (badField f k body, 6) ∷ [] in
+    by-number FaultListed tests (Good (counted f k)) Fault tt (λ n h. one-of-more (3 ∷ 4 ∷ 5 ∷ 6 ∷ []) floorNumbers n refl h)
 
 -- records in order: that of the first refused
 abbrev StopListed : Walked → Type 0

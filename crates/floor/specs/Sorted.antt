@@ -7,11 +7,11 @@ use mathlib.Core.List.{List, [], _∷_, _++_, map}
 use lib.Dec.{eqb, leb, ltb}
 use lib.ListN.{length, getD}
 use borrow.Author.Tests.{eqb-true, ltb-false, leb-false}
-use Rattle.refusal.specs.Faults.{none-holds, not-not, either-false}
+use Rattle.refusal.specs.Faults.{none-holds, no-fault, not-not, either-false}
 use Rattle.record.specs.Record.{Record}
 use Rattle.record.specs.Parts.{ofKind}
 use Rattle.record.specs.All.{All, AllOf}
-use Rattle.floor.specs.Floor.{Kind, place, lane, cart, unknown, kindOf, outOfPlace, sizeOf, full, badField, faultOf, counted, judgedBy, judged, onward, walk}
+use Rattle.floor.specs.Floor.{Kind, place, lane, cart, unknown, kindOf, outOfPlace, sizeOf, full, badField, faultOf, counted, judged, onward, walk}
 use Rattle.floor.specs.Numbers.{bodiesOf}
 use Rattle.floor.specs.declared.Floor.{Floor}
 use Rattle.floor.specs.declared.RecordAnswer.{RecordAnswer}
@@ -26,19 +26,20 @@ pub record Passed (f : Floor) (k : Kind) (body : List ℕ) (g : Floor) : Type 0 
   pub there : badField f k body ≡ false
   pub count : g ≡ counted f k
 
-good-by : (n : ℕ) (h g : Floor) → judgedBy n h ≡ Good g → (n ≡ 0) × (g ≡ h)
-good-by zero h g e = (refl, cc)
-good-by (suc n) h g e = let z : _≡_ {A = ℕ} 0 1 = cc in absurd (omega arith)
+fault-apart : (g : Floor) (n : ℕ) → Fault n ≡ Good g → ⊥
+fault-apart g n e = let z : _≡_ {A = ℕ} 0 1 = cc in omega arith
 
 pub passed : (f : Floor) (k : Kind) (body : List ℕ) (g : Floor) → judged f k body ≡ Good g → Passed f k body g
 unfolding judged
 passed f k body g e =
-    let j = good-by (faultOf f k body) (counted f k) g e in
+    let j = no-fault (faultOf f k body) (Good (counted f k)) Fault (Good g) (fault-apart g) e in
+    let is : Good (counted f k) ≡ Good g = j .1 in
+    let count : g ≡ counted f k = cc in
     let a = none-holds (outOfPlace f k) 2 _ (j .0) in
     let b = none-holds (not (eqb (length body) (sizeOf k))) 3 _ (a .1) in
     let c = none-holds (full f k) 4 _ (b .1) in
     let d = none-holds (badField f k body) 5 _ (c .1) in
-    record { order = a .0; size = eqb-true _ _ (not-not _ (b .0)); room = c .0; there = d .0; count = j .1 }
+    record { order = a .0; size = eqb-true _ _ (not-not _ (b .0)); room = c .0; there = d .0; count = count }
 
 -- the bodies by kind, and the records that they make up in file order
 abbrev pub grouped : List Record → List Record

@@ -39,13 +39,13 @@ length-padded row h =
     let b = length-zeros (64 - length row) in
     omega arith
 
-length-rows : (rows : List (List ℕ)) → Short rows → length (flatten (map padded rows)) ≡ 64 * length rows
+length-front : (rows : List (List ℕ)) → Short rows → length (flatten (map padded rows)) ≡ 64 * length rows
 unfolding flatten
-length-rows [] s = refl
-length-rows (row ∷ rows) s =
+length-front [] s = refl
+length-front (row ∷ rows) s =
     let a = length-append (padded row) (flatten (map padded rows)) in
     let b = length-padded row (s .0) in
-    let c = length-rows rows (s .1) in
+    let c = length-front rows (s .1) in
     omega arith
 
 rows-append : (rows : List (List ℕ)) (row : List ℕ) → flatten (map padded (rows ++ (row ∷ []))) ≡ flatten (map padded rows) ++ padded row
@@ -63,7 +63,7 @@ pub length-block : (rows : List (List ℕ)) → Short rows → length rows ≤ 3
 unfolding blockOf
 length-block rows s h =
     let a = length-append (flatten (map padded rows)) (zeros (64 * (32 - length rows))) in
-    let b = length-rows rows s in
+    let b = length-front rows s in
     let c = length-zeros (64 * (32 - length rows)) in
     omega arith
 
@@ -76,7 +76,7 @@ row-stored rows row s h l =
     let m = 64 * (32 - length rows) in
     let rest = 64 * (32 - length (rows ++ (row ∷ []))) in
     let a = length-append rows (row ∷ []) in
-    let at : length rows * 64 ≡ length front + 0 = omega (arith, length-rows rows s) in
+    let at : length rows * 64 ≡ length front + 0 = omega (arith, length-front rows s) in
     let none : 0 + length row ≡ length row = omega arith in
     let fill : m - length row ≡ 64 - length row + rest = omega arith in
     ap (λ (k : ℕ). stored (front ++ zeros m) k row) at ∙ stored-behind front (zeros m) 0 row

@@ -10,14 +10,14 @@ use borrow.Author.Tests.{lt-leb, le-ltb, eq-eqb, ne-eqb}
 use Rattle.record.specs.Record.{encoded, layout}
 use Rattle.record.specs.Parts.{parts, ofKind, laid}
 use Rattle.record.specs.All.{All, AllOf, all-of}
-use Rattle.record.specs.Laid.{parts-flatten}
+use Rattle.record.specs.Laid.{parts-flatten, length-bodies}
 use Rattle.record.specs.RoundTrip.{length-encoded}
 use Rattle.floor.specs.declared.Floor.{Floor}
 use Rattle.plan.specs.Plan.{PlanNumbers, accepted, outOfRange, judgedPlaces, judgedRow, rowFaultBy, rowFault, onward, readRows, readPlan}
 use Rattle.plan.specs.Numbers.{Narrow, planBytes, planFile}
-use Rattle.plan.specs.Valid.{InRange, ValidPlan}
+use Rattle.plan.specs.Valid.{InRange, RowFits, ValidPlan}
 use Rattle.plan.specs.RoundTrip.{length-plan}
-use Rattle.plan.specs.Passed.{RowFits}
+use Rattle.plan.specs.Passed.{row-sizes}
 use Rattle.plan.specs.Judged.{good-head}
 use Rattle.plan.specs.declared.Head.{Head}
 use Rattle.plan.specs.declared.RowAnswer.{RowAnswer}
@@ -59,16 +59,6 @@ rows-fit f h (x ∷ xs) done at s p l =
     ∙ rows-fit f h xs (done ++ (x ∷ [])) (at + 4 + length x) (s .1) (p .1) (omega arith)
     ∙ ap (λ (y : List (List ℕ)). accepted (record { head = h; rows = y })) (append-assoc done (x ∷ []) xs)
 
--- rows of so many steps, laid out
-length-rows : (k : ℕ) (xs : List (List ℕ)) → AllOf k xs → length (layout (map (ofKind 5) xs)) ≡ length xs * (4 + k)
-unfolding layout
-length-rows k [] s = omega arith
-length-rows k (x ∷ xs) s =
-    let a = length-append (encoded (ofKind 5 x)) (layout (map (ofKind 5) xs)) in
-    let b = length-encoded (ofKind 5 x) in
-    let c = length-rows k xs (s .1) in
-    omega (arith, s .0, suc-mul (length xs) (4 + k))
-
 few-rows : (k n : ℕ) → k ≤ 64 → n ≤ 32 → n * (4 + k) ≤ 32 * 68
 few-rows k n a b = mul-le-mul {n₁ = n} {m₁ = 4 + k} {m₂ = 68} b (omega arith)
 
@@ -77,21 +67,20 @@ pub complete : (f : Floor) (h : Head) (rows : List ℕ) → f .carts ≤ 32 → 
 complete f h rows m v =
     let xs = parts (h .steps) rows in
     let r = v .head in
-    let sizes : AllOf (h .steps) xs = all-of (λ (x : List ℕ). length x ≡ h .steps) [] xs (λ i l. v .steps i (omega (arith, v .carts))) in
+    let sizes = row-sizes (record { head = h; rows = xs }) f v in
     let places : All (λ (row : List ℕ). judgedPlaces (f .places) 0 row ≡ Fits) xs =
     all-of (λ (row : List ℕ). judgedPlaces (f .places) 0 row ≡ Fits) [] xs
     (λ i l. fits-all (f .places) 0 (getD xs i []) (λ s k. v .places i s (omega (arith, v .carts)) (omega (arith, v .steps i (omega (arith, v .carts)))))) in
     let short : length (planBytes h rows) ≤ 65536 =
-    omega (arith, length-plan h rows, length-rows (h .steps) xs sizes, few-rows (h .steps) (length xs) (r .steps) (omega (arith, v .carts))) in
+    omega (arith, length-plan h rows, length-bodies 5 (h .steps) xs sizes, few-rows (h .steps) (length xs) (r .steps) (omega (arith, v .carts))) in
     let narrow : Narrow h = record { steps = omega (arith, r .steps); stem = omega (arith, r .steps, r .stem); drift = omega (arith, r .drift) } in
     good-head f h rows narrow short (in-range h r) ∙ rows-fit f h xs [] 10 sizes places (omega (arith, v .carts))
 
 -- the file of a plan's numbers, if they are those of the table
 pub file-reads : (f : Floor) (n : PlanNumbers) → f .carts ≤ 32 → ValidPlan n f → readPlan f (planFile n) ≡ accepted n
 file-reads f n few v =
-    let sizes : AllOf (n .head .steps) (n .rows) = all-of (λ (x : List ℕ). length x ≡ n .head .steps) [] (n .rows) (λ i l. v .steps i (omega (arith, v .carts))) in
     let e : record { head = n .head; rows = parts (n .head .steps) (flatten (n .rows)) } ≡ n =
-    ap (λ (x : List (List ℕ)). record { head = n .head; rows = x }) (parts-flatten (n .head .steps) (n .rows) (v .head .some) sizes) in
+    ap (λ (x : List (List ℕ)). record { head = n .head; rows = x }) (parts-flatten (n .head .steps) (n .rows) (v .head .some) (row-sizes n f v)) in
     complete f (n .head) (flatten (n .rows)) few (subst (λ (x : PlanNumbers). ValidPlan x f) (sym e) v) ∙ ap accepted e
 
 -- it has a head of ten bytes, and for each row four and its steps
@@ -100,7 +89,7 @@ file-length n some sizes =
     let k = n .head .steps in
     let e : length (laid 5 k (flatten (n .rows))) ≡ length (layout (map (ofKind 5) (n .rows))) =
     ap (λ (x : List (List ℕ)). length (layout (map (ofKind 5) x))) (parts-flatten k (n .rows) some sizes) in
-    omega (arith, length-plan (n .head) (flatten (n .rows)), length-rows k (n .rows) sizes)
+    omega (arith, length-plan (n .head) (flatten (n .rows)), length-bodies 5 k (n .rows) sizes)
 
 pub file-short : (n : PlanNumbers) → InRange (n .head) → AllOf (n .head .steps) (n .rows) → length (n .rows) ≤ 32 → length (planFile n) ≤ 65536
 file-short n r sizes few = omega (arith, file-length n (r .some) sizes, few-rows (n .head .steps) (length (n .rows)) (r .steps) few)

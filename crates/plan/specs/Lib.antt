@@ -13,5 +13,6 @@ pub mod Judged
 pub mod Complete
 pub mod Read
 pub mod Refusing
+pub mod Demands
 -- worked cases
 pub mod Examples

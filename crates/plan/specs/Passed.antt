@@ -7,14 +7,17 @@ use mathlib.Core.List.{List, [], _∷_}
 use lib.Dec.{eqb, leb, ltb}
 use lib.ListN.{length, getD}
 use borrow.Author.Tests.{eqb-true, eqb-false, leb-false, ltb-false}
-use Rattle.refusal.specs.Faults.{none-holds, not-not, either-false}
+use Rattle.refusal.specs.Codes.{atOffset}
+use Rattle.refusal.specs.Faults.{none-holds, no-fault, not-not, either-false}
+use Rattle.record.specs.All.{AllOf, all-of}
 use Rattle.floor.specs.declared.Floor.{Floor}
-use Rattle.plan.specs.Plan.{headFrom, outOfRange, headFault, headBy, judgedHead, judgedPlaces, judgedRow, rowNumber, rowFault}
-use Rattle.plan.specs.Valid.{InRange}
+use Rattle.plan.specs.Plan.{PlanNumbers, headFrom, outOfRange, headFault, judgedHead, judgedPlaces, judgedRow, rowNumber, rowFault}
+use Rattle.plan.specs.Valid.{InRange, ValidPlan}
+pub use Rattle.plan.specs.Valid.{RowFits}
 use Rattle.plan.specs.declared.RowAnswer.{RowAnswer}
 use Rattle.plan.specs.declared.RowAnswer.the-variants.{Fits, WrongLength, Absent}
 use Rattle.plan.specs.declared.Head.{Head}
-use Rattle.plan.specs.declared.HeadAnswer.the-variants.{Good}
+use Rattle.plan.specs.declared.HeadAnswer.the-variants.{Good, Refused}
 
 pub in-range : (h : Head) → outOfRange h ≡ false → InRange h
 in-range h e =
@@ -30,22 +33,23 @@ pub record HeadPassed (kind : ℕ) (body : List ℕ) (h : Head) : Type 0 where
   pub range : InRange h
   pub is : h ≡ headFrom body
 
-good-by : (n : ℕ) (g h : Head) → headBy n g ≡ Good h → (n ≡ 0) × (h ≡ g)
-good-by zero g h e = (refl, cc)
-good-by (suc n) g h e = let z : _≡_ {A = ℕ} 0 1 = cc in absurd (omega arith)
+refused-apart : (h : Head) (n : ℕ) → Refused (atOffset n 0) ≡ Good h → ⊥
+refused-apart h n e = let z : _≡_ {A = ℕ} 0 1 = cc in omega arith
 
 pub head-passed : (kind : ℕ) (body : List ℕ) (h : Head) → judgedHead kind body ≡ Good h → HeadPassed kind body h
 unfolding judgedHead
 head-passed kind body h e =
-    let j = good-by (headFault kind body) (headFrom body) h e in
+    let j = no-fault (headFault kind body) (Good (headFrom body)) (λ n. Refused (atOffset n 0)) (Good h) (refused-apart h) e in
+    let good : Good (headFrom body) ≡ Good h = j .1 in
+    let is : h ≡ headFrom body = cc in
     let a = none-holds (not (eqb kind 4)) 2 _ (j .0) in
     let b = none-holds (not (eqb (length body) 6)) 3 _ (a .1) in
     let c = none-holds (outOfRange (headFrom body)) 7 _ (b .1) in
     record {
       kind-is = eqb-true _ _ (not-not _ (a .0));
       size = eqb-true _ _ (not-not _ (b .0));
-      range = subst InRange (sym (j .1)) (in-range (headFrom body) (c .0));
-      is = j .1;
+      range = subst InRange (sym is) (in-range (headFrom body) (c .0));
+      is = is;
     }
 
 pub record RowPassed (f : Floor) (h : Head) (n kind : ℕ) (body : List ℕ) : Type 0 where
@@ -100,10 +104,9 @@ all-on-floor places i (p ∷ row) e s l = go (leb places p) refl (all-on-floor p
     go false q f e zero l = leb-false _ _ q
     go false q f e (suc s) l = f e s (omega arith)
 
--- a row by itself: it has h steps, and its places are on the floor
-pub record RowFits (steps places : ℕ) (row : List ℕ) : Type 0 where
-  pub size : length row ≡ steps
-  pub there : (s : ℕ) → s < length row → getD row s 0 < places
+-- the rows of a valid plan have its steps
+pub row-sizes : (n : PlanNumbers) (f : Floor) → ValidPlan n f → AllOf (n .head .steps) (n .rows)
+row-sizes n f v = all-of (λ (x : List ℕ). length x ≡ n .head .steps) [] (n .rows) (λ i l. v .steps i (omega (arith, v .carts)))
 
 pub row-fits : (steps places : ℕ) (row : List ℕ) → judgedRow row steps places ≡ Fits → RowFits steps places row
 unfolding judgedRow

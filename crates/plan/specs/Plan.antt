@@ -5,7 +5,7 @@ use mathlib.Core.List.{List, [], _∷_, _++_, map, flatten}
 use lib.Dec.{eqb, leb, ltb}
 use lib.ListN.{length, take, drop, replicate}
 use Rattle.endian.specs.Little.{value}
-use Rattle.refusal.specs.Codes.{atOffset, firstFault}
+use Rattle.refusal.specs.Codes.{atOffset, firstFault, unlessFault}
 use Rattle.refusal.specs.declared.Refusal.{Refusal}
 use Rattle.refusal.specs.declared.Verdict.{Verdict}
 use Rattle.refusal.specs.declared.Verdict.the-variants.{Accepted, Floor as AboutFloor, Plan as AboutPlan}
@@ -40,8 +40,7 @@ abbrev pub headFault : ℕ → List ℕ → ℕ
 headFault kind body = firstFault ((not (eqb kind 4), 3) ∷ (not (eqb (length body) 6), 4) ∷ (outOfRange (headFrom body), 8) ∷ [])
 
 abbrev pub headBy : ℕ → Head → HeadAnswer
-headBy zero h = Good h
-headBy (suc n) h = Refused (atOffset (suc n) 0)
+headBy n h = unlessFault n (Good h) (λ m. Refused (atOffset m 0))
 
 unfoldable pub judgedHead : ℕ → List ℕ → HeadAnswer
 judgedHead kind body = headBy (headFault kind body) (headFrom body)
@@ -89,8 +88,7 @@ rowsEnd f h rows at false = cond (ltb (length rows) (f .carts)) (rejected (atOff
 
 -- on with what follows a record, or a refusal at its offset
 abbrev pub onward : ℕ → ℕ → PlanAnswer → PlanAnswer
-onward zero at next = next
-onward (suc n) at next = rejected (atOffset (suc n) at)
+onward n at next = unlessFault n next (λ m. rejected (atOffset m at))
 
 -- "The lowest offset wins": records in order, with the rows and the offset so far, up to the first refusal
 unfoldable pub readRows : Floor → Head → List (List ℕ) → ℕ → List Record → Bool → PlanAnswer

@@ -5,13 +5,12 @@ use mathlib.Core.Path.{_≡_, refl, sym, ap, ap₂, subst, _∙_}
 use mathlib.Core.Bool.{true, false}
 use mathlib.Core.List.{List, [], _∷_, _++_}
 use lib.ListN.{length, take, drop, getD, length-drop}
-use lib.Seq.{drop-drop, length-take-le}
+use lib.Seq.{drop-drop, length-take-le, ext-getD}
 use Rattle.refusal.specs.Stages.{isAccepted}
 use Rattle.refusal.specs.Accepting.{accepted-is}
 use Rattle.refusal.specs.declared.Refusal.{Refusal}
 use Rattle.refusal.specs.declared.Verdict.{Verdict}
 use Rattle.refusal.specs.declared.Verdict.the-variants.{Floor as AboutFloor, Plan as AboutPlan}
-use Rattle.record.specs.All.{AllOf, all-of}
 use Rattle.floor.specs.Floor.{readFloor}
 use Rattle.floor.specs.declared.Floor.{Floor}
 use Rattle.floor.specs.declared.FloorAnswer.{FloorAnswer}
@@ -20,6 +19,7 @@ use Rattle.plan.specs.Plan.{PlanNumbers, PlanAnswer, accepted, rejected,
 use Rattle.plan.specs.After.{afterReading, ReadAs}
 use Rattle.plan.specs.Promises.{AcceptedPlan, PlanReads}
 use Rattle.plan.specs.Valid.{InRange}
+use Rattle.plan.specs.Passed.{row-sizes}
 use Rattle.plan.specs.Block.{length-block, short-all}
 use Rattle.plan.specs.declared.Head.{Head}
 use Rattle.plan.specs.declared.Plan.{Plan}
@@ -63,14 +63,6 @@ module _ (steps : ℕ) (block : List ℕ) (c : ℕ) where
   pub part-length : c < 32 → steps ≤ 64 → length block ≡ 2048 → length (blockPart steps block c) ≡ steps
   part-length l fits size = ap length part-is ∙ length-take-le steps (drop (64 * c) block) (omega (arith, length-drop (64 * c) block))
 
--- lists of one length with the same elements
-same-rows : (xs ys : List (List ℕ)) → length xs ≡ length ys → ((c : ℕ) → c < length ys → getD xs c [] ≡ getD ys c []) → xs ≡ ys
-same-rows [] [] e f = refl
-same-rows [] (y ∷ ys) e f = absurd (omega arith)
-same-rows (x ∷ xs) [] e f = absurd (omega arith)
-same-rows (x ∷ xs) (y ∷ ys) e f =
-    ap₂ (λ (a : List ℕ) (l : List (List ℕ)). a ∷ l) (f 0 (omega arith)) (same-rows xs ys (omega arith) (λ c l. f (suc c) (omega arith)))
-
 -- an accepted plan holds the numbers of its file
 module _ (floor s : List ℕ) (r : PlanRead) (w : AcceptedPlan floor s r) where
   pub held-head : r .plan .head ≡ w .numbers .head
@@ -81,8 +73,8 @@ module _ (floor s : List ℕ) (r : PlanRead) (w : AcceptedPlan floor s r) where
       let n = w .numbers in
       let c = r .floor .carts in
       let rows : blockRows c (n .head .steps) (r .plan .block) ≡ n .rows =
-      same-rows _ (n .rows) (length-rows-in c (n .head .steps) (r .plan .block) ∙ sym (w .valid .carts))
-      (λ i l. let m : i < c = omega (arith, w .valid .carts) in row-in c (n .head .steps) (r .plan .block) i m ∙ w .row i m) in
+      ext-getD [] _ (n .rows) (length-rows-in c (n .head .steps) (r .plan .block) ∙ sym (w .valid .carts))
+      (λ i l. let m : i < c = omega (arith, length-rows-in c (n .head .steps) (r .plan .block)) in row-in c (n .head .steps) (r .plan .block) i m ∙ w .row i m) in
       ap (λ (h : Head). heldNumbers c h (r .plan .block)) held-head ∙ ap (λ (x : List (List ℕ)). record { head = n .head; rows = x }) rows
 
   pub held-range : InRange (r .plan .head)
@@ -92,10 +84,8 @@ module _ (floor s : List ℕ) (r : PlanRead) (w : AcceptedPlan floor s r) where
   held-length few =
       let n = w .numbers in
       let v = w .valid in
-      let sizes : AllOf (n .head .steps) (n .rows) =
-      all-of (λ (x : List ℕ). length x ≡ n .head .steps) [] (n .rows) (λ i l. v .steps i (omega (arith, v .carts))) in
       ap (λ (p : Plan). length (p .block)) (w .held)
-      ∙ length-block (n .rows) (short-all (n .head .steps) (n .rows) (v .head .steps) sizes) (omega (arith, v .carts))
+      ∙ length-block (n .rows) (short-all (n .head .steps) (n .rows) (v .head .steps) (row-sizes n (r .floor) v)) (omega (arith, v .carts))
 
 pub accepts-if : (floor s : List ℕ) (r : PlanRead) → PlanReads floor s r → isAccepted (r .verdict) ≡ true → AcceptedPlan floor s r
 accepts-if floor s r w e = w .accepted (accepted-is _ e)

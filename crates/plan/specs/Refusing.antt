@@ -9,7 +9,7 @@ use lib.Dec.{eqb, leb, ltb}
 use lib.ListN.{length}
 use Rattle.refusal.specs.Codes.{atOffset}
 use Rattle.refusal.specs.Given.{OneOf, Refusals, Given, accepts, floorNumbers, planNumbers, readingFloor, readingPlan, writingPlan}
-use Rattle.refusal.specs.Numbered.{allAmong, one-among, one-of-more, one-fault}
+use Rattle.refusal.specs.Numbered.{allAmong, one-among, one-of-more, by-number}
 use Rattle.refusal.specs.Held.{given-written}
 use Rattle.refusal.specs.declared.Refusal.{Refusal}
 use Rattle.refusal.specs.declared.Verdict.{Verdict}
@@ -20,7 +20,7 @@ use Rattle.floor.specs.Refusing.{refused-number as floor-number}
 use Rattle.floor.specs.declared.Floor.{Floor}
 use Rattle.floor.specs.declared.FloorAnswer.{FloorAnswer}
 use Rattle.floor.specs.declared.FloorAnswer.the-variants.{Read as FloorAccepted, Refused as FloorRefused}
-use Rattle.plan.specs.Plan.{PlanNumbers, PlanAnswer, accepted, rejected, headFrom, outOfRange, headFault, headBy, judgedHead, firstHead, judgedRow, rowNumber, rowFault, rowsEnd, onward, readRows, behindHead, afterFirst, readRecords, readPlan, afterPlan, afterFloor, refusedRead, acceptedRead, readBoth}
+use Rattle.plan.specs.Plan.{PlanNumbers, PlanAnswer, accepted, rejected, headFrom, outOfRange, judgedHead, firstHead, judgedRow, rowNumber, readRows, behindHead, afterFirst, readRecords, readPlan, afterPlan, afterFloor, refusedRead, acceptedRead, readBoth}
 use Rattle.plan.specs.After.{afterReading, ReadAs}
 use Rattle.plan.specs.Numbers.{planBytes, byReading, writeFor, byFloor, writePlan}
 use Rattle.plan.specs.declared.Head.{Head}
@@ -40,12 +40,8 @@ Listed (rejected r) = OneOf planNumbers (r .number)
 judged-listed : (kind : ℕ) (body : List ℕ) → HeadListed (judgedHead kind body)
 unfolding judgedHead
 judged-listed kind body =
-    go (headFault kind body) (one-fault ((not (eqb kind 4), 3) ∷ (not (eqb (length body) 6), 4) ∷ (outOfRange (headFrom body), 8) ∷ []))
-  where
-    go : (n : ℕ) → (n ≡ 0) ⊎ OneOf (3 ∷ 4 ∷ 8 ∷ []) n → HeadListed (headBy n (headFrom body))
-    go zero h = tt
-    go (suc n) (inl e) = absurd (omega arith)
-    go (suc n) (inr h) = one-of-more (3 ∷ 4 ∷ 8 ∷ []) planNumbers (suc n) refl h
+    let tests : List (Bool × ℕ) = (not (eqb kind 4), 3) ∷ (not (eqb (length body) 6), 4) ∷ (outOfRange (headFrom body), 8) ∷ [] in
+    by-number HeadListed tests (Good (headFrom body)) (λ n. Refused (atOffset n 0)) tt (λ n h. one-of-more (3 ∷ 4 ∷ 8 ∷ []) planNumbers n refl h)
 
 head-listed : (rs : List Record) (cut : Bool) → HeadListed (firstHead rs cut)
 head-listed [] true = one-among planNumbers 2 refl
@@ -63,13 +59,9 @@ rows-listed f h [] done at false = go (ltb (length done) (f .carts))
     go false = tt
 rows-listed f h (r ∷ rs) done at cut =
     let a = rowNumber (judgedRow (r .body) (h .steps) (f .places)) in
-    go (rowFault f h (length done) (r .kind) (r .body))
-    (one-fault ((not (eqb (r .kind) 5), 3) ∷ (eqb a 4, 4) ∷ (leb (f .carts) (length done), 5) ∷ (eqb a 9, 9) ∷ [])) _ (rows-listed f h rs (done ++ (r .body ∷ [])) (at + 4 + length (r .body)) cut)
-  where
-    go : (n : ℕ) → (n ≡ 0) ⊎ OneOf (3 ∷ 4 ∷ 5 ∷ 9 ∷ []) n → (next : PlanAnswer) → Listed next → Listed (onward n at next)
-    go zero h next l = l
-    go (suc n) (inl e) next l = absurd (omega arith)
-    go (suc n) (inr h) next l = one-of-more (3 ∷ 4 ∷ 5 ∷ 9 ∷ []) planNumbers (suc n) refl h
+    let tests : List (Bool × ℕ) = (not (eqb (r .kind) 5), 3) ∷ (eqb a 4, 4) ∷ (leb (f .carts) (length done), 5) ∷ (eqb a 9, 9) ∷ [] in
+    by-number Listed tests (readRows f h (done ++ (r .body ∷ [])) (at + 4 + length (r .body)) rs cut) (λ n. rejected (atOffset n at))
+    (rows-listed f h rs (done ++ (r .body ∷ [])) (at + 4 + length (r .body)) cut) (λ n h. one-of-more (3 ∷ 4 ∷ 5 ∷ 9 ∷ []) planNumbers n refl h)
 
 -- before all else 1
 listed : (f : Floor) (s : List ℕ) → Listed (readPlan f s)

@@ -1,7 +1,7 @@
 -- The numbers of a readable plan for a floor: the table of 'Files' in document 01.
 use Prim.Native.Nat.{ℕ, _≤_, _<_}
 use mathlib.Core.Path.{_≡_}
-use mathlib.Core.List.{[]}
+use mathlib.Core.List.{List, []}
 use lib.ListN.{length, getD}
 use Rattle.floor.specs.declared.Floor.{Floor}
 use Rattle.plan.specs.Plan.{PlanNumbers}
@@ -13,6 +13,11 @@ pub record InRange (h : Head) : Type 0 where
   pub steps : h .steps ≤ 64
   pub stem : h .stem < h .steps
   pub drift : h .drift ≤ 16
+
+-- "h bytes, one place a step": a row by itself has h steps, and its places are on the floor
+pub record RowFits (steps places : ℕ) (row : List ℕ) : Type 0 where
+  pub size : length row ≡ steps
+  pub there : (s : ℕ) → s < length row → getD row s 0 < places
 
 pub record ValidPlan (n : PlanNumbers) (f : Floor) : Type 0 where
   pub head : InRange (n .head)

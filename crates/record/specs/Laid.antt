@@ -1,6 +1,6 @@
 -- Parts and records laid out: one after the other, their lengths, and back again.
 use Prim.Native.Nat.{ℕ, zero, suc, _+_, _-_, _*_, _/_, _≤_, _<_, min}
-use native.Mathlib.Nat.{add-div-right, div-eq-of-lt, min-eq-left, min-eq-right, min-le-left, min-le-right, le-of-lt, add-sub-of-le, add-comm, mul-zero, mul-suc}
+use native.Mathlib.Nat.{add-div-right, div-eq-of-lt, min-eq-left, min-eq-right, min-le-left, min-le-right, le-of-lt, add-sub-of-le, add-comm, mul-zero, mul-suc, suc-mul}
 use native.Mathlib.Omega.{arith}
 use mathlib.Core.Path.{_≡_, refl, sym, ap, ap₂, subst, _∙_}
 use mathlib.Core.Bool.{Bool, true, false}
@@ -19,6 +19,16 @@ pub layout-append : (rs ts : List Record) → layout (rs ++ ts) ≡ layout rs ++
 unfolding layout
 layout-append [] ts = refl
 layout-append (r ∷ rs) ts = ap (λ (x : List ℕ). encoded r ++ x) (layout-append rs ts) ∙ sym (append-assoc (encoded r) (layout rs) (layout ts))
+
+-- bodies of one length laid out
+pub length-bodies : (k size : ℕ) (xs : List (List ℕ)) → AllOf size xs → length (layout (map (ofKind k) xs)) ≡ length xs * (4 + size)
+unfolding layout
+length-bodies k size [] s = omega arith
+length-bodies k size (x ∷ xs) s =
+    let a = length-append (encoded (ofKind k x)) (layout (map (ofKind k) xs)) in
+    let b = length-encoded (ofKind k x) in
+    let c = length-bodies k size xs (s .1) in
+    omega (arith, s .0, suc-mul (length xs) (4 + size))
 
 -- the shorter of a part's size and what is left, and what is then the same
 short-or-full : (n : ℕ) (l : List ℕ) (P : ℕ → Type 0) → P n → (length l ≤ n → P (length l)) → P (min n (length l))

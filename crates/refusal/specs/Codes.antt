@@ -1,5 +1,5 @@
 -- Document 01's numbers of each refusal, and the four numbers of a verdict.
-use Prim.Native.Nat.{ℕ}
+use Prim.Native.Nat.{ℕ, zero, suc}
 use mathlib.Core.Bool.{Bool, cond}
 use mathlib.Core.List.{List, [], _∷_, _++_}
 use Rattle.endian.specs.Little.{bytes}
@@ -20,6 +20,11 @@ atOffset number at = refused number at 0
 abbrev pub firstFault : List (Bool × ℕ) → ℕ
 firstFault [] = 0
 firstFault (t ∷ ts) = cond (t .0) (t .1) (firstFault ts)
+
+-- what is given where no test holds, else the refusal of that number
+abbrev pub unlessFault : {A : Type 0} → ℕ → A → (ℕ → A) → A
+unlessFault zero good fault = good
+unlessFault (suc n) good fault = fault (suc n)
 
 -- "A verdict says which file it is about and holds that file's own refusal": 1 floor, 2 plan, 3 rules
 abbrev pub codeAbout : ℕ → Refusal → Code

@@ -28,9 +28,21 @@ gives-written about bytes before v after h e q =
     let t = le-ltb (length before) (length bytes) h in
     record { answer = e ∙ simp t; out = q ∙ simp t }
 
+pub with-room : (about : Refusal → Verdict) (bytes before : List ℕ) (v : Verdict) (after : List ℕ) → Gives (written about bytes before) v after
+    → length bytes ≤ length before → (v ≡ Written (length bytes)) × (after ≡ bytes ++ drop (length bytes) before)
+with-room about bytes before v after g h =
+    let t = le-ltb (length before) (length bytes) h in
+    (g .answer ∙ simp t, g .out ∙ simp t)
+
+pub without-room : (about : Refusal → Verdict) (bytes before : List ℕ) (v : Verdict) (after : List ℕ) → Gives (written about bytes before) v after
+    → length before < length bytes → (v ≡ about (refused 18 (length bytes) 0)) × (after ≡ before)
+without-room about bytes before v after g h =
+    let t = lt-ltb (length before) (length bytes) h in
+    (g .answer ∙ simp t, g .out ∙ simp t)
+
 pub written-if : (about : Refusal → Verdict) (bytes before : List ℕ) (v : Verdict) (after : List ℕ) → Gives (written about bytes before) v after
     → length bytes ≤ length before → v ≡ Written (length bytes)
-written-if about bytes before v after g h = g .answer ∙ simp (le-ltb (length before) (length bytes) h)
+written-if about bytes before v after g h = with-room about bytes before v after g h .0
 
 -- writing is done, or refused by 18
 pub given-written : (t : Refusals) (about : Refusal → Verdict) (bytes before : List ℕ) → t .done ≡ writes → Given t (about (refused 18 (length bytes) 0))

@@ -1,5 +1,5 @@
 -- A verdict that an operation may give is told by its four numbers: it is done exactly if its number is 0.
-use Prim.Native.Nat.{ℕ, suc, _<_}
+use Prim.Native.Nat.{ℕ, zero, suc, _<_}
 use native.Mathlib.Omega.{arith}
 use mathlib.Core.Path.{_≡_, refl, sym, ap, subst, _∙_}
 use mathlib.Core.Bool.{Bool, true, false, cond, _&&_, _||_}
@@ -7,7 +7,7 @@ use mathlib.Core.Logic.{_⊎_, inl, inr, _↔_}
 use mathlib.Core.List.{List, [], _∷_, _++_}
 use lib.Dec.{eqb, ltb}
 use borrow.Author.Tests.{eqb-true, ltb-true}
-use Rattle.refusal.specs.Codes.{firstFault, codeOf}
+use Rattle.refusal.specs.Codes.{firstFault, unlessFault, codeOf}
 use Rattle.refusal.specs.Given.{OneOf, Done, accepts, writes, Refusals, Given, RefusedAs, Answered}
 use Rattle.refusal.specs.declared.Code.{Code}
 use Rattle.refusal.specs.declared.Verdict.{Verdict}
@@ -54,7 +54,7 @@ abbrev pub faultNumbers : List (Bool × ℕ) → List ℕ
 faultNumbers [] = []
 faultNumbers (t ∷ ts) = t .1 ∷ faultNumbers ts
 
-pub one-fault : (ts : List (Bool × ℕ)) → (firstFault ts ≡ 0) ⊎ OneOf (faultNumbers ts) (firstFault ts)
+one-fault : (ts : List (Bool × ℕ)) → (firstFault ts ≡ 0) ⊎ OneOf (faultNumbers ts) (firstFault ts)
 one-fault [] = inl refl
 one-fault (t ∷ ts) = go (t .0) (one-fault ts)
   where
@@ -63,6 +63,16 @@ one-fault (t ∷ ts) = go (t .0) (one-fault ts)
     go true h = inr (inl refl)
     go false (inl e) = inl e
     go false (inr h) = inr (inr h)
+
+-- so what holds of each refusal of these numbers, and where there is none, holds
+pub by-number : {A : Type 0} (P : A → Type 0) (ts : List (Bool × ℕ)) (good : A) (fault : ℕ → A) → P good
+    → ((n : ℕ) → OneOf (faultNumbers ts) n → P (fault n)) → P (unlessFault (firstFault ts) good fault)
+by-number P ts good fault g h = go (firstFault ts) (one-fault ts)
+  where
+    go : (n : ℕ) → (n ≡ 0) ⊎ OneOf (faultNumbers ts) n → P (unlessFault n good fault)
+    go zero o = g
+    go (suc n) (inl e) = absurd (omega arith)
+    go (suc n) (inr o) = h (suc n) o
 
 -- no refusal has number 0: a test that computes on a table
 abbrev pub positive : List ℕ → Bool
