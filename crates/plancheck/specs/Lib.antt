@@ -10,6 +10,8 @@ pub mod Stages
 pub mod Refusing
 pub mod Claims
 pub mod Demands
+pub mod SheetLines
+pub mod ShownClause
 pub mod Lines
 pub mod LineHeld
 pub mod Turns

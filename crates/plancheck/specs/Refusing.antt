@@ -127,38 +127,57 @@ isGlobally (release a b) = false
 isGlobally (ev a) = false
 isGlobally (gl a) = true
 
-module _ (P : Rows) (d : ℕ) where
-  at-0 : (c : Clause) → isGlobally c ≡ false → failing P d c ≡ 0 → FailingStep P d c (failing P d c)
-  at-0 c e z = record {
-    globally = λ a q. let x : false ≡ true = sym e ∙ ap isGlobally q in let y : _≡_ {A = ℕ} 0 1 = cc in absurd (omega arith);
-    otherwise = λ n. z;
-  }
+-- a clause by its outermost operator: G, or another, whose step is 0
+pub data Outermost : Clause → Type 0 where
+  globally : (a : Clause) → Outermost (gl a)
+  another : {c : Clause} → ((a : Clause) → c ≡ gl a → ⊥) → ((P : Rows) (d : ℕ) → failing P d c ≡ 0) → Outermost c
 
+pub outermost : (c : Clause) → Outermost c
+unfolding failing
+outermost c = go c
+  where
+    apart : (c : Clause) → isGlobally c ≡ false → (a : Clause) → c ≡ gl a → ⊥
+    apart c e a q = let x : false ≡ true = sym e ∙ ap isGlobally q in let y : _≡_ {A = ℕ} 0 1 = cc in omega arith
+
+    go : (c : Clause) → Outermost c
+    go top = another (apart top refl) (λ P d. refl)
+    go (leaf x) = another (apart (leaf x) refl) (λ P d. refl)
+    go (neg a) = another (apart (neg a) refl) (λ P d. refl)
+    go (and a b) = another (apart (and a b) refl) (λ P d. refl)
+    go (or a b) = another (apart (or a b) refl) (λ P d. refl)
+    go (next a) = another (apart (next a) refl) (λ P d. refl)
+    go (until a b) = another (apart (until a b) refl) (λ P d. refl)
+    go (release a b) = another (apart (release a b) refl) (λ P d. refl)
+    go (ev a) = another (apart (ev a) refl) (λ P d. refl)
+    go (gl a) = globally a
+
+module _ (P : Rows) (d : ℕ) (proper : Proper P) where
   not-true : (b : Bool) → T (not b) → T b → ⊥
   not-true true h t = h
   not-true false h t = t
 
-  lowest-failing : Proper P → (a : Clause) → (Kept P d (gl a) → ⊥) → LowestFailing P d a (failing P d (gl a))
-  lowest-failing proper a n =
+  lowest-failing : (a : Clause) → (Kept P d (gl a) → ⊥) → LowestFailing P d a (failing P d (gl a))
+  lowest-failing a n =
       let w = globally-fails P d a proper n in
       record { inside = w .below; fails = not-true (rules P d a (failing P d (gl a))) (w .fails); before = λ j q. w .before j (omega arith) q }
 
-  failing-step : Proper P → (c : Clause) → (Kept P d c → ⊥) → FailingStep P d c (failing P d c)
-  unfolding failing
-  failing-step proper top n = at-0 top refl refl
-  failing-step proper (leaf x) n = at-0 (leaf x) refl refl
-  failing-step proper (neg a) n = at-0 (neg a) refl refl
-  failing-step proper (and a b) n = at-0 (and a b) refl refl
-  failing-step proper (or a b) n = at-0 (or a b) refl refl
-  failing-step proper (next a) n = at-0 (next a) refl refl
-  failing-step proper (until a b) n = at-0 (until a b) refl refl
-  failing-step proper (release a b) n = at-0 (release a b) refl refl
-  failing-step proper (ev a) n = at-0 (ev a) refl refl
-  failing-step proper (gl a) n = record {
-    globally =
-        λ a′ q. let same : a ≡ a′ = cc in subst (λ (x : Clause). LowestFailing P d x (failing P d (gl a))) same (lowest-failing proper a n);
-    otherwise = λ o. absurd (o a refl);
-  }
+  failing-step : (c : Clause) → (Kept P d c → ⊥) → FailingStep P d c (failing P d c)
+  failing-step c n = go (outermost c) n
+    where
+      go : {c : Clause} → Outermost c → (Kept P d c → ⊥) → FailingStep P d c (failing P d c)
+      go (globally a) n = record {
+        globally = λ a′ q. let same : a ≡ a′ = cc in subst (λ (x : Clause). LowestFailing P d x (failing P d (gl a))) same (lowest-failing a n);
+        otherwise = λ o. absurd (o a refl);
+      }
+      go (another apart nought) n = record { globally = λ a q. absurd (apart a q); otherwise = λ o. nought P d }
+
+-- it is a step of the plan
+pub step-inside : (P : Rows) (d : ℕ) (c : Clause) (s : ℕ) → 0 < P .h → FailingStep P d c s → s < P .h
+step-inside P d c s some w = go (outermost c) w
+  where
+    go : {c : Clause} → Outermost c → FailingStep P d c s → s < P .h
+    go (globally a) w = w .globally a refl .inside
+    go (another apart nought) w = let z = w .otherwise apart in omega arith
 
 ---- Stage by stage.
 module _ (floor plan sheet : List ℕ) where
