@@ -29,7 +29,7 @@ use Rattle.plancheck.specs.Check.{planRows, checked}
 use Rattle.plancheck.specs.Meaning.{drifted, Plain, Kept, ReadAndOpen}
 use Rattle.plancheck.specs.Promises.{Means, PlanChecked}
 use Rattle.plancheck.specs.Stages.{same-clauses, proper, accepted-as, as-accepted, accepted-read}
-use Rattle.plancheck.specs.Refusing.{Meant, meant, is-16, is-17, is-sheet}
+use Rattle.plancheck.specs.Refusing.{Meant, meant, given, is-16, is-17, is-sheet}
 
 drifted-file : (p : PlanNumbers) (d : ℕ) → stored (planFile p) 8 (bytes 2 d) ≡ planFile (drifted p d)
 unfolding layout encoded bytes
@@ -116,6 +116,7 @@ module _ (floor s sheet : List ℕ) (fb : Bytes floor) (pb : Bytes s) where
       let m = subst (Meant floor s sheet) (sym e) (meant floor s sheet fb) in
       record {
         verdict = e;
+        numbers = given floor s sheet v m;
         means = means-as floor s sheet (λ yes. e ∙ yes, λ yes. sym e ∙ yes) means;
         next-16 = λ k x q. is-16 floor s sheet k x (subst (Meant floor s sheet) q m);
         fails-17 = λ k x q. is-17 floor s sheet k x (subst (Meant floor s sheet) q m);

@@ -6,10 +6,13 @@ pub mod Promises
 -- worked cases
 pub mod Starred
 -- laws
+pub mod FirstClause
 pub mod Stages
 pub mod Refusing
 pub mod Claims
 pub mod Demands
+pub mod SheetLines
+pub mod ShownClause
 pub mod Lines
 pub mod LineHeld
 pub mod Turns

@@ -17,7 +17,7 @@ use Rattle.plan.specs.After.{ReadAs}
 use Rattle.moves.specs.Promises.{AllUnending, Moving, FirstRefused}
 use Rattle.grammar.specs.Grammar.{top, gl, Clause}
 use Rattle.grammar.specs.Answers.{Accepted}
-use Rattle.sheet.specs.Rules.{rulesVerdict}
+use Rattle.sheet.specs.Promises.{RulesRead}
 use Rattle.cltl.specs.Meaning.{Rows}
 use Rattle.cltl.specs.Rules.{rules, hasNext}
 use Rattle.plancheck.specs.Check.{planRows}
@@ -87,6 +87,6 @@ module _ (floor plan sheet : List ℕ) where
     pub before : (j : ℕ) → j < k → Kept (planRows floor floor-is numbers) (numbers .head .drift) (getD clauses j top)
     pub step : FailingStep (planRows floor floor-is numbers) (numbers .head .drift) (getD clauses k top) s
 
-  -- about the sheet: its moves are open without end, and the sheet is refused as it is read
+  -- about the sheet: the moves are open without end, and the sheet is refused as it is read
   abbrev pub SheetRefused : Refusal → Type 0
-  SheetRefused x = Moving floor plan × (AboutRules x ≡ rulesVerdict sheet)
+  SheetRefused x = Moving floor plan × RulesRead sheet (AboutRules x)

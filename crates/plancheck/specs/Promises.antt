@@ -5,6 +5,7 @@ use mathlib.Core.Logic.{_↔_}
 use mathlib.Core.List.{List}
 use Rattle.endian.specs.Little.{bytes}
 use Rattle.refusal.specs.Codes.{refused}
+use Rattle.refusal.specs.Given.{Given, checkingPlan}
 use Rattle.refusal.specs.declared.Refusal.{Refusal}
 use Rattle.refusal.specs.declared.Verdict.{Verdict}
 use Rattle.refusal.specs.declared.Verdict.the-variants.{Accepted, Floor as AboutFloor, Plan as AboutPlan, Rules as AboutRules}
@@ -42,6 +43,8 @@ module _ (floor plan sheet : List ℕ) where
   pub record PlanChecked (v : Verdict) : Type 0 where
     -- the answer, for every floor, plan and sheet
     pub verdict : v ≡ checked floor plan sheet
+    -- "Checking a plan: floor, plan, moves, sheet as above; then 16 .., then 17": accepted, or one of these numbers
+    pub numbers : Given checkingPlan v
     -- accepted, and what that means
     pub means : Means (v ≡ Accepted)
     -- 16 and 17, and what they mean

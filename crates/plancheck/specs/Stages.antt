@@ -1,19 +1,17 @@
 -- What is accepted, stage by stage.
-use Prim.Native.Nat.{ℕ, suc, _<_}
+use Prim.Native.Nat.{ℕ, _<_}
 use native.Mathlib.Omega.{arith}
 use mathlib.Core.Path.{_≡_, refl, sym, ap, _∙_}
 use mathlib.Core.Bool.{Bool, true, false, cond}
 use mathlib.Core.Logic.{_⊎_, inl, inr}
-use mathlib.Core.List.{List, [], _∷_}
-use lib.Dec.{T, eqb}
+use mathlib.Core.List.{List}
+use lib.Dec.{eqb}
 use borrow.Author.Tests.{eq-eqb, eqb-true}
 use Rattle.endian.specs.Little.{Bytes}
-use Rattle.refusal.specs.Codes.{refused}
 use Rattle.refusal.specs.Stages.{isAccepted, andThen}
 use Rattle.refusal.specs.Accepting.{both-accepted, stops, goes-on}
-use Rattle.refusal.specs.declared.Refusal.{Refusal}
 use Rattle.refusal.specs.declared.Verdict.{Verdict}
-use Rattle.refusal.specs.declared.Verdict.the-variants.{Accepted, Rules as AboutRules}
+use Rattle.refusal.specs.declared.Verdict.the-variants.{Accepted}
 use Rattle.record.specs.All.{All}
 use Rattle.floor.specs.Located.{accepts}
 use Rattle.floor.specs.declared.Floor.{Floor}
@@ -30,61 +28,21 @@ use Rattle.grammar.specs.Answers.{Accepted as IsSheet}
 use Rattle.grammar.specs.Promises.{promises}
 use Rattle.sheet.specs.Rules.{readVerdict, rulesVerdict}
 use Rattle.cltl.specs.Meaning.{Rows, Proper}
-use Rattle.cltl.specs.Rules.{rules, hasNext}
 use Rattle.plancheck.specs.Check.{planRows, clausesOf, nextVerdict, keptVerdict, clausesVerdict, stages, checked}
 use Rattle.plancheck.specs.Meaning.{Plain, Kept, NoneAhead}
-
-not-refused : {x : Refusal} → AboutRules x ≡ Accepted → ⊥
-not-refused e = let z : _≡_ {A = ℕ} 0 1 = cc in omega arith
-
--- a test that must hold, or must not, before the next clause
-passes : (b : Bool) (v : Verdict) (x : Refusal) → cond b v (AboutRules x) ≡ Accepted → T b × (v ≡ Accepted)
-passes true v x e = (tt, e)
-passes false v x e = absurd (not-refused e)
-
-fails : (b : Bool) (v : Verdict) (x : Refusal) → cond b (AboutRules x) v ≡ Accepted → (T b → ⊥) × (v ≡ Accepted)
-fails true v x e = absurd (not-refused e)
-fails false v x e = (λ t. t, e)
-
-if-true : (b : Bool) (v w : Verdict) → T b → cond b v w ≡ v
-if-true true v w t = refl
-if-true false v w t = absurd t
-
-if-false : (b : Bool) (v w : Verdict) → (T b → ⊥) → cond b v w ≡ w
-if-false true v w t = absurd (t tt)
-if-false false v w t = refl
-
-pub next-plain : (n : ℕ) (cs : List Clause) → nextVerdict n cs ≡ Accepted → All Plain cs
-unfolding nextVerdict
-next-plain n [] e = tt
-next-plain n (c ∷ cs) e = let r = fails (hasNext c) (nextVerdict (suc n) cs) _ e in (r .0, next-plain (suc n) cs (r .1))
-
-pub plain-next : (n : ℕ) (cs : List Clause) → All Plain cs → nextVerdict n cs ≡ Accepted
-unfolding nextVerdict
-plain-next n [] a = refl
-plain-next n (c ∷ cs) a = if-false (hasNext c) _ _ (a .0) ∙ plain-next (suc n) cs (a .1)
+use Rattle.plancheck.specs.FirstClause.{not-refused, accepted-pass, pass-accepted, first-16, first-17}
 
 module _ (P : Rows) (d : ℕ) where
   -- no refusal 16
   abbrev pub No16 : List Clause → Type 0
   No16 cs = (d ≡ 0) ⊎ All Plain cs
 
-  verdict-kept : (n : ℕ) (cs : List Clause) → keptVerdict P d n cs ≡ Accepted → All (Kept P d) cs
-  unfolding keptVerdict
-  verdict-kept n [] e = tt
-  verdict-kept n (c ∷ cs) e = let r = passes (rules P d c 0) (keptVerdict P d (suc n) cs) _ e in (r .0, verdict-kept (suc n) cs (r .1))
-
-  kept-verdict : (n : ℕ) (cs : List Clause) → All (Kept P d) cs → keptVerdict P d n cs ≡ Accepted
-  unfolding keptVerdict
-  kept-verdict n [] a = refl
-  kept-verdict n (c ∷ cs) a = if-true (rules P d c 0) _ _ (a .0) ∙ kept-verdict (suc n) cs (a .1)
-
   is-no-16 : (cs : List Clause) → cond (eqb d 0) Accepted (nextVerdict 0 cs) ≡ Accepted → No16 cs
   is-no-16 cs e = go (eqb d 0) refl e
     where
       go : (b : Bool) → eqb d 0 ≡ b → cond b Accepted (nextVerdict 0 cs) ≡ Accepted → No16 cs
       go true q e = inl (eqb-true d 0 q)
-      go false q e = inr (next-plain 0 cs e)
+      go false q e = inr (accepted-pass Plain _ _ (first-16 cs) e)
 
   no-16-is : (cs : List Clause) → No16 cs → cond (eqb d 0) Accepted (nextVerdict 0 cs) ≡ Accepted
   no-16-is cs (inl z) = ap (λ (b : Bool). cond b Accepted (nextVerdict 0 cs)) (eq-eqb d 0 z)
@@ -92,13 +50,15 @@ module _ (P : Rows) (d : ℕ) where
     where
       go : (b : Bool) → cond b Accepted (nextVerdict 0 cs) ≡ Accepted
       go true = refl
-      go false = plain-next 0 cs a
+      go false = pass-accepted Plain _ _ (λ c t plain. plain t) (first-16 cs) a
 
   pub clauses-accepted : (cs : List Clause) → clausesVerdict P d cs ≡ Accepted → No16 cs × All (Kept P d) cs
-  clauses-accepted cs e = let r = both-accepted _ (keptVerdict P d 0 cs) e in (is-no-16 cs (r .0), verdict-kept 0 cs (r .1))
+  clauses-accepted cs e = let r = both-accepted _ (keptVerdict P d 0 cs) e in (is-no-16 cs (r .0), accepted-pass (Kept P d) _ _ (first-17 P d cs) (r .1))
 
   pub accepted-clauses : (cs : List Clause) → No16 cs → All (Kept P d) cs → clausesVerdict P d cs ≡ Accepted
-  accepted-clauses cs s a = ap (λ (v : Verdict). andThen v (keptVerdict P d 0 cs)) (no-16-is cs s) ∙ kept-verdict 0 cs a
+  accepted-clauses cs s a =
+      ap (λ (v : Verdict). andThen v (keptVerdict P d 0 cs)) (no-16-is cs s)
+      ∙ pass-accepted (Kept P d) _ _ (λ c n k. n k) (first-17 P d cs) a
 
 -- a sheet of the grammar within the limits is what the reader accepts
 pub grammar-read : (s : List ℕ) (cs : List Clause) → IsSheet s cs → readSheet s ≡ accepted cs
