@@ -4,8 +4,10 @@ use Prim.Native.String.{String}
 use mathlib.Core.Path.{_≡_, refl}
 use mathlib.Core.Bool.{true, false}
 use mathlib.Core.List.{List, [], _∷_, _++_}
+use lib.ListN.{length}
 use Rattle.grammar.specs.Grammar.{bytes, Part, word, parens, one-small, one-until, one-and, Spaces.none, Rank, top, leaf, neg, and, or, until, release, Inner, counted, Count, Clause}
 use Rattle.grammar.specs.Limits.{level, countLevel}
+use Rattle.grammar.specs.Begun.{begun}
 use Rattle.grammar.specs.Reader.{bind, node, skip, expectAt, expect, literal, digits, number, percent, chainAt, chainMore, chain, andChain, orChain, byKind, smallAt, smallOf, byOnward, untilAt, untilOf, deeper, smalls, untils, ors, markBy, marks, inners, countEnd, countBy, counts, clauses, clauseLine, lines, Read, accepted, refused, outcome, start, readSheet}
 
 -- the bytes of s, k times
@@ -77,11 +79,19 @@ pub worked :
     × (readSheet (bytes "[m0,1 %]\n") ≡ refused 13 6)
     × (readSheet (bytes "[m1,1]") ≡ refused 13 6)
     × (readSheet (bytes "") ≡ refused 7 0))
+    -- what is begun before an offset: nodes, lines, and levels, which `)` and `]` give back with the prefix operators before them
+    × ((begun (times 63 "true&" ++ bytes "[!m1,1]\n") 317 .nodes ≡ 128)
+    × (begun (times 32 "true\n" ++ bytes "x") 160 .lines ≡ 32)
+    × (length (begun (times 31 "!" ++ bytes "(true U true)\n") 37 .levels) ≡ 32)
+    × (length (begun (bytes "!(true U [m0,1]) & true\n") 10 .levels) ≡ 4)
+    × (length (begun (bytes "!(true U [m0,1]) & true\n") 15 .levels) ≡ 3)
+    × (length (begun (bytes "!(true U [m0,1]) & true\n") 16 .levels) ≡ 0))
 unfolding reading
 worked = (
   (refl, refl, refl, refl, refl, refl, refl, refl),
   (refl, refl, refl, refl, refl, refl, refl, refl, refl, refl, refl, refl, refl, refl, refl, refl, refl, refl, refl),
   (refl, refl, refl, refl, refl, refl, refl, refl),
+  (refl, refl, refl, refl, refl, refl),
 )
 
 -- the level of `(true)&(true)`, as the limits have it: the `)` gives it back

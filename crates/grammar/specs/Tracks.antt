@@ -30,25 +30,18 @@ reach-facts U = (refl, refl, λ e. omega arith, λ e. omega arith, λ x. refl)
 reach-facts R = (refl, refl, λ e. omega arith, λ e. omega arith, λ x. refl)
 
 -- by its first byte a whole token is the word, or a mark
-token-word : {q r t : List ℕ} → Token q t → q ≡ 116 ∷ r → r ≡ 114 ∷ 117 ∷ 101 ∷ t
-token-word Token.word e = cc
-token-word (Token.mark y) e = let z : _≡_ {A = ℕ} 109 116 = cc in absurd (omega arith)
-token-word Token.paren e = let z : _≡_ {A = ℕ} 40 116 = cc in absurd (omega arith)
-token-word Token.bracket e = let z : _≡_ {A = ℕ} 91 116 = cc in absurd (omega arith)
-token-word (Token.prefix o) e = absurd (prefix-facts o .2 (cc))
-token-word (Token.reach o) e = absurd (reach-facts o .2 (cc))
-token-word Token.and e = let z : _≡_ {A = ℕ} 38 116 = cc in absurd (omega arith)
-token-word Token.or e = let z : _≡_ {A = ℕ} 124 116 = cc in absurd (omega arith)
-
-token-mark : {q r t : List ℕ} → Token q t → q ≡ 109 ∷ r → (k : ℕ) × Number r t k
-token-mark Token.word e = let z : _≡_ {A = ℕ} 109 116 = cc in absurd (omega arith)
-token-mark {r = r} {t = t} (Token.mark {s = s} {n = k} y) e = let z : s ≡ r = cc in (k, subst (λ (v : List ℕ). Number v t k) z (y .number))
-token-mark Token.paren e = let z : _≡_ {A = ℕ} 40 109 = cc in absurd (omega arith)
-token-mark Token.bracket e = let z : _≡_ {A = ℕ} 91 109 = cc in absurd (omega arith)
-token-mark (Token.prefix o) e = absurd (prefix-facts o .3 (cc))
-token-mark (Token.reach o) e = absurd (reach-facts o .3 (cc))
-token-mark Token.and e = let z : _≡_ {A = ℕ} 38 109 = cc in absurd (omega arith)
-token-mark Token.or e = let z : _≡_ {A = ℕ} 124 109 = cc in absurd (omega arith)
+token-first : {q r t : List ℕ} {b : ℕ} → Token q t → q ≡ b ∷ r → (b ≡ 116 → r ≡ 114 ∷ 117 ∷ 101 ∷ t) × (b ≡ 109 → (k : ℕ) × Number r t k)
+token-first {b = b} Token.word e = let z : 116 ≡ b = cc in (λ i. cc, λ i. absurd (omega arith))
+token-first {r = r} {t = t} {b = b} (Token.mark {s = s} {n = k} y) e =
+    let z : 109 ≡ b = cc in let v : s ≡ r = cc in (λ i. absurd (omega arith), λ i. (k, subst (λ (l : List ℕ). Number l t k) v (y .number)))
+token-first {b = b} Token.paren e = let z : 40 ≡ b = cc in (λ i. absurd (omega arith), λ i. absurd (omega arith))
+token-first {b = b} Token.bracket e = let z : 91 ≡ b = cc in (λ i. absurd (omega arith), λ i. absurd (omega arith))
+token-first {b = b} (Token.prefix o) e =
+    let z : prefixByte o ≡ b = cc in let f = prefix-facts o in (λ i. absurd (f .2 (z ∙ i)), λ i. absurd (f .3 (z ∙ i)))
+token-first {b = b} (Token.reach o) e =
+    let z : reachByte o ≡ b = cc in let f = reach-facts o in (λ i. absurd (f .2 (z ∙ i)), λ i. absurd (f .3 (z ∙ i)))
+token-first {b = b} Token.and e = let z : 38 ≡ b = cc in (λ i. absurd (omega arith), λ i. absurd (omega arith))
+token-first {b = b} Token.or e = let z : 124 ≡ b = cc in (λ i. absurd (omega arith), λ i. absurd (omega arith))
 
 -- from x the bytes of s down to r lead to y, and at none of them stands a token past a limit, nor the first byte of the 33rd line
 pub data Track : Begun → List ℕ → List ℕ → Begun → Type 0 where
@@ -394,7 +387,7 @@ module _ (i : ℕ) (few : i < 32) where
             record { lines = a .lines; left = omega arith; levels = refl },
           ))
           (λ j. let k = a .left in let h = v .0 in reaches (inl (refl, omega arith)) here))
-          (λ w r₁ v. halts w (λ e. omega (arith, v .0)) (a .lines) (on (below a) (λ z t k. v .2 t (token-word k refl)) (v .1))))
+          (λ w r₁ v. halts w (λ e. omega (arith, v .0)) (a .lines) (on (below a) (λ z t k. v .2 t (token-first k refl .0 refl)) (v .1))))
 
       by-kind-tracked : DeeperTracked l d → (q : Kind) (n b : ℕ) (r : List ℕ) (x : Begun) → Shows q b → Room i n (Low l) x
           → Tracked x (b ∷ r) (λ o. o ≡ operandEnds (x .levels)) (byKind lf d q n b r)
@@ -491,7 +484,7 @@ module _ (i : ℕ) (few : i < 32) where
       (λ e. denies (halts 15 (λ z. omega arith) (a .lines) t)))
       (λ j. reaches (inl (refl, omega arith)) here))
       (λ w r₁ v. subst (Stops x (109 ∷ r) w) (sym (v .1))
-      (halts w (λ e. omega (arith, v .0)) (a .lines) (on (below a) (λ z t k. let y = token-mark k refl in v .2 t (y .0) (y .1)) here)))))
+      (halts w (λ e. omega (arith, v .0)) (a .lines) (on (below a) (λ z t k. let y = token-first k refl .1 refl in v .2 t (y .0) (y .1)) here)))))
 
   marks-tracked : (l : ℕ) → Smalls l marks
   unfolding marks
