@@ -2,15 +2,11 @@
 use Prim.Native.Nat.{ℕ, _+_, _≤_}
 use native.Mathlib.Omega.{arith}
 use mathlib.Core.Path.{_≡_, refl, sym, ap, _∙_}
-use mathlib.Core.Bool.{Bool, true, false, cond, _&&_}
+use mathlib.Core.Bool.{Bool, true, false, cond}
 use mathlib.Core.List.{List}
-use lib.Dec.{eqb}
 use lib.ListN.{length}
-use Rattle.endian.specs.Little.{bytes}
-use Rattle.refusal.specs.Codes.{bytesOf}
-use Rattle.refusal.specs.Distinct.{codeIn, Fits32, codeIn-bytesOf}
-use Rattle.refusal.specs.declared.Code.{Code}
-use Rattle.clause.specs.Clause.{namesClause, picks, emptySpan, clauseIn, span}
+use Rattle.refusal.specs.Distinct.{codeIn}
+use Rattle.clause.specs.Clause.{picks, emptySpan, clauseIn, span}
 use Rattle.clause.specs.Meaning.{lineEnds}
 use Rattle.clause.specs.Promises.{Picked}
 use Rattle.clause.specs.Lines.{clause-found, clause-lacking, clause-inside}
@@ -56,10 +52,3 @@ module _ (sheet verdict : List ℕ) where
 -- a place that is the definition's
 pub picked-at : (sheet verdict : List ℕ) (p : Span) → p ≡ span sheet verdict → Picked sheet verdict p
 picked-at sheet verdict p e = rw e (picked sheet verdict)
-
--- a verdict's own bytes pick by its numbers
-pub span-of : (sheet : List ℕ) (c : Code) → Fits32 c
-    → span sheet (bytesOf c) ≡ cond (eqb (c .about) 3 && namesClause (c .number)) (clauseIn (c .first) sheet) emptySpan
-unfolding span picks bytes
-span-of sheet c w =
-    ap (λ (d : Code). cond (eqb (d .about) 3 && namesClause (d .number)) (clauseIn (d .first) sheet) emptySpan) (codeIn-bytesOf c w)

@@ -48,7 +48,8 @@ pub worked :
     -- the 33rd level, and the 33rd line whatever stands in it
     × (rulesVerdict (times 33 "!") ≡ rules 14 32 0)
     × (rulesVerdict (times 32 "true\n" ++ text "x") ≡ rules 14 160 0)
-    -- one byte more than 16,384, whatever stands there
+    -- 16,384 bytes are read, and one more is too many whatever stands there
+    × (rulesVerdict (times 16384 "x") ≡ rules 13 0 0)
     × (rulesVerdict (times 16385 "x") ≡ rules 12 0 0)
 unfolding reading
-worked = (refl, refl, refl, refl, refl, refl, refl, refl, refl, refl, refl)
+worked = (refl, refl, refl, refl, refl, refl, refl, refl, refl, refl, refl, refl)
