@@ -39,22 +39,26 @@ class Module:
                 self.read_use(line[4:])
             elif line.strip() and not re.match(r"(pub )?mod ", line):
                 body.append(line)
-        current, depth, kind = None, 0, None
+        current, depth, kind, headers = None, 0, None, []
         for line in body:
             indent = len(line) - len(line.lstrip())
             if re.match(r"\s*module _", line):
+                headers = [header for header in headers if header[0] < indent] + [[indent, line]]
                 current = None
+                continue
+            if current is None and headers and not headers[-1][1].rstrip().endswith("where"):
+                headers[-1][1] += line
                 continue
             if current and indent > depth:
                 self.texts[current] += self.member(current, line, kind if indent == depth + 2 else None) + "\n"
                 continue
             found = DECLARED.match(line)
-            name = line.split()[0] if line.split() else None
+            name = line.split()[0]
             if name in self.texts and not (found and found.group(2)):
                 current, depth, kind = name, indent, None
             elif found:
                 current, depth, kind = found.group(4), indent, found.group(3)
-                self.texts.setdefault(current, "")
+                self.texts.setdefault(current, "\n".join(header for at, header in headers if at < indent) + "\n")
             if current:
                 self.texts[current] += line + "\n"
 

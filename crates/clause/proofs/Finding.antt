@@ -7,7 +7,7 @@ use mathlib.Core.List.{List}
 use lib.Dec.{eqb}
 use lib.ListN.{length, drop}
 use borrow.Author.Tests.{eqb-true, eq-eqb, ne-eqb}
-use Rattle.refusal.specs.Distinct.{wordAt}
+use Rattle.refusal.specs.Codes.{wordAt}
 use Rattle.clause.specs.Clause.{namesClause, picks, lineStart, lineLength, emptySpan, clauseIn}
 use Rattle.clause.specs.Lines.{clause-at, no-clause}
 use Rattle.clause.specs.declared.Span.{Span}

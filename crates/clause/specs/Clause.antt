@@ -4,7 +4,7 @@ use mathlib.Core.Bool.{Bool, cond, _&&_, _||_}
 use mathlib.Core.List.{List, [], _∷_}
 use lib.Dec.{eqb, ltb}
 use lib.ListN.{length, take, drop}
-use Rattle.refusal.specs.Distinct.{codeIn}
+use Rattle.refusal.specs.Codes.{codeIn}
 use Rattle.clause.specs.declared.Span.{Span}
 
 -- "A clause refused by its number (as in 16 and 17)"

@@ -9,8 +9,8 @@ use lib.Dec.{eqb}
 use lib.ListN.{length, take, drop, length-take, length-drop}
 use borrow.Author.Tests.{ne-eqb}
 use Rattle.endian.specs.Little.{bytes}
-use Rattle.refusal.specs.Codes.{codeOf, bytesOf}
-use Rattle.refusal.specs.Distinct.{codeIn, Fits32, codeIn-bytesOf}
+use Rattle.refusal.specs.Codes.{codeOf, bytesOf, codeIn, Fits32}
+use Rattle.refusal.specs.Distinct.{codeIn-bytesOf}
 use Rattle.refusal.specs.declared.Code.{Code}
 use Rattle.refusal.specs.declared.Refusal.{Refusal}
 use Rattle.refusal.specs.declared.Verdict.{Verdict}

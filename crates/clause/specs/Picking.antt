@@ -5,7 +5,7 @@ use mathlib.Core.Path.{_≡_, refl, sym, ap, _∙_}
 use mathlib.Core.Bool.{Bool, true, false, cond}
 use mathlib.Core.List.{List}
 use lib.ListN.{length}
-use Rattle.refusal.specs.Distinct.{codeIn}
+use Rattle.refusal.specs.Codes.{codeIn}
 use Rattle.clause.specs.Clause.{picks, emptySpan, clauseIn, span}
 use Rattle.clause.specs.Meaning.{lineEnds}
 use Rattle.clause.specs.Promises.{Picked}

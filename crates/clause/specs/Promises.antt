@@ -4,7 +4,7 @@ use mathlib.Core.Path.{_≡_}
 use mathlib.Core.Bool.{true, false}
 use mathlib.Core.List.{List}
 use lib.ListN.{length}
-use Rattle.refusal.specs.Distinct.{codeIn}
+use Rattle.refusal.specs.Codes.{codeIn}
 use Rattle.clause.specs.Clause.{picks, emptySpan, span, part}
 use Rattle.clause.specs.Meaning.{lineEnds, IsClause}
 use Rattle.clause.specs.declared.Span.{Span}

@@ -3,7 +3,7 @@ ghost use mathlib.Core.Path.{_≡_};
 ghost use Prim.Native.Nat.{_+_, _-_, _≤_, _<_};
 ghost use mathlib.Core.Bool.{cond};
 ghost use lib.ListN.{length, drop};
-ghost use Rattle.refusal.specs.Distinct.{wordAt};
+ghost use Rattle.refusal.specs.Codes.{wordAt};
 ghost use Rattle.clause.specs.Clause.{namesClause, picks, isEnd, lineStart, lineLength, emptySpan, clauseIn};
 ghost use Rattle.clause.specs.Promises.{Picked, Shown};
 

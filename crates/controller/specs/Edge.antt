@@ -3,8 +3,8 @@ use Prim.Native.Nat.{ℕ, _≤_, _<_}
 use mathlib.Core.Path.{_≡_}
 use mathlib.Core.Logic.{_⊎_, _↔_}
 use mathlib.Core.List.{List, _++_, flatten}
-use lib.ListN.{length, take, drop}
-use Rattle.refusal.specs.Codes.{codeOf}
+use lib.ListN.{length, take, drop, getD}
+use Rattle.refusal.specs.Codes.{codeOf, bytesOf}
 use Rattle.refusal.specs.Given.{Refusals, Answered, readingFloor, readingPlan, writingFloor, writingPlan, checkingMoves, readingSheet, checkingPlan, movingOn, replacingRow}
 use Rattle.refusal.specs.Outcome.{Outcome}
 use Rattle.refusal.specs.declared.Code.{Code}
@@ -19,15 +19,16 @@ use Rattle.floor.specs.declared.Floor.{Floor}
 use Rattle.floor.specs.declared.FloorAnswer.the-variants.{Read as FloorAccepted, Refused as FloorRefused}
 use Rattle.plan.specs.Plan.{PlanNumbers, accepted as acceptedNumbers, readPlan, readBoth}
 use Rattle.plan.specs.Numbers.{planBytes, writePlan}
-use Rattle.plan.specs.Valid.{ValidPlan}
-use Rattle.plan.specs.Passed.{RowFits}
+use Rattle.plan.specs.Valid.{ValidPlan, RowFits}
 use Rattle.plan.specs.After.{ReadAs}
 use Rattle.plan.specs.Promises.{PlanReads, AcceptedPlan}
 use Rattle.plan.specs.declared.Head.{Head}
-use Rattle.grammar.specs.Grammar.{Clause}
+use Rattle.grammar.specs.Grammar.{top, Clause}
 use Rattle.grammar.specs.Reader.{readSheet, refused}
-use Rattle.grammar.specs.Answers.{Accepted}
+use Rattle.grammar.specs.Answers.{AcceptedSheet}
 use Rattle.grammar.specs.Promises.{Promises}
+use Rattle.clause.specs.Promises.{Picked}
+use Rattle.clause.specs.declared.Span.{Span}
 use Rattle.sheet.specs.Rules.{rulesVerdict}
 use Rattle.moves.specs.Carts.{checkedMoves}
 use Rattle.moves.specs.Promises.{AllUnending, CartUnending, Moving, FirstRefused}
@@ -35,7 +36,7 @@ use Rattle.edit.specs.Moved.{moved, moveOn}
 use Rattle.edit.specs.Replaced.{replaced, replaceRow}
 use Rattle.edit.specs.Promises.{fileLength, Later, NewRow}
 use Rattle.plancheck.specs.Check.{checked}
-use Rattle.plancheck.specs.Meaning.{Next16, Fails17, PlanRefused, SheetRefused}
+use Rattle.plancheck.specs.Meaning.{IsLineOf, Next16, Fails17, PlanRefused, SheetRefused}
 use Rattle.plancheck.specs.Promises.{Means}
 
 -- the four numbers of an operation's answer, which is one that document 01 names for it
@@ -89,7 +90,7 @@ pub record PlanWrittenCode (floor : List ℕ) (h : Head) (rows before : List ℕ
 pub record RulesReadCode (rules : List ℕ) (c : Code) : Type 0 where
   pub coded : Coded readingSheet (rulesVerdict rules) c
   -- number 0 exactly if the grammar derives the sheet within the limits
-  pub accepted : (c .number ≡ 0) ↔ ((cs : List Clause) × Accepted rules cs)
+  pub accepted : (c .number ≡ 0) ↔ ((cs : List Clause) × AcceptedSheet rules cs)
   -- refused by `number` at offset `first`, and what that means in the words of the grammar and the limits
   pub refused-at : (c .number ≡ 0 → ⊥) → (readSheet rules ≡ refused (c .number) (c .first)) × (c .second ≡ 0)
   pub meaning : Promises rules
@@ -110,6 +111,9 @@ pub record PlanCheckedCode (floor plan rules : List ℕ) (c : Code) : Type 0 whe
   -- 16 and 17, by the clause in `first` and the step in `second`
   pub next-16 : c .number ≡ 16 → (c .second ≡ 0) × Next16 floor plan rules (c .first)
   pub fails-17 : c .number ≡ 17 → Fails17 floor plan rules (c .first) (c .second)
+  -- and what cartplan_clause picks by these four numbers is that clause's line, which alone is a sheet of the clause that was judged
+  pub shown : (c .number ≡ 16) ⊎ (c .number ≡ 17) → (cs : List Clause) → AcceptedSheet rules cs → (p : Span) → Picked rules (bytesOf c) p
+      → (c .first < length cs) × IsLineOf rules (c .first) (getD cs (c .first) top) p
   -- every other refusal is that of the floor, the plan, its moves or the sheet, in this order
   pub floor-refused : c .about ≡ 1 → readFloor floor ≡ FloorRefused (refusalIn c)
   pub plan-refused : c .about ≡ 2 → PlanRefused floor plan (refusalIn c)

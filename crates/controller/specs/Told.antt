@@ -3,7 +3,7 @@ use Prim.Native.Nat.{ℕ, _≤_, _<_}
 use native.Mathlib.Omega.{arith}
 use mathlib.Core.Path.{_≡_, refl, sym, ap, ap₂, subst, _∙_}
 use mathlib.Core.Bool.{Bool, true, false, cond, _||_}
-use mathlib.Core.Logic.{_⊎_, inl, inr, _↔_}
+use mathlib.Core.Logic.{_⊎_, inl, inr, ⊎-elim, _↔_}
 use mathlib.Core.List.{List, [], _∷_, _++_}
 use lib.Dec.{eqb, ltb}
 use lib.ListN.{length, take, drop}
@@ -47,6 +47,7 @@ use Rattle.edit.specs.Replaced.{replaceRow}
 use Rattle.edit.specs.Promises.{MovedOn, RowReplaced}
 use Rattle.plancheck.specs.Check.{checked}
 use Rattle.plancheck.specs.Promises.{Means, PlanChecked}
+use Rattle.plancheck.specs.ShownClause.{shown-clause}
 use Rattle.controller.specs.Edge.{Coded, CodedOut, refusalIn, FloorReadCode, PlanReadCode, FloorWrittenCode, PlanWrittenCode, RulesReadCode, MovesCheckedCode, PlanCheckedCode, MovedOnCode, RowReplacedCode}
 
 abbrev num : Verdict → ℕ
@@ -197,7 +198,7 @@ rules-read s v w g c q = subst (RulesReadCode s) (sym q) (record {
   accepted = (
     λ z. let r = yes (readSheet s) (sym (w .answer) ∙ zero-accepts readingSheet refl refl v g z) in (r .0, w .meaning .sound (r .0) (r .1)),
     λ a. ap num (w .answer) ∙ ap (λ (r : Read). num (readVerdict r))
-    (w .meaning .complete (a .0) (a .1 .sheet) (a .1 .fits) (a .1 .few) (a .1 .some) (a .1 .short)),
+        (w .meaning .complete (a .0) (a .1 .sheet) (a .1 .fits) (a .1 .few) (a .1 .some) (a .1 .short)),
   );
   refused-at = λ n. no (readSheet s) (w .answer) n;
   meaning = w .meaning;
@@ -272,22 +273,22 @@ means-by floor s sheet A B on back w = record {
 }
 
 -- m is one of these
-abbrev among : ℕ → List ℕ → Bool
-among m [] = false
-among m (x ∷ xs) = eqb m x || among m xs
+abbrev listed : ℕ → List ℕ → Bool
+listed m [] = false
+listed m (x ∷ xs) = eqb m x || listed m xs
 
-not-among : (xs : List ℕ) (m n : ℕ) → among m xs ≡ false → OneOf xs n → n ≡ m → ⊥
-not-among [] m n e h q = h
-not-among (x ∷ xs) m n e (inl h) q = eqb-false m x (either-false (eqb m x) (among m xs) e .0) (sym q ∙ h)
-not-among (x ∷ xs) m n e (inr h) q = not-among xs m n (either-false (eqb m x) (among m xs) e .1) h q
+not-listed : (xs : List ℕ) (m n : ℕ) → listed m xs ≡ false → OneOf xs n → n ≡ m → ⊥
+not-listed [] m n e h q = h
+not-listed (x ∷ xs) m n e (inl h) q = eqb-false m x (either-false (eqb m x) (listed m xs) e .0) (sym q ∙ h)
+not-listed (x ∷ xs) m n e (inr h) q = not-listed xs m n (either-false (eqb m x) (listed m xs) e .1) h q
 
 -- a number that only the sheet's refusals have
-by-number : (t : Refusals) (m : ℕ) → among m (0 ∷ t .floor) ≡ false → among m (t .plan) ≡ false → (v : Verdict) → Given t v → num v ≡ m
+by-number : (t : Refusals) (m : ℕ) → listed m (0 ∷ t .floor) ≡ false → listed m (t .plan) ≡ false → (v : Verdict) → Given t v → num v ≡ m
     → v ≡ AboutRules (refused m (codeOf v .first) (codeOf v .second))
-by-number t m f p Accepted g e = absurd (not-among (0 ∷ t .floor) m 0 f (inl refl) e)
-by-number t m f p (Written k) g e = absurd (not-among (0 ∷ t .floor) m 0 f (inl refl) e)
-by-number t m f p (AboutFloor r) g e = absurd (not-among (0 ∷ t .floor) m (r .number) f (inr g) e)
-by-number t m f p (AboutPlan r) g e = absurd (not-among (t .plan) m (r .number) p g e)
+by-number t m f p Accepted g e = absurd (not-listed (0 ∷ t .floor) m 0 f (inl refl) e)
+by-number t m f p (Written k) g e = absurd (not-listed (0 ∷ t .floor) m 0 f (inl refl) e)
+by-number t m f p (AboutFloor r) g e = absurd (not-listed (0 ∷ t .floor) m (r .number) f (inr g) e)
+by-number t m f p (AboutPlan r) g e = absurd (not-listed (t .plan) m (r .number) p g e)
 by-number t m f p (AboutRules r) g e = ap (λ (n : ℕ). AboutRules (refused n (r .first) (r .second))) e
 
 -- the file tells the case
@@ -319,6 +320,8 @@ plan-checked floor s sheet v w g c q = subst (PlanCheckedCode floor s sheet) (sy
   means = means-by floor s sheet (v ≡ Accepted) (num v ≡ 0) (λ e. ap num e) (zero-accepts checkingPlan refl refl v g) (w .means);
   next-16 = λ e. w .next-16 (codeOf v .first) (codeOf v .second) (by-number checkingPlan 16 refl refl v g e);
   fails-17 = λ e. w .fails-17 (codeOf v .first) (codeOf v .second) (by-number checkingPlan 17 refl refl v g e);
+  shown = λ e cs a p picked. shown-clause floor s sheet v w cs a (codeOf v .first) (codeOf v .second)
+      (⊎-elim (λ x. inl (by-number checkingPlan 16 refl refl v g x)) (λ x. inr (by-number checkingPlan 17 refl refl v g x)) e) p picked;
   floor-refused = λ e. w .floor-refused (refusalIn (codeOf v)) (of-floor v e);
   plan-refused = λ e. w .plan-refused (refusalIn (codeOf v)) (of-plan v e);
   sheet-refused = λ e. w .sheet-refused (refusalIn (codeOf v)) (of-rules v e);

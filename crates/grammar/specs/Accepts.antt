@@ -12,7 +12,7 @@ use borrow.Author.Tests.{ltb-false, leb-true, leb-false, eqb-true}
 use Rattle.grammar.specs.Grammar.{Form, top, Spaces, none, Number, nought, Percent, without, Rank, small, Part, word, one-small, one-until, one-and, Mark, mark, Inner, Counted, counted, Count, count, Clause, Sheet, done, line}
 use Rattle.grammar.specs.Limits.{level, nodes, InRange, markLevel, markNodes, MarkOk, countLevel, countNodes, CountOk, most, Ranged, Fits}
 use Rattle.grammar.specs.Reader.{Got, no, bind, skip, expect, number, percent, ors, markBy, marks, inners, countEnd, countBy, counts, clauses, clauseLine, lines, accepted, refused, outcome, start, readSheet}
-use Rattle.grammar.specs.Answers.{Accepted, InSheet, Begins, BeginsInRange, Token, Allowed, Large, OutOfRange}
+use Rattle.grammar.specs.Answers.{AcceptedSheet, InSheet, Begins, BeginsInRange, Token, Allowed, Large, OutOfRange}
 use Rattle.grammar.specs.Ends.{Swap, here, there, Mode, near, whole, not-near, Keeps, keeps-near, keeps-13, keeps-14, keeps-15, swap-trans, swap-short, Framed, frame-spaces, frame-token, frame-number, frame-percent, frame, frame-mark, frame-count}
 use Rattle.grammar.specs.Each.{Each, gives, denies, each-bind, each-map, each-node, either, never, skip-spaces, each-expect, each-number, each-percent}
 use Rattle.grammar.specs.Sound.{spaces-short, Refuses, Completed, modes, Good, LeafReads, GoodLeaf, byte-refuses, true-near, true-refuses, part-short, ors-good}
@@ -319,10 +319,10 @@ unfolding start
 start-sound [] cs e = let z : _≡_ {A = ℕ} 0 1 = cc in absurd (omega arith)
 start-sound (b ∷ s) cs e = (outcome-sound (b ∷ s) cs (length (b ∷ s)) (lines 32 (b ∷ s)) (lines-good 32 (b ∷ s)) e, omega arith)
 
-pub sound : (s : List ℕ) (cs : List Clause) → readSheet s ≡ accepted cs → Accepted s cs
+pub sound : (s : List ℕ) (cs : List Clause) → readSheet s ≡ accepted cs → AcceptedSheet s cs
 unfolding readSheet
 sound s cs =
-    either (λ x. x ≡ accepted cs → Accepted s cs) (ltb 16384 (length s)) (refused 12 0) (start s)
+    either (λ x. x ≡ accepted cs → AcceptedSheet s cs) (ltb 16384 (length s)) (refused 12 0) (start s)
     (λ h e. let z : _≡_ {A = ℕ} 0 1 = cc in absurd (omega arith))
     (λ h e. let p = start-sound s cs e in record { sheet = p .0 .sheet; fits = p .0 .fits; few = p .0 .few; some = p .1; short = ltb-false 16384 (length s) h })
 

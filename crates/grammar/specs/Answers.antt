@@ -11,7 +11,7 @@ use Rattle.grammar.specs.Begun.{begun, TooMany}
 use Rattle.grammar.specs.Limits.{most, Sized, Ranged, Fits, FewLines, FewBytes}
 
 -- accepted: a sheet of the grammar, within the limits
-pub record Accepted (s : List ℕ) (cs : List Clause) : Type 0 where
+pub record AcceptedSheet (s : List ℕ) (cs : List Clause) : Type 0 where
   pub sheet : Sheet s cs
   pub fits : Fits sheet
   pub few : FewLines cs

@@ -23,8 +23,8 @@ isNode b = among "tm!XFGUR&|[" b
 pub data Open : Type 0 where
   bracket operand side : Open
 
-abbrev pub opens : ℕ → Bool
-opens b = among "([!XFGUR" b
+abbrev pub opensLevel : ℕ → Bool
+opensLevel b = among "([!XFGUR" b
 
 -- behind a smallest part no prefix operator before it awaits it
 abbrev pub operandEnds : List Open → List Open
@@ -78,4 +78,4 @@ begun s k = after (record { lines = 0; nodes = 0; levels = [] }) (take k s)
 
 -- a token with the first byte b would be the 129th node, or open level 33
 abbrev pub TooMany : Begun → ℕ → Type 0
-TooMany x b = ((isNode b ≡ true) × (x .nodes ≡ 128)) ⊎ ((opens b ≡ true) × (length (x .levels) ≡ 32))
+TooMany x b = ((isNode b ≡ true) × (x .nodes ≡ 128)) ⊎ ((opensLevel b ≡ true) × (length (x .levels) ≡ 32))

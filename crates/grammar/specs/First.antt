@@ -10,7 +10,7 @@ use lib.Seq.{take-length}
 use lib.Dec.{ltb}
 use Rattle.grammar.specs.Grammar.{Form, Spaces, none, space, Digits, end, digit, Number, nought, other, Percent, without, sign, prefixByte, reachByte, Rank, Part, word, parens, prefix, one-small, reach, one-until, one-and, Mark, mark, Counted, Count, count, Clause, Sheet, done, line}
 use Rattle.grammar.specs.Limits.{nodes, markNodes, countNodes}
-use Rattle.grammar.specs.Begun.{isNode, opens, Begun, onBy, after, begun, TooMany}
+use Rattle.grammar.specs.Begun.{isNode, opensLevel, Begun, onBy, after, begun, TooMany}
 use Rattle.grammar.specs.Reader.{Got, lines, accepted, refused, outcome, start, readSheet}
 use Rattle.grammar.specs.Answers.{InSheet, Begins, Never, Token, Allowed, Large, Over}
 use Rattle.grammar.specs.Ends.{token-in}
@@ -154,7 +154,7 @@ loud b c e h q = never (sym (q .node) ∙ ap isNode (sym e) ∙ h)
 pub token-loud : {q t r : List ℕ} {b : ℕ} → Token q t → q ≡ b ∷ r → Quiet b → ⊥
 token-loud {b = b} Token.word e q = loud b 116 (cc) refl q
 token-loud {b = b} (Token.mark y) e q = loud b 109 (cc) refl q
-token-loud {b = b} Token.paren e q = let z : 40 ≡ b = cc in never (sym (q .level) ∙ ap opens (sym z))
+token-loud {b = b} Token.paren e q = let z : 40 ≡ b = cc in never (sym (q .level) ∙ ap opensLevel (sym z))
 token-loud {b = b} Token.bracket e q = loud b 91 (cc) refl q
 token-loud {b = b} (Token.prefix o) e q = loud b (prefixByte o) (cc) (prefix-facts o .0) q
 token-loud {b = b} (Token.reach o) e q = loud b (reachByte o) (cc) (reach-facts o .0) q

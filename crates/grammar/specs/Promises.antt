@@ -11,7 +11,7 @@ use Rattle.grammar.specs.Nodes.{Node, flatClause, Stands, StandsCount}
 use Rattle.grammar.specs.Begun.{begun}
 use Rattle.grammar.specs.Standing.{clause-stands, clause-length}
 use Rattle.grammar.specs.Reader.{Read, accepted, refused, readSheet}
-use Rattle.grammar.specs.Answers.{Accepted, InSheet, RefusedBy, BeginsInRange, Never, Beyond, Allowed, Over, OutOfRange}
+use Rattle.grammar.specs.Answers.{AcceptedSheet, InSheet, RefusedBy, BeginsInRange, Never, Beyond, Allowed, Over, OutOfRange}
 use Rattle.grammar.specs.Accepts.{sound, before-in-range, allowed-14, out-15}
 use Rattle.grammar.specs.First.{begun-nodes, begun-lines, past-14, first-14, none-over}
 use Rattle.grammar.specs.Full.{line-33}
@@ -20,7 +20,7 @@ use Rattle.grammar.specs.Complete.{complete, stuck-13, over-14, codes, l
 -- what an answer a to a sheet s has to meet
 pub record Answered (s : List ℕ) (a : Read) : Type 0 where
   -- accepted: exactly the sheets of the grammar within the limits, and each as it is there
-  pub sound : (cs : List Clause) → a ≡ accepted cs → Accepted s cs
+  pub sound : (cs : List Clause) → a ≡ accepted cs → AcceptedSheet s cs
   pub complete : (cs : List Clause) (d : Sheet s cs) → Fits d → FewLines cs → 0 < length s → FewBytes s → a ≡ accepted cs
   -- a clause's nodes, whatever stands behind them: as many as the limit counts, each operand before its operator, the last for the clause
   pub count : (c : Clause) → length (flatClause c 0) ≡ nodes countNodes c

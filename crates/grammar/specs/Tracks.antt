@@ -12,19 +12,19 @@ use borrow.Author.Tests.{leb-true, eqb-true, eqb-false, ne-eqb}
 use Rattle.grammar.specs.Grammar.{bytes, Form, Spaces, none, space, Number, nought, other, Prefix, not, next, finally, globally, prefixByte, Reach, U, R, reachByte, Inner, counted}
 use Rattle.grammar.specs.Limits.{most}
 use Rattle.grammar.specs.Reader.{Got, got, no, Reader, bind, node, skip, expect, literal, isDigit, digits, number, percent, Kind, kind, Onward, stop, onward, Deeper, shut, open', chainAt, chainMore, chain, andChain, orChain, byKind, smallAt, smallOf, byOnward, untilAt, untilOf, deeper, smalls, untils, ors, markBy, marks, inners, countEnd, countBy, counts, clauses, clauseLine, lines}
-use Rattle.grammar.specs.Begun.{isNode, Open, bracket, operand, side, opens, operandEnds, sideEnds, bracketEnds, Begun, onBy, TooMany}
+use Rattle.grammar.specs.Begun.{isNode, Open, bracket, operand, side, opensLevel, operandEnds, sideEnds, bracketEnds, Begun, onBy, TooMany}
 use Rattle.grammar.specs.Answers.{Token}
 use Rattle.grammar.specs.Each.{Each, gives, denies, each-bind, each-map, each-node, either, never, both-left, both-right, is-digit, skip-spaces, each-expect}
 use Rattle.grammar.specs.Sound.{Shows, kind-shows, Leads, onward-leads}
 
-pub prefix-facts : (o : Prefix) → (isNode (prefixByte o) ≡ true) × (opens (prefixByte o) ≡ true) × (prefixByte o ≡ 116 → ⊥) × (prefixByte o ≡ 109 → ⊥)
+pub prefix-facts : (o : Prefix) → (isNode (prefixByte o) ≡ true) × (opensLevel (prefixByte o) ≡ true) × (prefixByte o ≡ 116 → ⊥) × (prefixByte o ≡ 109 → ⊥)
     × ((x : Begun) → onBy (prefixByte o) x ≡ record { lines = x .lines; nodes = suc (x .nodes); levels = operand ∷ x .levels })
 prefix-facts not = (refl, refl, λ e. omega arith, λ e. omega arith, λ x. refl)
 prefix-facts next = (refl, refl, λ e. omega arith, λ e. omega arith, λ x. refl)
 prefix-facts finally = (refl, refl, λ e. omega arith, λ e. omega arith, λ x. refl)
 prefix-facts globally = (refl, refl, λ e. omega arith, λ e. omega arith, λ x. refl)
 
-pub reach-facts : (o : Reach) → (isNode (reachByte o) ≡ true) × (opens (reachByte o) ≡ true) × (reachByte o ≡ 116 → ⊥) × (reachByte o ≡ 109 → ⊥)
+pub reach-facts : (o : Reach) → (isNode (reachByte o) ≡ true) × (opensLevel (reachByte o) ≡ true) × (reachByte o ≡ 116 → ⊥) × (reachByte o ≡ 109 → ⊥)
     × ((x : Begun) → onBy (reachByte o) x ≡ record { lines = x .lines; nodes = suc (x .nodes); levels = side ∷ x .levels })
 reach-facts U = (refl, refl, λ e. omega arith, λ e. omega arith, λ x. refl)
 reach-facts R = (refl, refl, λ e. omega arith, λ e. omega arith, λ x. refl)
@@ -75,7 +75,7 @@ track-grows {x} {y} (on {b = b} h k t) = grows-trans x (onBy b x) y (grown (eqb 
 -- a byte that begins and ends nothing
 pub record Quiet (b : ℕ) : Type 0 where
   pub node : isNode b ≡ false
-  pub level : opens b ≡ false
+  pub level : opensLevel b ≡ false
   pub same : (x : Begun) → onBy b x ≡ x
 
 quiet-on : {b : ℕ} {x y : Begun} {s r : List ℕ} → Quiet b → (x .lines ≡ 32 → ⊥) → Track x s r y → Track x (b ∷ s) r y
@@ -222,7 +222,7 @@ module _ (i : ℕ) (few : i < 32) where
 
   -- a token of one byte within the limits
   roomy : {x : Begun} {n l : ℕ} {P : List Open → Type 0} (b : ℕ) → Room i n P x → length (x .levels) + l ≡ 32
-      → (isNode b ≡ true → 0 < n) → (opens b ≡ true → 0 < l) → TooMany x b → ⊥
+      → (isNode b ≡ true → 0 < n) → (opensLevel b ≡ true → 0 < l) → TooMany x b → ⊥
   roomy b a e h k (inl o) = let j = a .left in omega (arith, h (o .0), o .1)
   roomy b a e h k (inr o) = omega (arith, k (o .0), o .1)
 
@@ -233,19 +233,19 @@ module _ (i : ℕ) (few : i < 32) where
       less (inl z) = absurd (omega (arith, a .lines, e .lines))
       less (inr z) = omega (arith, a .left, e .left, z .1)
 
-  roomy-node : {x : Begun} {m : ℕ} {P : List Open → Type 0} (c : ℕ) → Room i (suc m) P x → opens c ≡ false → TooMany x c → ⊥
+  roomy-node : {x : Begun} {m : ℕ} {P : List Open → Type 0} (c : ℕ) → Room i (suc m) P x → opensLevel c ≡ false → TooMany x c → ⊥
   roomy-node c a h (inl o) = let j = a .left in omega (arith, o .1)
   roomy-node c a h (inr o) = never (sym h ∙ o .0)
 
   byte : {x : Begun} {n l : ℕ} {P : List Open → Type 0} {s : List ℕ} (b : ℕ) → Room i n P x → length (x .levels) + l ≡ 32
-      → (isNode b ≡ true → 0 < n) → (opens b ≡ true → 0 < l) → Track x (b ∷ s) s (onBy b x)
+      → (isNode b ≡ true → 0 < n) → (opensLevel b ≡ true → 0 < l) → Track x (b ∷ s) s (onBy b x)
   byte b a e h k = on (below a) (λ v t z. roomy b a e h k v) here
 
   -- a byte that is no node and opens nothing
-  closing : {x : Begun} {n : ℕ} {P : List Open → Type 0} {s : List ℕ} (b : ℕ) → Room i n P x → isNode b ≡ false → opens b ≡ false → Track x (b ∷ s) s (onBy b x)
+  closing : {x : Begun} {n : ℕ} {P : List Open → Type 0} {s : List ℕ} (b : ℕ) → Room i n P x → isNode b ≡ false → opensLevel b ≡ false → Track x (b ∷ s) s (onBy b x)
   closing b a h k = on (below a) (λ v t z. ⊎-elim (λ o. never (sym h ∙ o .0)) (λ o. never (sym k ∙ o .0)) v) here
 
-  expects : {A : Type 0} {x : Begun} {P Q : List Open → Type 0} (c : ℕ) (a : A) (n : ℕ) (s : List ℕ) → isNode c ≡ false → opens c ≡ false
+  expects : {A : Type 0} {x : Begun} {P Q : List Open → Type 0} (c : ℕ) (a : A) (n : ℕ) (s : List ℕ) → isNode c ≡ false → opensLevel c ≡ false
       → ((y : Begun) → Room i n P y → Room i n Q (onBy c y)) → Room i n P x → Tracked x s Q (expect c a n s)
   expects {x = x} c a n s h k f e =
       each-expect c a n s (λ r y. (onBy c x, track-trans (spaces-track (below e) y) (closing c e h k), f x e))
@@ -258,7 +258,7 @@ module _ (i : ℕ) (few : i < 32) where
   abbrev pub Chains : {A : Type 0} → ℕ → Reader A → Type 0
   Chains l rd = (n : ℕ) (s : List ℕ) (x : Begun) → Room i n (Fresh l) x → Tracked x s (λ o. sideEnds o ≡ x .levels) (rd n s)
 
-  module _ {A : Type 0} (c : ℕ) (join : A → A → A) (is-node : isNode c ≡ true) (is-level : opens c ≡ false)
+  module _ {A : Type 0} (c : ℕ) (join : A → A → A) (is-node : isNode c ≡ true) (is-level : opensLevel c ≡ false)
       (moves : (x : Begun) → (onBy c x .lines ≡ x .lines) × (onBy c x .nodes ≡ suc (x .nodes)) × (onBy c x .levels ≡ sideEnds (x .levels)))
       (l : ℕ) (sub : Reader A) (runs : Chains l sub) (o₀ : List Open) (fresh : Fresh l o₀) where
     abbrev Closes : List Open → Type 0
@@ -417,7 +417,7 @@ module _ (i : ℕ) (few : i < 32) where
     by-onward-tracked l d gd o₀ low n a r stop b r₁ x e y v = gives (x, here, record { lines = v .lines; left = v .left; levels = ap sideEnds (v .levels) })
     by-onward-tracked l shut gd o₀ low n a r (Onward.reach o) b r₁ x e y v =
         let h = ap length (v .levels) in
-        denies (reaches (inr (ap opens e ∙ reach-facts o .1, omega arith)) (spaces-track (below v) y))
+        denies (reaches (inr (ap opensLevel e ∙ reach-facts o .1, omega arith)) (spaces-track (below v) y))
     by-onward-tracked l (open' sm un) gd o₀ low n a r (Onward.reach o) b r₁ x e y v =
         let h = ap length (v .levels) in
         let k = v .left in

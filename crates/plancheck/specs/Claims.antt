@@ -21,7 +21,7 @@ use Rattle.plan.specs.After.{ReadAs}
 use Rattle.plan.specs.Complete.{file-reads}
 use Rattle.plan.specs.RoundTrip.{valid, bytes-back}
 use Rattle.grammar.specs.Grammar.{Clause}
-use Rattle.grammar.specs.Answers.{Accepted as IsSheet}
+use Rattle.grammar.specs.Answers.{AcceptedSheet}
 use Rattle.cltl.specs.Meaning.{Rows, Run, TrueOf, TrueInStep}
 use Rattle.cltl.specs.Rules.{rules}
 use Rattle.cltl.specs.Promises as cltl
@@ -47,7 +47,7 @@ means-as floor s sheet same w = record {
 
 module _ (floor s sheet : List ℕ) (fb : Bytes floor) (pb : Bytes s) where
   module _ (f : Floor) (p : PlanNumbers) (files : ReadAs floor s f p) (yes : checked floor s sheet ≡ Accepted) where
-    all-kept : (cs : List Clause) → IsSheet sheet cs → All (Kept (planRows floor f p) (p .head .drift)) cs
+    all-kept : (cs : List Clause) → AcceptedSheet sheet cs → All (Kept (planRows floor f p) (p .head .drift)) cs
     all-kept cs e =
         let a = accepted-as floor s sheet f p files yes in
         subst (All (Kept (planRows floor f p) (p .head .drift))) (same-clauses sheet (a .0) cs (a .1 .readable .clauses) e) (a .2)

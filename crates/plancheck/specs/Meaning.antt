@@ -2,9 +2,9 @@
 use Prim.Native.Nat.{ℕ, _<_}
 use mathlib.Core.Path.{_≡_}
 use mathlib.Core.Logic.{_⊎_}
-use mathlib.Core.List.{List}
+use mathlib.Core.List.{List, [], _∷_, _++_}
 use lib.Dec.{T}
-use lib.ListN.{length, getD}
+use lib.ListN.{length, take, drop, getD}
 use Rattle.refusal.specs.declared.Refusal.{Refusal}
 use Rattle.refusal.specs.declared.Verdict.the-variants.{Plan as AboutPlan, Rules as AboutRules}
 use Rattle.record.specs.All.{All}
@@ -14,9 +14,11 @@ use Rattle.floor.specs.declared.FloorAnswer.the-variants.{Read as FloorAccepted
 use Rattle.plan.specs.Plan.{PlanNumbers, rejected, readPlan}
 use Rattle.plan.specs.Numbers.{headOf}
 use Rattle.plan.specs.After.{ReadAs}
+use Rattle.clause.specs.Meaning.{IsClause}
+use Rattle.clause.specs.declared.Span.{Span}
 use Rattle.moves.specs.Promises.{AllUnending, Moving, FirstRefused}
-use Rattle.grammar.specs.Grammar.{top, gl, Clause}
-use Rattle.grammar.specs.Answers.{Accepted}
+use Rattle.grammar.specs.Grammar.{top, gl, Clause, Sheet}
+use Rattle.grammar.specs.Answers.{AcceptedSheet}
 use Rattle.sheet.specs.Promises.{RulesRead}
 use Rattle.cltl.specs.Meaning.{Rows}
 use Rattle.cltl.specs.Rules.{rules, hasNext}
@@ -58,7 +60,7 @@ module _ (floor plan sheet : List ℕ) where
   pub record ReadAndOpen (f : Floor) (p : PlanNumbers) (cs : List Clause) : Type 0 where
     pub files : ReadAs floor plan f p
     pub moves : AllUnending floor f p
-    pub clauses : Accepted sheet cs
+    pub clauses : AcceptedSheet sheet cs
 
   -- "Ahead of the clauses stand all refusals of the check but 17": there is none
   pub record NoneAhead (f : Floor) (p : PlanNumbers) (cs : List Clause) : Type 0 where
@@ -90,3 +92,8 @@ module _ (floor plan sheet : List ℕ) where
   -- about the sheet: the moves are open without end, and the sheet is refused as it is read
   abbrev pub SheetRefused : Refusal → Type 0
   SheetRefused x = Moving floor plan × RulesRead sheet (AboutRules x)
+
+-- part p of a sheet is its line k, and this line, alone, is a sheet of the clause c and no other
+pub record IsLineOf (sheet : List ℕ) (k : ℕ) (c : Clause) (p : Span) : Type 0 where
+  pub line : IsClause sheet k p
+  pub alone : Sheet (take (p .length) (drop (p .offset) sheet) ++ (10 ∷ [])) (c ∷ [])

@@ -24,7 +24,7 @@ use Rattle.moves.specs.Unending.{all-unending, all-accepted}
 use Rattle.grammar.specs.Grammar.{Clause}
 use Rattle.grammar.specs.Reader.{Read, accepted, readSheet}
 use Rattle.grammar.specs.Reader as reader
-use Rattle.grammar.specs.Answers.{Accepted as IsSheet}
+use Rattle.grammar.specs.Answers.{AcceptedSheet}
 use Rattle.grammar.specs.Promises.{promises}
 use Rattle.sheet.specs.Rules.{readVerdict, rulesVerdict}
 use Rattle.cltl.specs.Meaning.{Rows, Proper}
@@ -61,10 +61,10 @@ module _ (P : Rows) (d : ℕ) where
       ∙ pass-accepted (Kept P d) _ _ (λ c n k. n k) (first-17 P d cs) a
 
 -- a sheet of the grammar within the limits is what the reader accepts
-pub grammar-read : (s : List ℕ) (cs : List Clause) → IsSheet s cs → readSheet s ≡ accepted cs
+pub grammar-read : (s : List ℕ) (cs : List Clause) → AcceptedSheet s cs → readSheet s ≡ accepted cs
 grammar-read s cs a = promises s .complete cs (a .sheet) (a .fits) (a .few) (a .some) (a .short)
 
-pub same-clauses : (s : List ℕ) (cs ds : List Clause) → IsSheet s cs → IsSheet s ds → cs ≡ ds
+pub same-clauses : (s : List ℕ) (cs ds : List Clause) → AcceptedSheet s cs → AcceptedSheet s ds → cs ≡ ds
 same-clauses s cs ds a b = ap clausesOf (sym (grammar-read s cs a) ∙ grammar-read s ds b)
 
 pub sheet-read : (r : Read) → readVerdict r ≡ Accepted → r ≡ accepted (clausesOf r)

@@ -1,8 +1,9 @@
 -- Document 01's numbers of each refusal, and the four numbers of a verdict.
-use Prim.Native.Nat.{ℕ, zero, suc}
+use Prim.Native.Nat.{ℕ, zero, suc, _^_, _<_}
 use mathlib.Core.Bool.{Bool, cond}
 use mathlib.Core.List.{List, [], _∷_, _++_}
-use Rattle.endian.specs.Little.{bytes}
+use lib.ListN.{take, drop}
+use Rattle.endian.specs.Little.{bytes, value}
 use Rattle.refusal.specs.declared.Refusal.{Refusal}
 use Rattle.refusal.specs.declared.Code.{Code}
 use Rattle.refusal.specs.declared.Verdict.{Verdict}
@@ -41,3 +42,18 @@ codeOf (Rules r) = codeAbout 3 r
 -- a verdict's 16 bytes: its four numbers, little-endian
 abbrev pub bytesOf : Code → List ℕ
 bytesOf c = bytes 4 (c .about) ++ bytes 4 (c .number) ++ bytes 4 (c .first) ++ bytes 4 (c .second)
+
+-- the number in the four bytes from k on
+abbrev pub wordAt : ℕ → List ℕ → ℕ
+wordAt k s = value (take 4 (drop k s))
+
+-- the four numbers that 16 bytes stand for
+abbrev pub codeIn : List ℕ → Code
+codeIn s = record { about = wordAt 0 s; number = wordAt 4 s; first = wordAt 8 s; second = wordAt 12 s }
+
+-- each of the four numbers fits in 32 bits
+pub record Fits32 (c : Code) : Type 0 where
+  pub about : c .about < 2 ^ 32
+  pub number : c .number < 2 ^ 32
+  pub first : c .first < 2 ^ 32
+  pub second : c .second < 2 ^ 32

@@ -9,16 +9,16 @@ use Rattle.refusal.specs.Codes.{atOffset}
 use Rattle.refusal.specs.Given.{OneOf, sheetNumbers, accepts, writes, Given, readingSheet}
 use Rattle.refusal.specs.declared.Refusal.{Refusal}
 use Rattle.refusal.specs.declared.Verdict.{Verdict}
-use Rattle.refusal.specs.declared.Verdict.the-variants.{Accepted as Done, Written, Floor, Plan, Rules as AboutRules}
+use Rattle.refusal.specs.declared.Verdict.the-variants.{Accepted, Written, Floor, Plan, Rules as AboutRules}
 use Rattle.grammar.specs.Grammar.{Clause, Sheet}
 use Rattle.grammar.specs.Limits.{FewBytes}
-use Rattle.grammar.specs.Answers.{Accepted, InSheet, RefusedBy, BeginsInRange, Never, Beyond, Allowed, OutOfRange}
+use Rattle.grammar.specs.Answers.{AcceptedSheet, InSheet, RefusedBy, BeginsInRange, Never, Beyond, Allowed, OutOfRange}
 use Rattle.grammar.specs.Reader.{Read, accepted, refused, readSheet}
 use Rattle.sheet.specs.Rules.{readVerdict, rulesVerdict}
 use Rattle.sheet.specs.Promises.{RulesRead}
 
 -- what was read, by the verdict
-was-accepted : (r : Read) → readVerdict r ≡ Done → (cs : List Clause) × (r ≡ accepted cs)
+was-accepted : (r : Read) → readVerdict r ≡ Accepted → (cs : List Clause) × (r ≡ accepted cs)
 was-accepted (accepted cs) e = (cs, refl)
 was-accepted (refused w k) e = let z : _≡_ {A = ℕ} 0 1 = cc in absurd (omega arith)
 
@@ -32,7 +32,7 @@ was-refused (refused v i) w k j e =
 
 module _ (s : List ℕ) (v : Verdict) (promise : RulesRead s v) where
   -- accepted: exactly the sheets of the grammar within the limits
-  pub accepted-iff : (v ≡ Done) ↔ ((cs : List Clause) × Accepted s cs)
+  pub accepted-iff : (v ≡ Accepted) ↔ ((cs : List Clause) × AcceptedSheet s cs)
   unfolding rulesVerdict
   accepted-iff = (
     λ e. let r = was-accepted (readSheet s) (sym (promise .answer) ∙ e) in (r .0, promise .meaning .sound (r .0) (r .1)),
@@ -40,11 +40,11 @@ module _ (s : List ℕ) (v : Verdict) (promise : RulesRead s v) where
   )
 
   -- else a refusal of the sheet, by one of 12, 13, 14, 15 and 7
-  pub or-refused : (v ≡ Done) ⊎ ((r : Refusal) × (v ≡ AboutRules r) × OneOf sheetNumbers (r .number))
+  pub or-refused : (v ≡ Accepted) ⊎ ((r : Refusal) × (v ≡ AboutRules r) × OneOf sheetNumbers (r .number))
   or-refused = go v refl (promise .numbers)
     where
-      go : (w : Verdict) → v ≡ w → Given readingSheet w → (v ≡ Done) ⊎ ((r : Refusal) × (v ≡ AboutRules r) × OneOf sheetNumbers (r .number))
-      go Done e g = inl e
+      go : (w : Verdict) → v ≡ w → Given readingSheet w → (v ≡ Accepted) ⊎ ((r : Refusal) × (v ≡ AboutRules r) × OneOf sheetNumbers (r .number))
+      go Accepted e g = inl e
       go (Written n) e g = let y : _≡_ {A = ℕ} 0 1 = cc in absurd (omega arith)
       go (Floor r) e g = absurd g
       go (Plan r) e g = absurd g
