@@ -31,7 +31,7 @@ use Rattle.plan.specs.declared.RowAnswer.{RowAnswer}
 use Rattle.plan.specs.declared.RowAnswer.the-variants.{Fits, WrongLength, Absent}
 use Rattle.moves.specs.Carts.{cartVerdict, movesVerdict}
 use Rattle.moves.specs.Promises.{AllUnending, CartUnending}
-use Rattle.moves.specs.Unending.{Passes, all-pass, none-refused, cart-accepted, all-accepted, moves-read}
+use Rattle.moves.specs.Unending.{Passes, each-passes, none-refused, cart-accepted, all-accepted, moves-read}
 use Rattle.edit.specs.Replaced.{replaced, placesVerdict, newRowVerdict, cartRowVerdict, replaceVerdict, rowAt, replacedIn, replaceRow}
 use Rattle.edit.specs.RowStored.{row-stored, row-inside}
 use Rattle.edit.specs.Promises.{NewRow, RowReplaced}
@@ -90,13 +90,13 @@ module _ (floor : List ℕ) (f : Floor) (p : PlanNumbers) (c : ℕ) (row : List 
     }
 
     pub moves-replaced : movesVerdict floor f (replaced c row p) ≡ Accepted
-    moves-replaced = none-refused floor (replaced c row p) (f .carts) 0 (λ k l. passes k (omega arith))
+    moves-replaced = none-refused floor (replaced c row p) (f .carts) passes
       where
         passes : (k : ℕ) → k < f .carts → Passes floor (replaced c row p) k
         passes k l = go (eqb k c) refl
           where
             old : Passes floor p k
-            old = all-pass floor p (f .carts) 0 (w .moves) k (omega arith) (omega arith)
+            old = each-passes floor p (f .carts) (w .moves) k l
 
             go : (b : Bool) → eqb k c ≡ b → Passes floor (replaced c row p) k
             go true q =

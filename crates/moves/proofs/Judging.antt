@@ -12,7 +12,7 @@ use Rattle.refusal.specs.declared.Verdict.{Verdict}
 use Rattle.plan.specs.Plan.{heldNumbers}
 use Rattle.plan.specs.Read.{row-in, blockPart, part-is, part-length}
 use Rattle.plan.specs.declared.Head.{Head}
-use Rattle.moves.specs.Carts.{cartVerdict, rowVerdict, judgedCarts}
+use Rattle.moves.specs.Carts.{cartVerdict, rowVerdict, rowAccepted, judgedCarts}
 use Rattle.moves.specs.Judged.{cart-passed, cart-refused}
 
 -- the carts from c on decide
@@ -38,7 +38,7 @@ module _ (carts : ℕ) (h : Head) (block : List ℕ) (c : ℕ) (few : carts ≤ 
         ∙ ap₂ (λ (x : List ℕ) (n : ℕ). cartVerdict floor c x n (h .stem)) (part-is (h .steps) block c ∙ sym (row-in carts (h .steps) block c l))
         (part-length (h .steps) block c (omega arith) fits size)
 
-    by : (b : Bool) → not t ≡ b → isAccepted (rowVerdict floor (heldNumbers carts h block) c) ≡ not b
+    by : (b : Bool) → not t ≡ b → rowAccepted floor (heldNumbers carts h block) c ≡ not b
     by b z = ap isAccepted (sym judged) ∙ sym q ∙ not-is t b z
 
     pub refused : not t ≡ true → v ≡ judgedCarts floor (heldNumbers carts h block) carts 0

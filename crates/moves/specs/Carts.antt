@@ -1,14 +1,16 @@
 -- "Checking moves, carts in order".
-use Prim.Native.Nat.{ℕ, zero, suc}
+use Prim.Native.Nat.{ℕ}
+use mathlib.Core.Bool.{Bool}
 use mathlib.Core.List.{List, []}
 use lib.ListN.{getD}
 use Rattle.refusal.specs.Codes.{refused}
-use Rattle.refusal.specs.Stages.{andThen}
+use Rattle.refusal.specs.Stages.{isAccepted}
 use Rattle.refusal.specs.declared.Verdict.{Verdict}
 use Rattle.refusal.specs.declared.Verdict.the-variants.{Accepted, Plan as AboutPlan}
 use Rattle.floor.specs.declared.Floor.{Floor}
 use Rattle.plan.specs.Plan.{PlanNumbers}
 use Rattle.plan.specs.After.{afterReading}
+use Rattle.row.specs.First.{firstFailing}
 use Rattle.row.specs.Moves.{lanesIn, cartsIn, judgedMoves}
 use Rattle.row.specs.declared.MoveAnswer.{MoveAnswer}
 use Rattle.row.specs.declared.MoveAnswer.the-variants.{Open, Elsewhere, Shut}
@@ -33,10 +35,12 @@ cartVerdict floor c row h l = verdictOf c (judgedMoves (lanesIn floor) (classOf 
 abbrev pub rowVerdict : List ℕ → PlanNumbers → ℕ → Verdict
 rowVerdict floor p c = cartVerdict floor c (getD (p .rows) c []) (p .head .steps) (p .head .stem)
 
--- n carts from cart c on
+abbrev pub rowAccepted : List ℕ → PlanNumbers → ℕ → Bool
+rowAccepted floor p c = isAccepted (rowVerdict floor p c)
+
+-- "carts in order": of n carts from cart c on, the verdict of the first that is refused
 unfoldable pub judgedCarts : List ℕ → PlanNumbers → ℕ → ℕ → Verdict
-judgedCarts floor p zero c = Accepted
-judgedCarts floor p (suc n) c = andThen (rowVerdict floor p c) (judgedCarts floor p n (suc c))
+judgedCarts floor p n c = firstFailing (rowAccepted floor p) (rowVerdict floor p) (λ end. Accepted) n c
 
 -- all carts of the floor
 abbrev pub movesVerdict : List ℕ → Floor → PlanNumbers → Verdict

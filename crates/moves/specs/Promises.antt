@@ -24,7 +24,7 @@ AllUnending floor f p = (c : ℕ) → c < f .carts → CartUnending floor p c
 
 -- step k is the lowest of cart c's that is left by a move that is not open
 abbrev pub LowestLeft : List ℕ → PlanNumbers → ℕ → ℕ → Type 0
-LowestLeft floor p c k = Lowest (lanesIn floor) (classOf floor c) (getD (p .rows) c []) (p .head .steps) (p .head .stem) 0 k
+LowestLeft floor p c k = Lowest (lanesIn floor) (classOf floor c) (getD (p .rows) c []) (p .head .steps) (p .head .stem) k
 
 -- floor and plan are read, and every cart's moves go on without end
 pub record Moving (floor plan : List ℕ) : Type 0 where

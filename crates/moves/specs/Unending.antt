@@ -1,11 +1,9 @@
 -- Moves are accepted exactly if every cart begins at its start and makes open moves only, without end.
-use Prim.Native.Nat.{ℕ, zero, suc, _+_, _≤_, _<_}
+use Prim.Native.Nat.{ℕ, _+_, _<_}
 use native.Mathlib.Omega.{arith}
 use mathlib.Core.Path.{_≡_, refl, sym, ap, subst, _∙_}
-use mathlib.Core.Bool.{Bool, true, false, cond}
+use mathlib.Core.Bool.{true, false}
 use mathlib.Core.List.{List}
-use lib.Dec.{eqb}
-use borrow.Author.Tests.{eqb-true, eqb-false}
 use Rattle.refusal.specs.Stages.{isAccepted}
 use Rattle.refusal.specs.Accepting.{accepted-is}
 use Rattle.refusal.specs.Codes.{codeOf}
@@ -16,10 +14,11 @@ use Rattle.plan.specs.Plan.{PlanNumbers, accepted, readPlan}
 use Rattle.plan.specs.After.{ReadAs}
 use Rattle.plan.specs.RoundTrip.{valid}
 use Rattle.plan.specs.Read.{ReadingCases, floor-refused, plan-refused, both-read, reading-cases, read-on}
+use Rattle.row.specs.Firsts.{Fault, all-pass, none-fails, first-fault}
 use Rattle.row.specs.Unending.{unending, accepts-all, refused-step}
 use Rattle.row.specs.declared.MoveAnswer.{MoveAnswer}
 use Rattle.row.specs.declared.MoveAnswer.the-variants.{Open, Elsewhere, Shut}
-use Rattle.moves.specs.Carts.{startOf, verdictOf, rowVerdict, judgedCarts, movesVerdict, checkedMoves}
+use Rattle.moves.specs.Carts.{startOf, verdictOf, rowVerdict, rowAccepted, judgedCarts, movesVerdict, checkedMoves}
 use Rattle.moves.specs.Promises.{CartUnending, AllUnending, Moving, FirstRefused, MovesChecked}
 
 only-open : (c : ℕ) (a : MoveAnswer) → verdictOf c a ≡ Accepted → a ≡ Open
@@ -37,53 +36,26 @@ module _ (floor : List ℕ) (p : PlanNumbers) where
   abbrev pub Passes : ℕ → Type 0
   Passes c = rowVerdict floor p c ≡ Accepted
 
-  pub all-pass : (n c : ℕ) → judgedCarts floor p n c ≡ Accepted → (k : ℕ) → c ≤ k → k < c + n → Passes k
-  unfolding judgedCarts
-  all-pass zero c e k l m = absurd (omega arith)
-  all-pass (suc n) c e k l m = go (isAccepted (rowVerdict floor p c)) refl (all-pass n (suc c)) e
-    where
-      go : (b : Bool) → isAccepted (rowVerdict floor p c) ≡ b
-          → (judgedCarts floor p n (suc c) ≡ Accepted → (k : ℕ) → suc c ≤ k → k < suc c + n → Passes k)
-          → cond b (judgedCarts floor p n (suc c)) (rowVerdict floor p c) ≡ Accepted → Passes k
-      go false q f e = let z : false ≡ true = sym q ∙ ap isAccepted e in let y : _≡_ {A = ℕ} 0 1 = cc in absurd (omega arith)
-      go true q f e = by (eqb k c) refl
-        where
-          by : (t : Bool) → eqb k c ≡ t → Passes k
-          by true r = subst Passes (sym (eqb-true k c r)) (accepted-is _ q)
-          by false r = f e k (let n : (k ≡ c → ⊥) = eqb-false k c r in omega arith) (omega arith)
+  -- of n carts from cart 0 on
+  abbrev carts : ℕ → Verdict
+  carts n = judgedCarts floor p n 0
 
-  pub none-refused : (n c : ℕ) → ((k : ℕ) → k < c + n → Passes k) → judgedCarts floor p n c ≡ Accepted
+  pub each-passes : (n : ℕ) → carts n ≡ Accepted → (c : ℕ) → c < n → Passes c
   unfolding judgedCarts
-  none-refused zero c f = refl
-  none-refused (suc n) c f =
-      ap (λ (v : Verdict). cond (isAccepted v) (judgedCarts floor p n (suc c)) v) (f c (omega arith)) ∙ none-refused n (suc c) (λ k l. f k (omega arith))
+  each-passes n e c l =
+      accepted-is _ (all-pass (rowAccepted floor p) (rowVerdict floor p) (λ end. Accepted) n 0
+      (λ k f u. let z : true ≡ false = sym (ap isAccepted u) ∙ f in let y : _≡_ {A = ℕ} 0 1 = cc in absurd (omega arith)) e c (omega arith) (omega arith))
 
-  -- the first of the carts from c on that is refused, and its verdict
-  record FirstFrom (c top : ℕ) (v : Verdict) : Type 0 where
-    cart : ℕ
-    from : c ≤ cart
-    below : cart < top
-    refused : rowVerdict floor p cart ≡ v
-    passed : (j : ℕ) → c ≤ j → j < cart → Passes j
-
-  first-from : (n c : ℕ) → isAccepted (judgedCarts floor p n c) ≡ false → FirstFrom c (c + n) (judgedCarts floor p n c)
+  pub none-refused : (n : ℕ) → ((c : ℕ) → c < n → Passes c) → carts n ≡ Accepted
   unfolding judgedCarts
-  first-from zero c e = let z : _≡_ {A = ℕ} 0 1 = cc in absurd (omega arith)
-  first-from (suc n) c e = go (isAccepted (rowVerdict floor p c)) refl (first-from n (suc c)) e
-    where
-      go : (b : Bool) → isAccepted (rowVerdict floor p c) ≡ b
-          → (isAccepted (judgedCarts floor p n (suc c)) ≡ false → FirstFrom (suc c) (suc c + n) (judgedCarts floor p n (suc c)))
-          → isAccepted (cond b (judgedCarts floor p n (suc c)) (rowVerdict floor p c)) ≡ false
-          → FirstFrom c (c + suc n) (cond b (judgedCarts floor p n (suc c)) (rowVerdict floor p c))
-      go false q f e = record { cart = c; from = omega arith; below = omega arith; refused = refl; passed = λ j a b. absurd (omega arith) }
-      go true q f e =
-          let w = f e in
-          record
-          { cart = w .cart; from = omega (arith, w .from); below = omega (arith, w .below); refused = w .refused; passed = λ j a b. by j a b (eqb j c) refl }
-        where
-          by : (j : ℕ) → c ≤ j → j < f e .cart → (t : Bool) → eqb j c ≡ t → Passes j
-          by j a b true r = subst Passes (sym (eqb-true j c r)) (accepted-is _ q)
-          by j a b false r = f e .passed j (let n : (j ≡ c → ⊥) = eqb-false j c r in omega arith) b
+  none-refused n f =
+      none-fails (rowAccepted floor p) (rowVerdict floor p) (λ end. Accepted) n 0 (λ c k l. ap isAccepted (f c (omega arith)))
+
+  first-of : (n : ℕ) → isAccepted (carts n) ≡ false → Fault (rowAccepted floor p) (rowVerdict floor p) (λ end. Accepted) 0 (0 + n) (carts n)
+  unfolding judgedCarts
+  first-of n e =
+      first-fault (rowAccepted floor p) (rowVerdict floor p) (λ end. Accepted) n 0
+      (λ u. let z : true ≡ false = sym (ap isAccepted u) ∙ e in let y : _≡_ {A = ℕ} 0 1 = cc in absurd (omega arith))
 
   module _ (some : p .head .stem < p .head .steps) where
     cart-unending : (c : ℕ) → Passes c → CartUnending floor p c
@@ -94,22 +66,22 @@ module _ (floor : List ℕ) (p : PlanNumbers) where
 
     module _ (f : Floor) where
       pub all-unending : movesVerdict floor f p ≡ Accepted → AllUnending floor f p
-      all-unending e c l = cart-unending c (all-pass (f .carts) 0 e c (omega arith) (omega arith))
+      all-unending e c l = cart-unending c (each-passes (f .carts) e c l)
 
       pub all-accepted : AllUnending floor f p → movesVerdict floor f p ≡ Accepted
-      all-accepted u = none-refused (f .carts) 0 (λ c l. cart-accepted c (u c (omega arith)))
+      all-accepted u = none-refused (f .carts) (λ c l. cart-accepted c (u c l))
 
       first-refused : isAccepted (movesVerdict floor f p) ≡ false → FirstRefused floor f p (movesVerdict floor f p)
       first-refused e =
-          let w = first-from (f .carts) 0 e in
+          let w = first-of (f .carts) e in
           record {
-            cart = w .cart;
-            there = omega (arith, w .below);
-            refused = w .refused;
+            cart = w .at;
+            there = omega (arith, w .first .below);
+            refused = sym (w .is);
             before = λ c l. cart-unending c
-                (w .passed c (omega arith) l);
-            lowest = λ k q. refused-step _ _ _ _ _ (startOf floor (w .cart)) k
-                (only-shut (w .cart) k _ (w .refused ∙ q)) .1;
+                (accepted-is _ (w .first .before c (omega arith) l));
+            lowest = λ k q. refused-step _ _ _ _ _ (startOf floor (w .at)) k
+                (only-shut (w .at) k _ (sym (w .is) ∙ q)) .1;
           }
 
 stem-low : (f : Floor) (plan : List ℕ) (n : PlanNumbers) → readPlan f plan ≡ accepted n → n .head .stem < n .head .steps

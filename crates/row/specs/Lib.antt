@@ -1,9 +1,11 @@
 -- definitions
+pub mod First
 pub mod Lasso
 pub mod Moves
 pub mod Meaning
 pub mod Chain
 -- laws
+pub mod Firsts
 pub mod Round
 pub mod Unending
 pub mod Linked

@@ -1,9 +1,10 @@
 -- What accepted and refused moves mean, over counters without end.
-use Prim.Native.Nat.{ℕ, suc, _≤_, _<_}
+use Prim.Native.Nat.{ℕ, suc}
 use mathlib.Core.Path.{_≡_}
-use mathlib.Core.Bool.{true, false}
+use mathlib.Core.Bool.{true}
 use mathlib.Core.List.{List}
 use lib.ListN.{getD}
+use Rattle.row.specs.First.{FailsFirst}
 use Rattle.row.specs.Lasso.{stepOf}
 use Rattle.row.specs.Moves.{isOpen, openAt}
 
@@ -16,9 +17,6 @@ pub record Unending (lanes : List (List ℕ)) (class start : ℕ) (row : List �
   pub begins : getD row 0 0 ≡ start
   pub open-at : (v : ℕ) → isOpen lanes class (placeAtCounter row h l v) (placeAtCounter row h l (suc v)) ≡ true
 
--- step k is left by a move that is not open, and every lower one from s on by an open move
-pub record Lowest (lanes : List (List ℕ)) (class : ℕ) (row : List ℕ) (h l s k : ℕ) : Type 0 where
-  pub from : s ≤ k
-  pub below : k < h
-  pub shut : openAt lanes class row h l k ≡ false
-  pub lower : (j : ℕ) → s ≤ j → j < k → openAt lanes class row h l j ≡ true
+-- step k is the first that is left by a move that is not open
+abbrev pub Lowest : List (List ℕ) → ℕ → List ℕ → ℕ → ℕ → ℕ → Type 0
+Lowest lanes class row h l k = FailsFirst (openAt lanes class row h l) 0 h k

@@ -1,11 +1,12 @@
 -- Moves: which are open, and what is refused of a row.
-use Prim.Native.Nat.{ℕ, zero, suc, _/_, _%_, _^_}
+use Prim.Native.Nat.{ℕ, _/_, _%_, _^_}
 use mathlib.Core.Bool.{Bool, false, cond, _&&_, _||_}
 use mathlib.Core.List.{List, [], _∷_}
 use lib.Dec.{eqb}
 use lib.ListN.{getD}
 use Rattle.record.specs.Parts.{parts}
 use Rattle.floor.specs.Numbers.{numbersOf}
+use Rattle.row.specs.First.{firstFailing}
 use Rattle.row.specs.Lasso.{nextStep}
 use Rattle.row.specs.declared.MoveAnswer.{MoveAnswer}
 use Rattle.row.specs.declared.MoveAnswer.the-variants.{Open, Elsewhere, Shut}
@@ -37,8 +38,7 @@ openAt lanes class row h l s = isOpen lanes class (getD row s 0) (getD row (next
 
 -- the lowest of n steps from s on that is left by a move that is not open
 unfoldable pub lowestShut : List (List ℕ) → ℕ → List ℕ → ℕ → ℕ → ℕ → ℕ → MoveAnswer
-lowestShut lanes class row h l zero s = Open
-lowestShut lanes class row h l (suc n) s = cond (openAt lanes class row h l s) (lowestShut lanes class row h l n (suc s)) (Shut s)
+lowestShut lanes class row h l n s = firstFailing (openAt lanes class row h l) Shut (λ end. Open) n s
 
 -- "10 first place is not the start .., then 11 no open lane"
 unfoldable pub judgedMoves : List (List ℕ) → ℕ → ℕ → List ℕ → ℕ → ℕ → MoveAnswer
