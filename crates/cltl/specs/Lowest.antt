@@ -7,7 +7,7 @@ use mathlib.Core.Logic.{⊎-elim}
 use lib.Dec.{T}
 use Rattle.grammar.specs.Grammar.{gl, Clause}
 use Rattle.row.specs.First.{firstFailing}
-use Rattle.row.specs.Firsts.{Fault, searched}
+use Rattle.row.specs.Firsts.{FirstAnswer, searched}
 use Rattle.row.specs.Lasso.{stepOf}
 use Rattle.row.specs.Round.{step-low, step-below}
 use Rattle.cltl.specs.Meaning.{Rows, Proper}
@@ -26,7 +26,7 @@ pub found : (f : ℕ → Bool) (n s : ℕ) → (((j : ℕ) → s ≤ j → j < s
 unfolding lowest
 found f n s missing = ⊎-elim (λ w. absurd (missing (λ j p q. subst T (sym (w .0 j p q)) tt))) one (searched f (λ k. k) (λ end. end) n s)
   where
-    one : Fault f (λ k. k) (λ end. end) s (s + n) (firstFailing f (λ k. k) (λ end. end) n s) → Found f s (s + n) (firstFailing f (λ k. k) (λ end. end) n s)
+    one : FirstAnswer f (λ k. k) (λ end. end) s (s + n) (firstFailing f (λ k. k) (λ end. end) n s) → Found f s (s + n) (firstFailing f (λ k. k) (λ end. end) n s)
     one w =
         let k = w .first in
         subst (Found f s (s + n)) (sym (w .is)) (record {

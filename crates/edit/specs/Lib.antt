@@ -5,6 +5,7 @@ pub mod Judgement
 -- promises
 pub mod Promises
 -- laws
+pub mod Refusing
 pub mod RowStored
 pub mod Later
 pub mod MovedReads

@@ -5,6 +5,7 @@ use mathlib.Core.Path.{_≡_, refl, sym, ap, subst, _∙_}
 use mathlib.Core.List.{List, [], _∷_, map}
 use lib.ListN.{length, getD}
 use Rattle.endian.specs.Little.{Bytes}
+use Rattle.refusal.specs.Given.{Given, movingOn}
 use Rattle.refusal.specs.Outcome.{Outcome, Gives, unchanged, written}
 use Rattle.refusal.specs.Held.{written-front, written-length, written-if}
 use Rattle.refusal.specs.declared.Refusal.{Refusal}
@@ -25,6 +26,7 @@ use Rattle.row.specs.Lasso.{stepOf}
 use Rattle.row.specs.Round.{pick, step-low, step-below}
 use Rattle.edit.specs.Moved.{movedRow, movedHead, moved, moveOn}
 use Rattle.edit.specs.Promises.{cartPlaceAt, fileLength, Later, MovedOn}
+use Rattle.edit.specs.Refusing.{moving-given}
 use Rattle.edit.specs.Later.{head-early, head-late, drift-stays, row-length, place-later}
 
 pub length-rows-of : (f : List ℕ → List ℕ) (rows : List (List ℕ)) → length (map f rows) ≡ length rows
@@ -125,4 +127,4 @@ module _ (floor plan : List ℕ) (b : Bytes floor) (s : ℕ) (before : List ℕ)
       written-if AboutPlan (planFile (moved s p)) before v after (writes f p w) (omega arith) ∙ ap Written e
 
   pub promise : MovedOn floor plan s before v after
-  promise = record { outcome = g; later = later; room = room }
+  promise = record { outcome = g; numbers = subst (Given movingOn) (sym (g .answer)) (moving-given floor plan s before); later = later; room = room }

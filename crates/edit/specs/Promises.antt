@@ -4,6 +4,7 @@ use mathlib.Core.Path.{_≡_}
 use mathlib.Core.Bool.{false}
 use mathlib.Core.List.{List, []}
 use lib.ListN.{length, take, getD}
+use Rattle.refusal.specs.Given.{Given, movingOn, replacingRow}
 use Rattle.refusal.specs.Stages.{isAccepted}
 use Rattle.refusal.specs.Outcome.{Gives}
 use Rattle.refusal.specs.declared.Verdict.{Verdict}
@@ -39,6 +40,8 @@ pub record Later (floor plan : List ℕ) (s k : ℕ) (after : List ℕ) : Type 0
 pub record MovedOn (floor plan : List ℕ) (s : ℕ) (before : List ℕ) (v : Verdict) (after : List ℕ) : Type 0 where
   -- the answer and every byte of the buffer, for every floor and plan
   pub outcome : Gives (moveOn floor plan s before) v after
+  -- "floor and plan as for reading; 18"
+  pub numbers : Given movingOn v
   -- the result reads as a plan whose place at counter i is the plan's at counter s + i, for every i
   pub later : (k : ℕ) → v ≡ Written k → Later floor plan s k after
   -- a plan that is read is moved on if there is room
@@ -57,6 +60,8 @@ pub record NewRow (floor before : List ℕ) (c : ℕ) (row after : List ℕ) : T
 pub record RowReplaced (floor before : List ℕ) (c : ℕ) (row : List ℕ) (v : Verdict) (after : List ℕ) : Type 0 where
   -- the answer and every byte of the plan, for every floor, plan, cart and row
   pub outcome : Gives (replaceRow floor before c row) v after
+  -- "floor, plan and its moves; 19 .., 4 .., 9 .., 10, 11"
+  pub numbers : Given replacingRow v
   pub replaces : v ≡ Accepted → NewRow floor before c row after
   -- "Lent buffers are unchanged."
   pub kept : isAccepted v ≡ false → after ≡ before

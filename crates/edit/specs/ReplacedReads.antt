@@ -10,6 +10,7 @@ use lib.Seq.{getD-set-same, getD-set-other}
 use borrow.Author.Tests.{eqb-true, eqb-false, leb-false, lt-leb}
 use Rattle.endian.specs.Little.{Bytes}
 use Rattle.refusal.specs.Codes.{refused}
+use Rattle.refusal.specs.Given.{Given, replacingRow}
 use Rattle.refusal.specs.Stages.{isAccepted}
 use Rattle.refusal.specs.Accepting.{accepted-is, both-accepted, goes-on}
 use Rattle.refusal.specs.Outcome.{Outcome, Gives, unchanged}
@@ -33,6 +34,7 @@ use Rattle.moves.specs.Carts.{cartVerdict, movesVerdict}
 use Rattle.moves.specs.Promises.{AllUnending, CartUnending}
 use Rattle.moves.specs.Unending.{Passes, each-passes, none-refused, cart-accepted, all-accepted, moves-read}
 use Rattle.edit.specs.Replaced.{replaced, placesVerdict, newRowVerdict, cartRowVerdict, replaceVerdict, rowAt, replacedIn, replaceRow}
+use Rattle.edit.specs.Refusing.{replacing-given}
 use Rattle.edit.specs.RowStored.{row-stored, row-inside}
 use Rattle.edit.specs.Promises.{NewRow, RowReplaced}
 
@@ -195,4 +197,10 @@ module _ (floor before : List ℕ) (c : ℕ) (row : List ℕ) (v : Verdict) (aft
             }
 
     pub promise : RowReplaced floor before c row v after
-    promise = record { outcome = g; replaces = new-row; kept = kept; complete = complete }
+    promise = record {
+      outcome = g;
+      numbers = subst (Given replacingRow) (sym (g .answer)) (replacing-given floor before c row);
+      replaces = new-row;
+      kept = kept;
+      complete = complete;
+    }

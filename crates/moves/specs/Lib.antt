@@ -5,4 +5,5 @@ pub mod Promises
 -- laws
 pub mod CartBytes
 pub mod Judged
+pub mod Refusing
 pub mod Unending

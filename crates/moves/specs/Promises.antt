@@ -4,6 +4,7 @@ use mathlib.Core.Path.{_≡_}
 use mathlib.Core.Bool.{false}
 use mathlib.Core.List.{List, []}
 use lib.ListN.{getD}
+use Rattle.refusal.specs.Given.{Given, checkingMoves}
 use Rattle.refusal.specs.Stages.{isAccepted}
 use Rattle.refusal.specs.declared.Verdict.{Verdict}
 use Rattle.refusal.specs.declared.Verdict.the-variants.{Accepted}
@@ -45,6 +46,8 @@ pub record FirstRefused (floor : List ℕ) (f : Floor) (p : PlanNumbers) (v : Ve
 pub record MovesChecked (floor plan : List ℕ) (v : Verdict) : Type 0 where
   -- the answer, for every floor and plan
   pub answer : v ≡ checkedMoves floor plan
+  -- floor's and plan's refusals, "10 .., then 11"
+  pub numbers : Given checkingMoves v
   -- accepted exactly where floor and plan are readable, and every cart begins at its start and makes open moves only, without end
   pub sound : v ≡ Accepted → Moving floor plan
   pub complete : Moving floor plan → v ≡ Accepted

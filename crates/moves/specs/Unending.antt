@@ -7,6 +7,7 @@ use mathlib.Core.List.{List}
 use Rattle.refusal.specs.Stages.{isAccepted}
 use Rattle.refusal.specs.Accepting.{accepted-is}
 use Rattle.refusal.specs.Codes.{codeOf}
+use Rattle.refusal.specs.Given.{Given, checkingMoves}
 use Rattle.refusal.specs.declared.Verdict.{Verdict}
 use Rattle.refusal.specs.declared.Verdict.the-variants.{Accepted}
 use Rattle.floor.specs.declared.Floor.{Floor}
@@ -14,11 +15,12 @@ use Rattle.plan.specs.Plan.{PlanNumbers, accepted, readPlan}
 use Rattle.plan.specs.After.{ReadAs}
 use Rattle.plan.specs.RoundTrip.{valid}
 use Rattle.plan.specs.Read.{ReadingCases, floor-refused, plan-refused, both-read, reading-cases, read-on}
-use Rattle.row.specs.Firsts.{Fault, all-pass, none-fails, first-fault}
+use Rattle.row.specs.Firsts.{FirstAnswer, all-pass, none-fails, first-fault}
 use Rattle.row.specs.Unending.{unending, accepts-all, refused-step}
 use Rattle.row.specs.declared.MoveAnswer.{MoveAnswer}
 use Rattle.row.specs.declared.MoveAnswer.the-variants.{Open, Elsewhere, Shut}
 use Rattle.moves.specs.Carts.{startOf, verdictOf, rowVerdict, rowAccepted, judgedCarts, movesVerdict, checkedMoves}
+use Rattle.moves.specs.Refusing.{moves-given}
 use Rattle.moves.specs.Promises.{CartUnending, AllUnending, Moving, FirstRefused, MovesChecked}
 
 only-open : (c : ℕ) (a : MoveAnswer) → verdictOf c a ≡ Accepted → a ≡ Open
@@ -51,7 +53,7 @@ module _ (floor : List ℕ) (p : PlanNumbers) where
   none-refused n f =
       none-fails (rowAccepted floor p) (rowVerdict floor p) (λ end. Accepted) n 0 (λ c k l. ap isAccepted (f c (omega arith)))
 
-  first-of : (n : ℕ) → isAccepted (carts n) ≡ false → Fault (rowAccepted floor p) (rowVerdict floor p) (λ end. Accepted) 0 (0 + n) (carts n)
+  first-of : (n : ℕ) → isAccepted (carts n) ≡ false → FirstAnswer (rowAccepted floor p) (rowVerdict floor p) (λ end. Accepted) 0 (0 + n) (carts n)
   unfolding judgedCarts
   first-of n e =
       first-fault (rowAccepted floor p) (rowVerdict floor p) (λ end. Accepted) n 0
@@ -120,6 +122,7 @@ first floor plan f p w e =
 pub promise : (floor plan : List ℕ) (v : Verdict) → v ≡ checkedMoves floor plan → MovesChecked floor plan v
 promise floor plan v e = record {
   answer = e;
+  numbers = subst (Given checkingMoves) (sym e) (moves-given floor plan);
   sound = λ a. sound floor plan (sym e ∙ a);
   complete = λ m. e ∙ complete floor plan m;
   first = λ f p w a. subst (FirstRefused floor f p) (sym e) (first floor plan f p w (ap isAccepted (sym e) ∙ a));

@@ -35,23 +35,24 @@ module _ {A : Type 0} (ok : ℕ → Bool) (fault done : ℕ → A) where
   passed-all top i e = ap (λ (n : ℕ). search-from n i) e
 
   ---- The answer.
-  -- of the first that fails
-  pub record Fault (s top : ℕ) (a : A) : Type 0 where
+  -- it is that of the first that fails
+  pub record FirstAnswer (s top : ℕ) (a : A) : Type 0 where
     pub at : ℕ
     pub first : FailsFirst ok s top at
     pub is : a ≡ fault at
 
-  -- all pass, or one is the first that fails
-  pub searched : (n s : ℕ) → (AllPass ok s (s + n) × (search-from n s ≡ done (s + n))) ⊎ Fault s (s + n) (search-from n s)
+  -- or all pass
+  abbrev pub Searched : ℕ → ℕ → A → Type 0
+  Searched s top a = (AllPass ok s top × (a ≡ done top)) ⊎ FirstAnswer s top a
+
+  pub searched : (n s : ℕ) → Searched s (s + n) (search-from n s)
   searched zero s = let z : s ≡ s + 0 = omega arith in inl ((λ k p q. absurd (omega arith)), ap done z)
   searched (suc n) s = go (ok s) refl (searched n (suc s))
     where
       top : suc s + n ≡ s + suc n
       top = omega arith
 
-      go : (b : Bool) → ok s ≡ b → (AllPass ok (suc s) (suc s + n) × (search-from n (suc s) ≡ done (suc s + n))) ⊎ Fault (suc s) (suc s + n) (search-from n (suc s))
-          → (AllPass ok s (s + suc n) × (cond b (search-from n (suc s)) (fault s) ≡ done (s + suc n)))
-          ⊎ Fault s (s + suc n) (cond b (search-from n (suc s)) (fault s))
+      go : (b : Bool) → ok s ≡ b → Searched (suc s) (suc s + n) (search-from n (suc s)) → Searched s (s + suc n) (cond b (search-from n (suc s)) (fault s))
       go false e w = inr (record {
         at = s;
         first = record { from = omega arith; below = omega arith; fails = e; before = λ j p q. absurd (omega arith) };
@@ -79,12 +80,16 @@ module _ {A : Type 0} (ok : ℕ → Bool) (fault done : ℕ → A) where
     pub none-fails : AllPass ok s (s + n) → search-from n s ≡ done (s + n)
     none-fails all = ⊎-elim (λ w. w .1) clash (searched n s)
       where
-        clash : Fault s (s + n) (search-from n s) → search-from n s ≡ done (s + n)
+        clash : FirstAnswer s (s + n) (search-from n s) → search-from n s ≡ done (s + n)
         clash w =
             let z : true ≡ false = sym (all (w .at) (w .first .from) (w .first .below)) ∙ w .first .fails in
             let y : _≡_ {A = ℕ} 0 1 = cc in
             absurd (omega arith)
 
-    -- any other answer is of the first that fails
-    pub first-fault : (search-from n s ≡ done (s + n) → ⊥) → Fault s (s + n) (search-from n s)
+    -- any other answer is that of the first that fails
+    pub first-fault : (search-from n s ≡ done (s + n) → ⊥) → FirstAnswer s (s + n) (search-from n s)
     first-fault other = ⊎-elim (λ w. absurd (other (w .1))) (λ w. w) (searched n s)
+
+    -- what holds of every answer holds of it
+    pub each-answer : (P : A → Type 0) → ((k : ℕ) → P (fault k)) → ((k : ℕ) → P (done k)) → P (search-from n s)
+    each-answer P faults dones = ⊎-elim (λ w. subst P (sym (w .1)) (dones (s + n))) (λ w. subst P (sym (w .is)) (faults (w .at))) (searched n s)

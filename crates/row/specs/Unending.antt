@@ -24,7 +24,8 @@ module _ (lanes : List (List ℕ)) (class : ℕ) (row : List ℕ) (h l : ℕ) wh
   all-open : whole ≡ Open → (k : ℕ) → k < h → openAt lanes class row h l k ≡ true
   unfolding lowestShut
   all-open e k q =
-      all-pass (openAt lanes class row h l) Shut (λ end. Open) h 0 (λ k f u. let z : _≡_ {A = ℕ} 0 1 = cc in absurd (omega arith)) e k (omega arith) (omega arith)
+      all-pass (openAt lanes class row h l) Shut (λ end. Open) h 0 (λ k f u. let z : _≡_ {A = ℕ} 0 1 = cc in absurd (omega arith)) e k
+      (omega arith) (omega arith)
 
   none-shut : ((k : ℕ) → k < h → openAt lanes class row h l k ≡ true) → whole ≡ Open
   unfolding lowestShut
