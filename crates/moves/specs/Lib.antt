@@ -7,3 +7,5 @@ pub mod CartBytes
 pub mod Judged
 pub mod Refusing
 pub mod Unending
+-- worked cases
+pub mod Examples
