@@ -12,11 +12,12 @@ use Rattle.refusal.specs.declared.Verdict.{Verdict}
 use Rattle.record.specs.Buffer.{stored}
 use Rattle.floor.specs.declared.Floor.{Floor}
 use Rattle.plan.specs.Plan.{PlanNumbers, heldNumbers, readBoth}
+use Rattle.plan.specs.Numbers.{rowAt}
 use Rattle.plan.specs.Promises.{AcceptedPlan}
 use Rattle.plan.specs.Read.{after-accepted, after-refused, held-head, held-numbers}
 use Rattle.plan.specs.declared.Head.{Head}
 use Rattle.plan.specs.declared.PlanRead.{PlanRead}
-use Rattle.edit.specs.Replaced.{replaceVerdict, rowAt, replacedIn, replaceRow}
+use Rattle.edit.specs.Replaced.{replaceVerdict, replacedIn, replaceRow}
 use Rattle.edit.specs.ReplacedReads.{replaces, stored-inside}
 use Rattle.edit.specs.Judgement.{ReplacementJudged}
 

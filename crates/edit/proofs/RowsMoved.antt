@@ -4,7 +4,7 @@ use native.Mathlib.Nat.{mod-lt, suc-mul, mul-le-mul}
 use native.Mathlib.Omega.{arith}
 use mathlib.Core.Path.{_≡_, refl, sym, ap, ap₂, subst, _∙_}
 use mathlib.Core.List.{List, [], _∷_, _++_, map, flatten, append-nil, append-assoc}
-use lib.ListN.{length, take, drop, replicate, length-append, length-drop}
+use lib.ListN.{length, take, drop, replicate, length-append, length-drop, length-map}
 use lib.Seq.{take-all, take-at, length-take-le}
 use Rattle.record.specs.Buffer.{stored}
 use Rattle.record.specs.Stored.{stored-front, stored-more, length-stored, stored-nothing}
@@ -17,7 +17,7 @@ use Rattle.plan.specs.Read.{row-in, length-rows-in, rows-in-more, blockPart, pa
 use Rattle.plan.specs.declared.Head.{Head}
 use Rattle.edit.specs.Moved.{turned, movedRow, movedHead, moved}
 use Rattle.edit.specs.Later.{row-early, row-late, row-length}
-use Rattle.edit.specs.MovedReads.{head-moved, length-rows-of, row-of}
+use Rattle.edit.specs.MovedReads.{head-moved, row-of}
 
 -- what is left of a list from i on
 pub rest : (l : List ℕ) (i : ℕ) → take (length l - i) (drop i l) ≡ drop i l
@@ -121,7 +121,7 @@ module _ (h : Head) (s : ℕ) (block : List ℕ) where
     sizes : AllOf (movedHead s h .steps) (map (movedRow (h .steps) (h .stem) s) (blockRows carts (h .steps) block))
     sizes =
         let n : length (map (movedRow (h .steps) (h .stem) s) (blockRows carts (h .steps) block)) ≡ carts =
-        length-rows-of (movedRow (h .steps) (h .stem) s) (blockRows carts (h .steps) block) ∙ length-rows-in carts (h .steps) block in
+        length-map (blockRows carts (h .steps) block) (movedRow (h .steps) (h .stem) s) ∙ length-rows-in carts (h .steps) block in
         all-of (λ (x : List ℕ). length x ≡ movedHead s h .steps) [] (map (movedRow (h .steps) (h .stem) s) (blockRows carts (h .steps) block))
         (λ c l.
         let m = length-rows-in carts (h .steps) block in
@@ -133,7 +133,7 @@ module _ (h : Head) (s : ℕ) (block : List ℕ) where
     pub file-fits : length (planFile (moved s (heldNumbers carts h block))) ≤ 65536
     file-fits =
         file-short (moved s (heldNumbers carts h block)) (head-moved s h r) sizes
-        (omega (arith, length-rows-of (movedRow (h .steps) (h .stem) s) (blockRows carts (h .steps) block), length-rows-in carts (h .steps) block))
+        (omega (arith, length-map (blockRows carts (h .steps) block) (movedRow (h .steps) (h .stem) s), length-rows-in carts (h .steps) block))
 
     pub rows-fit : (m : Head) → m ≡ movedHead s h → carts * m .steps ≤ 2048
     rows-fit m e =

@@ -3,7 +3,7 @@ use Prim.Native.Nat.{ℕ, zero, suc, _+_, _*_, _≤_, _<_}
 use native.Mathlib.Omega.{arith}
 use mathlib.Core.Path.{_≡_, refl, sym, ap, subst, _∙_}
 use mathlib.Core.List.{List, [], _∷_, map}
-use lib.ListN.{length, getD}
+use lib.ListN.{length, getD, length-map}
 use Rattle.endian.specs.Little.{Bytes}
 use Rattle.refusal.specs.Given.{Given, movingOn}
 use Rattle.refusal.specs.Outcome.{Outcome, Gives, unchanged, written}
@@ -11,13 +11,13 @@ use Rattle.refusal.specs.Held.{written-front, written-length, written-if}
 use Rattle.refusal.specs.declared.Refusal.{Refusal}
 use Rattle.refusal.specs.declared.Verdict.{Verdict}
 use Rattle.refusal.specs.declared.Verdict.the-variants.{Written, Plan as AboutPlan}
-use Rattle.record.specs.All.{AllOf, all-of}
 use Rattle.floor.specs.Located.{accepts}
 use Rattle.floor.specs.declared.Floor.{Floor}
 use Rattle.plan.specs.Plan.{PlanNumbers, accepted, readPlan}
 use Rattle.plan.specs.Numbers.{headOf, planFile}
 use Rattle.plan.specs.After.{ReadAs}
 use Rattle.plan.specs.Valid.{InRange, ValidPlan}
+use Rattle.plan.specs.Passed.{row-sizes}
 use Rattle.plan.specs.RoundTrip.{valid}
 use Rattle.plan.specs.Complete.{file-reads, file-length}
 use Rattle.plan.specs.Read.{ReadingCases, floor-refused, plan-refused, both-read, reading-cases, read-on}
@@ -28,10 +28,6 @@ use Rattle.edit.specs.Moved.{movedRow, movedHead, moved, moveOn}
 use Rattle.edit.specs.Promises.{cartPlaceAt, fileLength, Later, MovedOn}
 use Rattle.edit.specs.Refusing.{moving-given}
 use Rattle.edit.specs.Later.{head-early, head-late, drift-stays, row-length, place-later}
-
-pub length-rows-of : (f : List ℕ → List ℕ) (rows : List (List ℕ)) → length (map f rows) ≡ length rows
-length-rows-of f [] = refl
-length-rows-of f (row ∷ rows) = ap suc (length-rows-of f rows)
 
 pub row-of : (f : List ℕ → List ℕ) (rows : List (List ℕ)) (c : ℕ) → c < length rows → getD (map f rows) c [] ≡ f (getD rows c [])
 row-of f [] c l = absurd (omega arith)
@@ -65,7 +61,7 @@ module _ (f : Floor) (p : PlanNumbers) (v : ValidPlan p f) (s : ℕ) where
   pub valid-moved : ValidPlan (moved s p) f
   valid-moved = record {
     head = head-moved s h (v .head);
-    carts = length-rows-of (movedRow (h .steps) (h .stem) s) (p .rows) ∙ v .carts;
+    carts = length-map (p .rows) (movedRow (h .steps) (h .stem) s) ∙ v .carts;
     steps = λ c l. ap length (row-is c l) ∙ row-length s h (v .head .stem) (row c) (v .steps c l);
     places = λ c j l m.
         let e : stepOf (movedHead s h .steps) (movedHead s h .stem) j ≡ j = step-low (movedHead s h .steps) (movedHead s h .stem) j m in
@@ -82,9 +78,7 @@ module _ (f : Floor) (p : PlanNumbers) (v : ValidPlan p f) (s : ℕ) where
   length-moved =
       let v = valid-moved in
       let k = moved s p .head .steps in
-      let rows = moved s p .rows in
-      let sizes : AllOf k rows = all-of (λ (x : List ℕ). length x ≡ k) [] rows (λ i l. v .steps i (omega (arith, v .carts))) in
-      file-length (moved s p) (v .head .some) sizes ∙ ap (λ (n : ℕ). 10 + n * (4 + k)) (v .carts)
+      file-length (moved s p) (v .head .some) (row-sizes (moved s p) f v) ∙ ap (λ (n : ℕ). 10 + n * (4 + k)) (v .carts)
 
 module _ (floor plan : List ℕ) (b : Bytes floor) (s : ℕ) (before : List ℕ) (v : Verdict) (after : List ℕ) (g : Gives (moveOn floor plan s before) v after) where
   refuse : Verdict → Outcome

@@ -12,7 +12,7 @@ use Rattle.refusal.specs.declared.Verdict.the-variants.{Accepted, Written}
 use Rattle.floor.specs.declared.Floor.{Floor}
 use Rattle.plan.specs.Plan.{PlanNumbers, accepted, readPlan}
 use Rattle.plan.specs.After.{ReadAs}
-use Rattle.plan.specs.Passed.{RowFits}
+use Rattle.plan.specs.Valid.{RowFits}
 use Rattle.row.specs.Meaning.{placeAtCounter}
 use Rattle.moves.specs.Carts.{checkedMoves}
 use Rattle.moves.specs.Promises.{AllUnending, CartUnending}

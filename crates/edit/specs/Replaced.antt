@@ -1,5 +1,5 @@
 -- "Replacing a row".
-use Prim.Native.Nat.{ℕ, _+_, _*_}
+use Prim.Native.Nat.{ℕ}
 use mathlib.Core.Bool.{cond}
 use mathlib.Core.List.{List}
 use lib.Dec.{leb}
@@ -12,6 +12,7 @@ use Rattle.refusal.specs.declared.Verdict.the-variants.{Accepted, Plan as About
 use Rattle.record.specs.Buffer.{stored}
 use Rattle.floor.specs.declared.Floor.{Floor}
 use Rattle.plan.specs.Plan.{PlanNumbers, judgedRow}
+use Rattle.plan.specs.Numbers.{rowAt}
 use Rattle.plan.specs.After.{afterReading}
 use Rattle.plan.specs.declared.Head.{Head}
 use Rattle.plan.specs.declared.RowAnswer.{RowAnswer}
@@ -39,10 +40,6 @@ cartRowVerdict floor f p c row = cond (leb (f .carts) c) (AboutPlan (refused 19 
 -- the moves of all carts, then the new row
 abbrev pub replaceVerdict : List ℕ → Floor → PlanNumbers → ℕ → List ℕ → Verdict
 replaceVerdict floor f p c row = andThen (movesVerdict floor f p) (cartRowVerdict floor f p c row)
-
--- where cart c's row of so many steps lies in a plan's file: behind the head's ten bytes, the rows before it, and its own length and kind
-abbrev pub rowAt : ℕ → ℕ → ℕ
-rowAt steps c = 10 + c * (4 + steps) + 4
 
 -- "Otherwise only that row's bytes change."
 abbrev pub replacedIn : List ℕ → ℕ → ℕ → List ℕ → Verdict → Outcome

@@ -16,14 +16,13 @@ use Rattle.refusal.specs.Accepting.{accepted-is, both-accepted, goes-on}
 use Rattle.refusal.specs.Outcome.{Outcome, Gives, unchanged}
 use Rattle.refusal.specs.declared.Verdict.{Verdict}
 use Rattle.refusal.specs.declared.Verdict.the-variants.{Accepted, Plan as AboutPlan}
-use Rattle.record.specs.All.{AllOf, all-of}
 use Rattle.record.specs.Buffer.{stored}
 use Rattle.floor.specs.Located.{accepts}
 use Rattle.floor.specs.declared.Floor.{Floor}
 use Rattle.plan.specs.Plan.{PlanNumbers, accepted, readPlan, judgedRow}
-use Rattle.plan.specs.Numbers.{planFile}
-use Rattle.plan.specs.Valid.{ValidPlan}
-use Rattle.plan.specs.Passed.{RowFits, row-fits}
+use Rattle.plan.specs.Numbers.{planFile, rowAt}
+use Rattle.plan.specs.Valid.{RowFits, ValidPlan}
+use Rattle.plan.specs.Passed.{row-fits, row-sizes}
 use Rattle.plan.specs.RoundTrip.{valid, bytes-back}
 use Rattle.plan.specs.After.{ReadAs}
 use Rattle.plan.specs.Complete.{file-reads, row-accepted}
@@ -33,7 +32,7 @@ use Rattle.plan.specs.declared.RowAnswer.the-variants.{Fits, WrongLength, Absen
 use Rattle.moves.specs.Carts.{cartVerdict, movesVerdict}
 use Rattle.moves.specs.Promises.{AllUnending, CartUnending}
 use Rattle.moves.specs.Unending.{Passes, each-passes, none-refused, cart-accepted, all-accepted, moves-read}
-use Rattle.edit.specs.Replaced.{replaced, placesVerdict, newRowVerdict, cartRowVerdict, replaceVerdict, rowAt, replacedIn, replaceRow}
+use Rattle.edit.specs.Replaced.{replaced, placesVerdict, newRowVerdict, cartRowVerdict, replaceVerdict, replacedIn, replaceRow}
 use Rattle.edit.specs.Refusing.{replacing-given}
 use Rattle.edit.specs.RowStored.{row-stored, row-inside}
 use Rattle.edit.specs.Promises.{NewRow, RowReplaced}
@@ -109,14 +108,11 @@ module _ (floor : List ℕ) (f : Floor) (p : PlanNumbers) (c : ℕ) (row : List 
                 ap (λ (x : List ℕ). cartVerdict floor k x (p .head .steps) (p .head .stem)) (getD-set-other (p .rows) c k row [] (eqb-false k c q)) ∙ old
 
     -- its file
-    sizes : AllOf (p .head .steps) (p .rows)
-    sizes = all-of (λ (x : List ℕ). length x ≡ p .head .steps) [] (p .rows) (λ i l. v .steps i (omega (arith, v .carts)))
-
     pub stored-replaced : stored (planFile p) (rowAt (p .head .steps) c) row ≡ planFile (replaced c row p)
-    stored-replaced = row-stored p (v .head .some) sizes c row (omega (arith, w .cart, v .carts)) (w .fits .size)
+    stored-replaced = row-stored p (v .head .some) (row-sizes p f v) c row (omega (arith, w .cart, v .carts)) (w .fits .size)
 
     pub stored-inside : rowAt (p .head .steps) c + length row ≤ length (planFile p)
-    stored-inside = row-inside p (v .head .some) sizes c row (omega (arith, w .cart, v .carts)) (w .fits .size)
+    stored-inside = row-inside p (v .head .some) (row-sizes p f v) c row (omega (arith, w .cart, v .carts)) (w .fits .size)
 
     pub reads-replaced : f .carts ≤ 32 → readPlan f (planFile (replaced c row p)) ≡ accepted (replaced c row p)
     reads-replaced few = file-reads f (replaced c row p) few valid-replaced

@@ -16,9 +16,9 @@ use Rattle.record.specs.All.{AllOf}
 use Rattle.record.specs.RoundTrip.{length-encoded}
 use Rattle.record.specs.Laid.{parts-flatten}
 use Rattle.plan.specs.Plan.{PlanNumbers}
-use Rattle.plan.specs.Numbers.{headBytes, planFile}
+use Rattle.plan.specs.Numbers.{headBytes, planFile, rowAt}
 use Rattle.plan.specs.RoundTrip.{length-head}
-use Rattle.edit.specs.Replaced.{replaced, rowAt}
+use Rattle.edit.specs.Replaced.{replaced}
 
 -- a record's body exchanged for one of the same length
 body-stored : (k : ℕ) (body row t : List ℕ) → length row ≡ length body

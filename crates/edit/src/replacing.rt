@@ -94,7 +94,7 @@ fn judge(floor: &[u8], plan: &[u8], cart: u32, row: &[u8]) -> Replacement
     let verdict = judge_moves_and_row(floor, r.floor, h, &block, cart, row);
     Replacement {
         verdict,
-        at: 10 + cart as usize * (4 + h.steps) + 4,
+        at: plan::row_at(h.steps, cart),
     }
 }
 

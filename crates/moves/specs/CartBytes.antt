@@ -12,15 +12,14 @@ use Rattle.row.specs.FloorBytes.{cart-byte}
 use Rattle.moves.specs.Carts.{classOf, startOf}
 
 module _ (s : List ℕ) (f : Floor) (w : AcceptedFloor s f) (c : ℕ) (l : c < f .carts) where
-  pub class-at : (at : ℕ) → at ≡ f .places * 8 + f .lanes * 7 + c * 6 + 4 → classOf s c ≡ getD s at 0
+  -- behind the length and kind of its record
+  pub class-at : (at : ℕ) → at ≡ cartAt f c → classOf s c ≡ getD s (at + 4) 0
   class-at at e =
-      let q : cartAt f c + 4 + 0 ≡ at = omega arith in
+      let q : cartAt f c + 4 + 0 ≡ at + 4 = omega arith in
       cart-byte s f w c 0 l (omega arith) ∙ ap (λ (n : ℕ). getD s n 0) q
 
-  pub start-at : (at : ℕ) → at ≡ f .places * 8 + f .lanes * 7 + c * 6 + 4 → startOf s c ≡ getD s (at + 1) 0
-  start-at at e =
-      let q : cartAt f c + 4 + 1 ≡ at + 1 = omega arith in
-      cart-byte s f w c 1 l (omega arith) ∙ ap (λ (n : ℕ). getD s n 0) q
+  pub start-at : (at : ℕ) → at ≡ cartAt f c → startOf s c ≡ getD s (at + 4 + 1) 0
+  start-at at e = cart-byte s f w c 1 l (omega arith) ∙ ap (λ (n : ℕ). getD s (n + 4 + 1) 0) (sym e)
 
   pub class-low : classOf s c < 8
   class-low =

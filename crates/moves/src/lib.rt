@@ -41,7 +41,7 @@ pub fn judge_cart_row<'a>(
     requires { ⌜ (c < f .carts) × (stem < length (now row)) × (length (now row) ≤ 64) ⌝ }
     ensures { λ r. ⌜ r ≡ cartVerdict (now (s .entry)) c (now (row .entry)) (length (now (row .entry))) stem ⌝ }
 {
-    let at = f.places * 8 + f.lanes * 7 + c * 6 + 4;
+    let at = floor::cart_at(f, c) + 4;
     let answer = row::judge_moves(s, f, first, next, s[at], s[at + 1], row, stem);
     verdict_of(c, answer)
 }

@@ -1,5 +1,5 @@
 -- Lanes followed along the links of a place: what holds before each turn.
-use Prim.Native.Nat.{ℕ, zero, suc, _+_, _-_, _*_, _≤_, _<_}
+use Prim.Native.Nat.{ℕ, zero, suc, _+_, _-_, _≤_, _<_}
 use native.Mathlib.Omega.{arith}
 use mathlib.Core.Path.{_≡_, sym, ap, ap₂, subst, _∙_}
 use mathlib.Core.Bool.{Bool, true, false, _&&_, _||_}
@@ -42,35 +42,34 @@ module _ (s next : List ℕ) (f : Floor) (w : AcceptedFloor s f) (c a b k : ℕ)
     pub lane-below : k - 1 < f .lanes
     lane-below = omega (arith, it .is, it .there, lane-count s f w)
 
-    -- whether the link's lane opens the move, by its other two bytes
-    abbrev pub judged : Bool
-    judged = eqb (getD s (f .places * 8 + (k - 1) * 7 + 4 + 1) 0) b && bit c (getD s (f .places * 8 + (k - 1) * 7 + 4 + 2) 0)
+    -- whether the link's lane opens the move, by its other two bytes; at is where its record lies
+    abbrev pub judged : ℕ → Bool
+    judged at = eqb (getD s (at + 4 + 1) 0) b && bit c (getD s (at + 4 + 2) 0)
 
-    by-bytes : opens (getD (lanesIn s) (it .lane) []) c a b ≡ judged
-    by-bytes =
+    by-bytes : (at : ℕ) → at ≡ laneAt f (k - 1) → opens (getD (lanesIn s) (it .lane) []) c a b ≡ judged at
+    by-bytes at here =
         let l : it .lane < f .lanes = omega (arith, it .there, lane-count s f w) in
-        let e = lane-is in
-        let one : laneAt f (it .lane) + 4 + 1 ≡ f .places * 8 + (k - 1) * 7 + 4 + 1 = omega arith in
-        let two : laneAt f (it .lane) + 4 + 2 ≡ f .places * 8 + (k - 1) * 7 + 4 + 2 = omega arith in
-        let p = lane-byte s f w (it .lane) 1 l (omega arith) ∙ ap (λ (n : ℕ). getD s n 0) one in
-        let q = lane-byte s f w (it .lane) 2 l (omega arith) ∙ ap (λ (n : ℕ). getD s n 0) two in
+        let z : laneAt f (it .lane) ≡ at = omega (arith, lane-is) in
+        let p = lane-byte s f w (it .lane) 1 l (omega arith) ∙ ap (λ (n : ℕ). getD s (n + 4 + 1) 0) z in
+        let q = lane-byte s f w (it .lane) 2 l (omega arith) ∙ ap (λ (n : ℕ). getD s (n + 4 + 2) 0) z in
         ap (λ (t : Bool). t && (eqb (getD (getD (lanesIn s) (it .lane) []) 1 0) b && bit c (getD (getD (lanesIn s) (it .lane) []) 2 0)))
         (eq-eqb _ _ (it .leaves-it))
         ∙ ap₂ (λ (x y : ℕ). eqb x b && bit c y) p q
 
-    decided : (t answer : Bool) → t ≡ judged → t ≡ answer → isOpen (lanesIn s) c a b ≡ answer || isOpen (drop (suc (it .lane)) (lanesIn s)) c a b
-    decided t answer e z = g .same ∙ it .same c b ∙ ap (λ (x : Bool). x || isOpen (drop (suc (it .lane)) (lanesIn s)) c a b) (by-bytes ∙ sym e ∙ z)
+    module _ (at : ℕ) (here : at ≡ laneAt f (k - 1)) (t : Bool) (e : t ≡ judged at) where
+      decided : (answer : Bool) → t ≡ answer → isOpen (lanesIn s) c a b ≡ answer || isOpen (drop (suc (it .lane)) (lanesIn s)) c a b
+      decided answer z = g .same ∙ it .same c b ∙ ap (λ (x : Bool). x || isOpen (drop (suc (it .lane)) (lanesIn s)) c a b) (by-bytes at here ∙ sym e ∙ z)
 
-    pub found : (t : Bool) → t ≡ judged → t ≡ true → true ≡ isOpen (lanesIn s) c a b
-    found t e z = sym (decided t true e z)
+      pub found : t ≡ true → true ≡ isOpen (lanesIn s) c a b
+      found z = sym (decided true z)
 
-    pub again : (t : Bool) → t ≡ judged → t ≡ false → (n : ℕ) → n ≡ getD next (k - 1) 0 → Following s next c a b n
-    again t e z n q = record {
-      from = suc (it .lane);
-      within = omega (arith, it .there);
-      leads = subst (λ (x : ℕ). Leads (lanesIn s) next a x (suc (it .lane))) (ap (λ (i : ℕ). getD next i 0) lane-is ∙ sym q) (it .rest);
-      same = decided t false e z;
-    }
+      pub again : t ≡ false → (n : ℕ) → n ≡ getD next (k - 1) 0 → Following s next c a b n
+      again z n q = record {
+        from = suc (it .lane);
+        within = omega (arith, it .there);
+        leads = subst (λ (x : ℕ). Leads (lanesIn s) next a x (suc (it .lane))) (ap (λ (i : ℕ). getD next i 0) lane-is ∙ sym q) (it .rest);
+        same = decided false z;
+      }
 
     lane-low : it .lane < 1024
     lane-low = omega (arith, it .there, lane-count s f w, w .valid .few-lanes)

@@ -1,5 +1,5 @@
 -- Lanes linked from the last to the first: what holds before each turn.
-use Prim.Native.Nat.{ℕ, suc, _+_, _-_, _*_, _≤_, _<_}
+use Prim.Native.Nat.{ℕ, suc, _+_, _-_, _≤_, _<_}
 use native.Mathlib.Omega.{arith}
 use mathlib.Core.Path.{_≡_, sym, ap, subst, _∙_}
 use mathlib.Core.List.{List}
@@ -13,33 +13,28 @@ use Rattle.row.specs.Linked.{chained-more}
 use Rattle.row.specs.FloorBytes.{lane-count, lane-byte}
 
 -- the lanes from j on are linked
-pub record Linking (s : List ℕ) (start : ℕ) (first next : List ℕ) (j : ℕ) : Type 0 where
-  pub floor : Floor
-  pub accepts : AcceptedFloor s floor
-  pub begins : start ≡ floor .places * 8
-  pub left : j ≤ floor .lanes
+pub record Linking (s : List ℕ) (f : Floor) (first next : List ℕ) (j : ℕ) : Type 0 where
+  pub accepts : AcceptedFloor s f
+  pub left : j ≤ f .lanes
   pub wide-first : length first ≡ 256
   pub wide-next : length next ≡ 1024
   pub chained : Chained (lanesIn s) first next j
 
-pub again : (s : List ℕ) (start : ℕ) (first next : List ℕ) (j from : ℕ) → Linking s start first next j → 0 < j
-    → from ≡ getD s (start + (j - 1) * 7 + 4) 0 → from < 256
-    → Linking s start (set first from (j - 1 + 1)) (set next (j - 1) (getD first from 0)) (j - 1)
-again s start first next j from w some e below =
-    let f = w .floor in
+pub again : (s : List ℕ) (f : Floor) (first next : List ℕ) (j at from : ℕ) → Linking s f first next j → 0 < j
+    → at ≡ laneAt f (j - 1) → from ≡ getD s (at + 4) 0 → from < 256
+    → Linking s f (set first from (j - 1 + 1)) (set next (j - 1) (getD first from 0)) (j - 1)
+again s f first next j at from w some is e below =
     let k = j - 1 in
     let one : j ≡ suc k = omega arith in
     let room : k < f .lanes = omega (arith, w .left) in
-    let at : laneAt f k + 4 + 0 ≡ start + k * 7 + 4 = omega (arith, w .begins) in
-    let here : leaves (lanesIn s) k ≡ from = lane-byte s f (w .accepts) k 0 room (omega arith) ∙ ap (λ (n : ℕ). getD s n 0) at ∙ sym e in
+    let same : laneAt f k + 4 + 0 ≡ at + 4 = omega arith in
+    let here : leaves (lanesIn s) k ≡ from = lane-byte s f (w .accepts) k 0 room (omega arith) ∙ ap (λ (n : ℕ). getD s n 0) same ∙ sym e in
     let more : Chained (lanesIn s) (set first from (suc k)) (set next k (getD first from 0)) k =
     chained-more (lanesIn s) first next k from (subst (Chained (lanesIn s) first next) one (w .chained)) (omega (arith, lane-count s f (w .accepts)))
     here (omega (arith, w .wide-first)) (omega (arith, w .wide-next, w .accepts .valid .few-lanes)) in
     let last : suc k ≡ k + 1 = omega arith in
     record {
-      floor = f;
       accepts = w .accepts;
-      begins = w .begins;
       left = omega (arith, w .left);
       wide-first = length-set first from (k + 1) ∙ w .wide-first;
       wide-next = length-set next k (getD first from 0) ∙ w .wide-next;

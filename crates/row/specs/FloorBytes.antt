@@ -1,5 +1,5 @@
 -- The lanes and carts of an accepted floor, byte by byte.
-use Prim.Native.Nat.{ℕ, _+_, _*_, _<_}
+use Prim.Native.Nat.{ℕ, _+_, _*_, _≤_, _<_}
 use native.Mathlib.Omega.{arith}
 use mathlib.Core.Path.{_≡_, sym, ap, _∙_}
 use mathlib.Core.List.{List, []}
@@ -14,7 +14,8 @@ use Rattle.floor.specs.declared.Floor.{Floor}
 use Rattle.row.specs.Moves.{lanesIn, cartsIn}
 
 module _ (s : List ℕ) (f : Floor) (w : AcceptedFloor s f) where
-  pub file-length : length s ≡ 8 * f .places + (7 * f .lanes + 6 * f .carts)
+  -- the file is at least as long as its places, lanes and carts
+  pub file-length : 8 * f .places + (7 * f .lanes + 6 * f .carts) ≤ length s
   file-length =
       let v = w .valid in
       let a = ap length (w .writes-back) in

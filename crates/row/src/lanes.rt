@@ -14,7 +14,6 @@ pub fn linked(s: &[u8], f: Floor) -> Links
     requires { ⌜ AcceptedFloor (now s) f ⌝ }
     ensures { λ r. ⌜ Chained (lanesIn (now (s .entry))) (r .first) (r .next) 0 ⌝ }
 {
-    let start = f.places * 8;
     let mut links = Links {
         first: [0u16; 256],
         next: [0u16; 1024],
@@ -22,7 +21,8 @@ pub fn linked(s: &[u8], f: Floor) -> Links
     let mut j = f.lanes;
     while 0 < j {
         j -= 1;
-        let from = endian::wide(s[start + j * 7 + 4]);
+        let at = floor::lane_at(f, j);
+        let from = endian::wide(s[at + 4]);
         links.next[j] = links.first[from];
         links.first[from] = (j + 1) as u16;
     }
@@ -55,10 +55,9 @@ pub(crate) fn is_open<'a>(
     requires { ⌜ class < 8 ⌝ }
     ensures { λ r. ⌜ r ≡ isOpen (lanesIn (now (s .entry))) class from to ⌝ }
 {
-    let start = f.places * 8;
     let mut k = endian::wide16(first[endian::wide(from)]);
     while k != 0 {
-        let at = start + (k - 1) * 7 + 4;
+        let at = floor::lane_at(f, k - 1) + 4;
         if opens_to(s[at + 1], s[at + 2], class, to) {
             return true;
         }

@@ -1,6 +1,6 @@
-use Prim.Native.Nat.{ℕ, _<_, _+_, _*_}
+use Prim.Native.Nat.{ℕ, _<_, _+_}
 use native.Mathlib.Omega.{arith}
-use mathlib.Core.Path.{refl, sym, ap, ap₂, subst, _∙_}
+use mathlib.Core.Path.{sym, ap, ap₂, subst, _∙_}
 use lib.ListN.{length}
 use borrow.Author.Needs.{needs}
 use Rattle.row.specs.Unending.{refused-step}
@@ -11,46 +11,43 @@ use Rattle.moves.specs.Carts.{verdictOf}
 use Rattle.moves.proofs.judge_cart_row.Statement.{statement}
 use Rattle.moves.proofs.judge_cart_row.Tie as tie
 
-mul-at : tie.Need-mul-at
-mul-at c = search needs
-
-mul-at-2 : tie.Need-mul-at-2
-mul-at-2 c = search needs
+cart-at-requires : tie.Need-cart-at-requires
+cart-at-requires c κs =
+    let p = c .before .before .pre in
+    let v = p .0 .valid in
+    omega (arith, p .1 .1 .0, v .few-places, v .few-lanes, v .few-carts)
 
 add-at : tie.Need-add-at
-add-at c = search needs
-
-mul-at-3 : tie.Need-mul-at-3
-mul-at-3 c = search needs
-
-add-at-2 : tie.Need-add-at-2
-add-at-2 c = search needs
-
-add-at-3 : tie.Need-add-at-3
-add-at-3 c = search needs
+add-at c =
+    let p = c .before .before .before .pre in
+    let v = p .0 .valid in
+    omega (arith, c .cart-at .ensures, p .1 .1 .0, v .few-places, v .few-lanes, v .few-carts)
 
 shared-slice-read-judge-moves : tie.Need-shared-slice-read-judge-moves
 shared-slice-read-judge-moves c =
-    let p = c .before .before .before .before .before .pre in
-    omega (arith, file-length _ (c .before .before .before .before .before .args .f) (p .0), p .1 .1 .0)
+    let p = c .before .before .before .before .pre in
+    omega (arith, c .before .cart-at .ensures, file-length _ _ (p .0), p .1 .1 .0)
 
 add-judge-moves : tie.Need-add-judge-moves
-add-judge-moves c = search needs
+add-judge-moves c =
+    let p = c .before .before .before .before .pre in
+    let v = p .0 .valid in
+    omega (arith, c .before .cart-at .ensures, p .1 .1 .0, v .few-places, v .few-lanes, v .few-carts)
 
 shared-slice-read-judge-moves-2 : tie.Need-shared-slice-read-judge-moves-2
 shared-slice-read-judge-moves-2 c =
-    let p = c .before .before .before .before .before .before .pre in
-    omega (arith, file-length _ (c .before .before .before .before .before .before .args .f) (p .0), p .1 .1 .0)
+    let p = c .before .before .before .before .before .pre in
+    omega (arith, c .before .before .cart-at .ensures, file-length _ _ (p .0), p .1 .1 .0)
 
 judge-moves-requires : tie.Need-judge-moves-requires
 judge-moves-requires c κs =
-    let p = c .before .before .before .before .before .before .pre in
-    let a = c .before .before .before .before .before .before .args in (
+    let p = c .before .before .before .before .before .pre in
+    let a = c .before .before .before .before .before .args in (
       p .0,
       (
         p .1 .0,
         (
-          subst (λ (x : ℕ). x < 8) (class-at (a .s .now) (a .f) (p .0) (a .c) (p .1 .1 .0) _ (omega arith))
+          subst (λ (x : ℕ). x < 8) (class-at (a .s .now) (a .f) (p .0) (a .c) (p .1 .1 .0) _ (c .before .before .cart-at .ensures))
               (class-low (a .s .now) (a .f) (p .0) (a .c) (p .1 .1 .0)),
           p .1 .1 .1,
         ),
@@ -59,8 +56,8 @@ judge-moves-requires c κs =
 
 verdict-of-requires : tie.Need-verdict-of-requires
 verdict-of-requires c κs =
-    let p = c .before .before .before .before .before .before .before .pre in
-    let a = c .before .before .before .before .before .before .before .args in (
+    let p = c .before .before .before .before .before .before .pre in
+    let a = c .before .before .before .before .before .before .args in (
       omega (arith, p .1 .1 .0, p .0 .valid .few-carts),
       λ s e. omega (
         arith,
@@ -72,11 +69,11 @@ verdict-of-requires c κs =
 
 returns : tie.Need-returns
 returns c =
-    let p = c .before .before .before .before .before .before .before .before .pre in
-    let a = c .before .before .before .before .before .before .before .before .args in
-    let at = a .f .places * 8 + a .f .lanes * 7 + a .c * 6 + 4 in
-    let k = class-at (a .s .now) (a .f) (p .0) (a .c) (p .1 .1 .0) at refl in
-    let s = start-at (a .s .now) (a .f) (p .0) (a .c) (p .1 .1 .0) at refl in
+    let p = c .before .before .before .before .before .before .before .pre in
+    let a = c .before .before .before .before .before .before .before .args in
+    let at = c .before .before .before .before .cart-at in
+    let k = class-at (a .s .now) (a .f) (p .0) (a .c) (p .1 .1 .0) (at .result) (at .ensures) in
+    let s = start-at (a .s .now) (a .f) (p .0) (a .c) (p .1 .1 .0) (at .result) (at .ensures) in
     c .verdict-of .ensures
     ∙ ap (verdictOf (a .c))
     (c .before .judge-moves .ensures ∙ sym (ap₂ (λ (x y : ℕ). judgedMoves (lanesIn (a .s .now)) x y (a .row .now) (length (a .row .now)) (a .stem)) k s))
@@ -85,12 +82,8 @@ pub judge-cart-row-spec : {M : Type 1} → statement M
 judge-cart-row-spec =
     tie.close
     (tie.spec
-    mul-at
-    mul-at-2
+    cart-at-requires
     add-at
-    mul-at-3
-    add-at-2
-    add-at-3
     shared-slice-read-judge-moves
     add-judge-moves
     shared-slice-read-judge-moves-2

@@ -1,5 +1,3 @@
-use Prim.Native.Nat.{_+_, _*_, _≤_}
-use native.Mathlib.Nat.{mul-le-mul}
 use native.Mathlib.Omega.{arith}
 use mathlib.Core.Bool.{true, false}
 use mathlib.Core.Path.{sym, _∙_}
@@ -17,16 +15,6 @@ read-it : (c : tie.Else1)
     → AcceptedPlan (c .before .before .before .before .before .before .args .floor .now)
     (c .before .before .before .before .before .before .args .plan .now) (c .before .before .read .result)
 read-it c = accepts-if _ _ _ (c .before .before .read .ensures) (sym (c .before .accepts .ensures) ∙ not-is _ false (c .if1 .left))
-
--- the offset is small
-reach : (c : tie.After-judge-moves-and-row)
-    → c .before .before .before .before .before .before .before .before .before .before .before .args .cart *
-    (4 + c .before .before .before .before .before .before .before .read .result .plan .head .steps) ≤ 4294967296 * 68
-reach c =
-    let few : 4 + c .before .before .before .before .before .before .before .read .result .plan .head .steps ≤ 68 =
-    omega (arith, held-range _ _ _ (read-it (c .before .before .before .before .before)) .steps) in
-    mul-le-mul {n₁ = c .before .before .before .before .before .before .before .before .before .before .before .args .cart} {n₂ = 4294967296}
-    (omega (arith, c .before .before .before .before .before .before .before .before .before .before .before .fits .cart)) few
 
 read-requires : tie.Need-read-requires
 read-requires c κs = search needs
@@ -50,22 +38,13 @@ judge-moves-and-row-requires c κs =
     (w .floor-read) in
     (f, (held-range _ _ _ w, held-length _ _ _ w (f .valid .few-carts)))
 
-add-t16 : tie.Need-add-t16
-add-t16 c = omega (arith, held-range _ _ _ (read-it (c .before .before .before .before .before .before)) .steps)
-
-mul-t17 : tie.Need-mul-t17
-mul-t17 c = omega (arith, reach (c .before))
-
-add-t18 : tie.Need-add-t18
-add-t18 c = omega (arith, reach (c .before))
-
-add-t19 : tie.Need-add-t19
-add-t19 c = omega (arith, reach (c .before))
+row-at-requires : tie.Need-row-at-requires
+row-at-requires c κs = held-range _ _ _ (read-it (c .before .before .before .before .before)) .steps
 
 returns-2 : tie.Need-returns-2
 returns-2 c =
     judged _ _ _ _ (c .before .before .before .before .before .before .before .before .read .result)
-    (read-it (c .before .before .before .before .before .before)) (c .before .judge-moves-and-row .result) (c .before .judge-moves-and-row .ensures) _ (omega arith)
+    (read-it (c .before .before .before .before .before .before)) (c .before .judge-moves-and-row .result) (c .before .judge-moves-and-row .ensures) _ (c .row-at .ensures)
 
 pub judge-spec : {M : Type 1} → statement M
 judge-spec =
@@ -76,8 +55,5 @@ judge-spec =
     returns
     slice-aggregate-judge-moves-and-row
     judge-moves-and-row-requires
-    add-t16
-    mul-t17
-    add-t18
-    add-t19
+    row-at-requires
     returns-2)
