@@ -12,7 +12,7 @@ use Rattle.record.specs.All.{AllOf, all-of}
 use Rattle.plan.specs.Numbers.{planBytes, planFile}
 use Rattle.plan.specs.Plan.{blockRows, heldNumbers}
 use Rattle.plan.specs.Complete.{file-short}
-use Rattle.plan.specs.Valid.{InRange}
+use Rattle.plan.specs.Valid.{HeadInRange}
 use Rattle.plan.specs.Read.{row-in, length-rows-in, rows-in-more, blockPart, part-is, part-length}
 use Rattle.plan.specs.declared.Head.{Head}
 use Rattle.edit.specs.Moved.{turned, movedRow, movedHead, moved}
@@ -73,7 +73,7 @@ module _ (h : Head) (s : ℕ) (block : List ℕ) where
   unfolding flatten blockRows
   begun carts size = record { within = omega arith; is = sym (stored-nothing (replicate 2048 0) 0); filled = omega arith }
 
-  module _ (r : InRange h) (long : length block ≡ 2048) (c size : ℕ) (low : c < 32) (e : size ≡ movedHead s h .steps) where
+  module _ (r : HeadInRange h) (long : length block ≡ 2048) (c size : ℕ) (low : c < 32) (e : size ≡ movedHead s h .steps) where
     pub one-row : length (movedRow (length (part c)) (h .stem) s (part c)) ≡ size
     one-row =
         let n = part-length (h .steps) block c low (r .steps) long in
@@ -117,7 +117,7 @@ module _ (h : Head) (s : ℕ) (block : List ℕ) where
       ∙ take-at (movedIn c) (drop (length (movedIn c)) (replicate 2048 0)) (c * size) (w .filled)
 
   -- the file of the moved plan, from the rows' front and the head
-  module _ (r : InRange h) (long : length block ≡ 2048) (carts : ℕ) (few : carts ≤ 32) where
+  module _ (r : HeadInRange h) (long : length block ≡ 2048) (carts : ℕ) (few : carts ≤ 32) where
     sizes : AllOf (movedHead s h .steps) (map (movedRow (h .steps) (h .stem) s) (blockRows carts (h .steps) block))
     sizes =
         let n : length (map (movedRow (h .steps) (h .stem) s) (blockRows carts (h .steps) block)) ≡ carts =

@@ -16,7 +16,7 @@ use Rattle.floor.specs.declared.Floor.{Floor}
 use Rattle.plan.specs.Plan.{PlanNumbers, accepted, readPlan}
 use Rattle.plan.specs.Numbers.{headOf, planFile}
 use Rattle.plan.specs.After.{ReadAs}
-use Rattle.plan.specs.Valid.{InRange, ValidPlan}
+use Rattle.plan.specs.Valid.{HeadInRange, ValidPlan}
 use Rattle.plan.specs.Passed.{row-sizes}
 use Rattle.plan.specs.RoundTrip.{valid}
 use Rattle.plan.specs.Complete.{file-reads, file-length}
@@ -34,14 +34,14 @@ row-of f [] c l = absurd (omega arith)
 row-of f (row ∷ rows) zero l = refl
 row-of f (row ∷ rows) (suc c) l = row-of f rows c (omega arith)
 
-range-of : (h l d : ℕ) → l < h → h ≤ 64 → d ≤ 16 → InRange (headOf h l d)
+range-of : (h l d : ℕ) → l < h → h ≤ 64 → d ≤ 16 → HeadInRange (headOf h l d)
 range-of h l d a b c = record { some = omega arith; steps = b; stem = a; drift = c }
 
-pub head-moved : (s : ℕ) (h : Head) → InRange h → InRange (movedHead s h)
+pub head-moved : (s : ℕ) (h : Head) → HeadInRange h → HeadInRange (movedHead s h)
 head-moved s h r =
-    pick (h .stem) s (InRange (movedHead s h))
-    (λ p. subst InRange (sym (head-late s h p)) (range-of _ _ _ (omega (arith, r .stem)) (omega (arith, r .steps)) (r .drift)))
-    (λ p. subst InRange (sym (head-early s h p)) (range-of _ _ _ (omega (arith, r .stem)) (omega (arith, r .steps)) (r .drift)))
+    pick (h .stem) s (HeadInRange (movedHead s h))
+    (λ p. subst HeadInRange (sym (head-late s h p)) (range-of _ _ _ (omega (arith, r .stem)) (omega (arith, r .steps)) (r .drift)))
+    (λ p. subst HeadInRange (sym (head-early s h p)) (range-of _ _ _ (omega (arith, r .stem)) (omega (arith, r .steps)) (r .drift)))
 
 module _ (f : Floor) (p : PlanNumbers) (v : ValidPlan p f) (s : ℕ) where
   abbrev h : Head

@@ -10,12 +10,12 @@ ghost use Rattle.refusal.specs.declared.Verdict.the-variants.{Plan as AboutPlan
 ghost use Rattle.record.specs.Buffer.{stored};
 ghost use Rattle.plan.specs.Numbers.{planFile};
 ghost use Rattle.plan.specs.Plan.{blockRows, heldNumbers};
-ghost use Rattle.plan.specs.Valid.{InRange};
+ghost use Rattle.plan.specs.Valid.{HeadInRange};
 ghost use Rattle.edit.specs.Moved.{turned, movedRow, movedHead, moved};
 ghost use Rattle.edit.specs.Promises.{MovedOn};
 
 fn moved_head(s: usize, h: Head) -> Head
-    requires { ⌜ InRange h ⌝ }
+    requires { ⌜ HeadInRange h ⌝ }
     ensures { λ r. ⌜ r ≡ movedHead s h ⌝ }
 {
     let drift = h.drift;
@@ -57,7 +57,7 @@ fn moved_row(row: &[u8], stem: usize, s: usize, out: &mut [u8], at: usize)
 
 // The rows of a block moved on, one after the other with nothing between them.
 fn moved_rows(carts: usize, h: Head, block: &[u8], s: usize, size: usize) -> [u8; 2048]
-    requires { ⌜ InRange h ⌝ }
+    requires { ⌜ HeadInRange h ⌝ }
     requires { ⌜ (carts ≤ 32) × (length (now block) ≡ 2048) × (size ≡ movedHead s h .steps) ⌝ }
     ensures { λ r. ⌜ take (carts * size) r ≡ flatten (map (movedRow (h .steps) (h .stem) s) (blockRows carts (h .steps) (now (block .entry)))) ⌝ }
 {
@@ -75,7 +75,7 @@ fn moved_rows(carts: usize, h: Head, block: &[u8], s: usize, size: usize) -> [u8
 
 // Writes a plan that is read already, moved on, if there is room.
 fn put_moved(carts: usize, h: Head, block: &[u8], s: usize, out: &mut [u8]) -> Verdict
-    requires { ⌜ InRange h ⌝ }
+    requires { ⌜ HeadInRange h ⌝ }
     requires { ⌜ (carts ≤ 32) × (length (now block) ≡ 2048) ⌝ }
     ensures { λ v. ⌜ Gives (written AboutPlan (planFile (moved s (heldNumbers carts h (now (block .entry))))) (now (out .entry))) v (now (out .exit)) ⌝ }
 {

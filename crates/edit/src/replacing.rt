@@ -9,7 +9,7 @@ ghost use Prim.Native.Nat.{ℕ, _<_};
 ghost use lib.ListN.{length};
 ghost use Rattle.floor.specs.Promises.{AcceptedFloor};
 ghost use Rattle.plan.specs.Plan.{heldNumbers};
-ghost use Rattle.plan.specs.Valid.{InRange};
+ghost use Rattle.plan.specs.Valid.{HeadInRange};
 ghost use Rattle.plan.specs.declared.RowAnswer.the-variants.{Absent};
 ghost use Rattle.row.specs.Moves.{lanesIn};
 ghost use Rattle.row.specs.Chain.{Chained};
@@ -41,7 +41,7 @@ fn judge_new_row<'a>(
 ) -> Verdict
     requires { ⌜ AcceptedFloor (now s) f ⌝ }
     requires { ⌜ Chained (lanesIn (now s)) (now first) (now next) 0 ⌝ }
-    requires { ⌜ InRange h ⌝ }
+    requires { ⌜ HeadInRange h ⌝ }
     requires { ⌜ c < f .carts ⌝ }
     ensures { λ r. ⌜ r ≡ newRowVerdict (now (s .entry)) f h c (now (row .entry)) ⌝ }
 {
@@ -62,7 +62,7 @@ fn judge_moves_and_row<'a>(
     row: &'a [u8],
 ) -> Verdict
     requires { ⌜ AcceptedFloor (now s) f ⌝ }
-    requires { ⌜ InRange h ⌝ }
+    requires { ⌜ HeadInRange h ⌝ }
     requires { ⌜ length (now block) ≡ 2048 ⌝ }
     ensures { λ r. ⌜ r ≡ replaceVerdict (now (s .entry)) f (heldNumbers (f .carts) h (now (block .entry))) cart (now (row .entry)) ⌝ }
 {

@@ -15,7 +15,7 @@ use Rattle.grammar.specs.Answers.{InSheet, RefusedBy, BeginsInRange, Lar
 use Rattle.grammar.specs.Each.{digits-length, is-digit}
 use Rattle.grammar.specs.Tracks.{Quiet, quiet-digit}
 use Rattle.grammar.specs.First.{token-loud, take-then, never-begins, begun-on}
-use Rattle.grammar.specs.Promises.{Answered, promises}
+use Rattle.grammar.specs.Promises.{Lawful, promises}
 
 ---- The bytes of a number and its `%`, and the byte before it.
 abbrev Body : ℕ → Type 0
@@ -125,7 +125,7 @@ module _ (s : List ℕ) where
       (omega arith, λ x. b .apart (subst Body g x))
 
   -- none stands within a number out of range
-  in-number : (w k w' k' : ℕ) → InSheet w' → w ≡ 15 → Answered s (refused w k) → Answered s (refused w' k') → k < k'
+  in-number : (w k w' k' : ℕ) → InSheet w' → w ≡ 15 → Lawful s (refused w k) → Lawful s (refused w' k') → k < k'
       → (o : OutOfRange s k) → k' < o .last → k' < length s → ⊥
   in-number w k w' k' (inl e') e a b h o i l =
       never-begins (suc k') (o .last) s i (b .stuck-13 k' (ap (λ (n : ℕ). refused n k') e') .0 l) (o .begins)
@@ -142,7 +142,7 @@ module _ (s : List ℕ) where
       number-before (b .number-15 k' (ap (λ (n : ℕ). refused n k') e')) .1 (number-body o (k' - 1) (omega arith) (omega arith) (omega arith))
 
   -- an answer is no later than another
-  no-later : (w k w' k' : ℕ) → InSheet w → InSheet w' → Answered s (refused w k) → Answered s (refused w' k') → k < k' → ⊥
+  no-later : (w k w' k' : ℕ) → InSheet w → InSheet w' → Lawful s (refused w k) → Lawful s (refused w' k') → k < k' → ⊥
   no-later w k w' k' (inl e) c' a b h =
       let x = b .before w' k' c' refl in
       never-begins (suc k) k' s h (a .stuck-13 k (ap (λ (n : ℕ). refused n k) e) .0 (omega (arith, x .0))) (x .1 .0, x .1 .1, x .1 .2)
@@ -158,13 +158,13 @@ module _ (s : List ℕ) where
       (le-or (o .last) k')
 
   -- at one offset
-  apart : {w w' : ℕ} (k : ℕ) → Answered s (refused w k) → Answered s (refused w' k) → w ≡ 13 → w' ≡ 15 → ⊥
+  apart : {w w' : ℕ} (k : ℕ) → Lawful s (refused w k) → Lawful s (refused w' k) → w ≡ 13 → w' ≡ 15 → ⊥
   apart k a b e e' =
       let o = b .number-15 k (ap (λ (n : ℕ). refused n k) e') in
       let h = number-in o in
       never-begins (suc k) (o .last) s (omega (arith, h .1)) (a .stuck-13 k (ap (λ (n : ℕ). refused n k) e) .0 (h .0)) (o .begins)
 
-  same-number : (w w' k : ℕ) → InSheet w → InSheet w' → Answered s (refused w k) → Answered s (refused w' k) → w ≡ w'
+  same-number : (w w' k : ℕ) → InSheet w → InSheet w' → Lawful s (refused w k) → Lawful s (refused w' k) → w ≡ w'
   same-number w w' k (inl e) (inl e') a b = e ∙ sym e'
   same-number w w' k (inl e) (inr (inl e')) a b =
       a .first-14 w k k (inl e) refl (omega arith) (b .past-14 k (ap (λ (n : ℕ). refused n k) e')) .0 ∙ sym e'
@@ -176,20 +176,20 @@ module _ (s : List ℕ) where
       a .first-14 w k k (inr (inr e)) refl (omega arith) (b .past-14 k (ap (λ (n : ℕ). refused n k) e')) .0 ∙ sym e'
   same-number w w' k (inr (inr e)) (inr (inr e')) a b = e ∙ sym e'
 
-  in-sheet : (w k w' k' : ℕ) → InSheet w → InSheet w' → Answered s (refused w k) → Answered s (refused w' k') → refused w k ≡ refused w' k'
+  in-sheet : (w k w' k' : ℕ) → InSheet w → InSheet w' → Lawful s (refused w k) → Lawful s (refused w' k') → refused w k ≡ refused w' k'
   in-sheet w k w' k' c c' a b =
       let h = no-later w k w' k' c c' a b in
       let i = no-later w' k' w k c' c b a in
       let e : k ≡ k' = omega arith in
-      let f : w ≡ w' = same-number w w' k c c' a (subst (λ (n : ℕ). Answered s (refused w' n)) (sym e) b) in
+      let f : w ≡ w' = same-number w w' k c c' a (subst (λ (n : ℕ). Lawful s (refused w' n)) (sym e) b) in
       cc
 
-  empty-in : (w k : ℕ) → length s ≡ 0 → InSheet w → Answered s (refused w k) → ⊥
+  empty-in : (w k : ℕ) → length s ≡ 0 → InSheet w → Lawful s (refused w k) → ⊥
   empty-in w k h (inl e) a = a .stuck-13 k (ap (λ (n : ℕ). refused n k) e) .1 [] (nil-sheet s h)
   empty-in w k h (inr (inl e)) a = let x = a .over-14 k (ap (λ (n : ℕ). refused n k) e) in omega (arith, x .0)
   empty-in w k h (inr (inr e)) a = let x = number-in (a .number-15 k (ap (λ (n : ℕ). refused n k) e)) in omega (arith, x .0)
 
-  refusals : (w k w' k' : ℕ) → RefusedBy s w k → RefusedBy s w' k' → Answered s (refused w k) → Answered s (refused w' k') → refused w k ≡ refused w' k'
+  refusals : (w k w' k' : ℕ) → RefusedBy s w k → RefusedBy s w' k' → Lawful s (refused w k) → Lawful s (refused w' k') → refused w k ≡ refused w' k'
   refusals w k w' k' (inl c) c' a b = let e = b .long-12 (c .2) in let f = c .0 in let g = c .1 in cc
   refusals w k w' k' (inr (inl c)) (inl c') a b = let e = a .long-12 (c' .2) in let f = c' .0 in let g = c' .1 in cc
   refusals w k w' k' (inr (inl c)) (inr (inl c')) a b = let e = c .0 in let f = c .1 in let g = c' .0 in let h = c' .1 in cc
@@ -198,10 +198,10 @@ module _ (s : List ℕ) where
   refusals w k w' k' (inr (inr c)) (inr (inl c')) a b = absurd (empty-in w k (c' .2) c a)
   refusals w k w' k' (inr (inr c)) (inr (inr c')) a b = in-sheet w k w' k' c c' a b
 
-  both : (a b : Read) → Answered s a → Answered s b → a ≡ b
+  both : (a b : Read) → Lawful s a → Lawful s b → a ≡ b
   both (accepted cs) b p q = let x = p .sound cs refl in sym (q .complete cs (x .sheet) (x .fits) (x .few) (x .some) (x .short))
   both (refused w k) (accepted cs) p q = let x = q .sound cs refl in p .complete cs (x .sheet) (x .fits) (x .few) (x .some) (x .short)
   both (refused w k) (refused w' k') p q = refusals w k w' k' (p .codes w k refl) (q .codes w' k' refl) p q
 
-pub only : (s : List ℕ) (a : Read) → Answered s a → a ≡ readSheet s
+pub only : (s : List ℕ) (a : Read) → Lawful s a → a ≡ readSheet s
 only s a p = both s a (readSheet s) p (promises s)

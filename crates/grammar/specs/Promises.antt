@@ -18,7 +18,7 @@ use Rattle.grammar.specs.Full.{line-33}
 use Rattle.grammar.specs.Complete.{complete, stuck-13, over-14, codes, long-12}
 
 -- what an answer a to a sheet s has to meet
-pub record Answered (s : List ℕ) (a : Read) : Type 0 where
+pub record Lawful (s : List ℕ) (a : Read) : Type 0 where
   -- accepted: exactly the sheets of the grammar within the limits, and each as it is there
   pub sound : (cs : List Clause) → a ≡ accepted cs → AcceptedSheet s cs
   pub complete : (cs : List Clause) (d : Sheet s cs) → Fits d → FewLines cs → 0 < length s → FewBytes s → a ≡ accepted cs
@@ -49,7 +49,7 @@ pub record Answered (s : List ℕ) (a : Read) : Type 0 where
 
 -- the reader's answers do; and, by `Only`, no others
 abbrev pub Promises : List ℕ → Type 0
-Promises s = Answered s (readSheet s)
+Promises s = Lawful s (readSheet s)
 
 pub promises : (s : List ℕ) → Promises s
 promises s = record {

@@ -29,12 +29,12 @@ fileName about =
     cond (eqb about 1) (ascii "floor" ∷ []) (cond (eqb about 2) (ascii "plan" ∷ []) (cond (eqb about 3) (ascii "rules" ∷ []) []))
 
 -- "the number and its two numbers"
-abbrev pub numbersOf : Code → List (List ℕ)
-numbersOf c = decimal (c .number) ∷ decimal (c .first) ∷ decimal (c .second) ∷ []
+abbrev pub threeNumbers : Code → List (List ℕ)
+threeNumbers c = decimal (c .number) ∷ decimal (c .first) ∷ decimal (c .second) ∷ []
 
 -- the line of a verdict: number 0 accepts, whatever it is about
 abbrev pub lineOf : Code → List ℕ
-lineOf c = withEnd (cond (eqb (c .number) 0) (ascii "accepted") (spaced (ascii "refused") (fileName (c .about) ++ numbersOf c)))
+lineOf c = withEnd (cond (eqb (c .number) 0) (ascii "accepted") (spaced (ascii "refused") (fileName (c .about) ++ threeNumbers c)))
 
 -- not document 01's: what `cases` prints where a result was written, its length in bytes
 abbrev pub doneLine : ℕ → List ℕ

@@ -14,7 +14,7 @@ use Rattle.record.specs.Buffer.{stored}
 use Rattle.record.specs.Stored.{stored-front, stored-more}
 use Rattle.line.specs.Decimal.{digitByte, decimal}
 use Rattle.line.specs.Tens.{decimal-one, decimal-more, decimal-longer}
-use Rattle.line.specs.Line.{ascii, spaced, withEnd, fileName, numbersOf, lineOf, doneLine, answerLine}
+use Rattle.line.specs.Line.{ascii, spaced, withEnd, fileName, threeNumbers, lineOf, doneLine, answerLine}
 use Rattle.line.specs.Promises.{LaidOut, PutAt}
 
 pub put-more : (s t before between after : List ℕ) (at m n : ℕ) → m ≤ length before → PutAt s before at m between → PutAt t between m n after
@@ -75,11 +75,11 @@ no-name about floor plan rules = simp (ne-eqb about 1 floor, ne-eqb about 2 plan
 -- the line by its number
 line-accepted : (c : Code) → c .number ≡ 0 → withEnd (ascii "accepted") ≡ lineOf c
 line-accepted c e =
-    ap (λ (b : Bool). withEnd (cond b (ascii "accepted") (spaced (ascii "refused") (fileName (c .about) ++ numbersOf c)))) (sym (eq-eqb (c .number) 0 e))
+    ap (λ (b : Bool). withEnd (cond b (ascii "accepted") (spaced (ascii "refused") (fileName (c .about) ++ threeNumbers c)))) (sym (eq-eqb (c .number) 0 e))
 
-line-refused : (c : Code) → (c .number ≡ 0 → ⊥) → withEnd (spaced (ascii "refused") (fileName (c .about) ++ numbersOf c)) ≡ lineOf c
+line-refused : (c : Code) → (c .number ≡ 0 → ⊥) → withEnd (spaced (ascii "refused") (fileName (c .about) ++ threeNumbers c)) ≡ lineOf c
 line-refused c e =
-    ap (λ (b : Bool). withEnd (cond b (ascii "accepted") (spaced (ascii "refused") (fileName (c .about) ++ numbersOf c)))) (sym (ne-eqb (c .number) 0 e))
+    ap (λ (b : Bool). withEnd (cond b (ascii "accepted") (spaced (ascii "refused") (fileName (c .about) ++ threeNumbers c)))) (sym (ne-eqb (c .number) 0 e))
 
 pub laid-accepted : (c : Code) (before after : List ℕ) (n : ℕ) → c .number ≡ 0 → n ≤ length before → PutAt (ascii "accepted\n") before 0 n after
     → LaidOut (lineOf c) before n after
@@ -99,7 +99,7 @@ laid-refused c b₀ b₁ b₂ b₃ b₄ after k₁ k₂ k₃ k₄ n e room p q r
     let four = put-more _ _ b₀ b₃ b₄ 0 k₃ k₄ (omega arith) three s in
     let words = put-same _ _ b₀ b₄ 0 k₄ (spaced-three (ascii "refused") (fileName (c .about)) _ _ _) four in
     laid-same _ _ b₀ after n (line-refused c e)
-    (line-laid (spaced (ascii "refused") (fileName (c .about) ++ numbersOf c)) b₀ after n room (put-more _ _ b₀ b₄ after 0 k₄ n (omega arith) words t))
+    (line-laid (spaced (ascii "refused") (fileName (c .about) ++ threeNumbers c)) b₀ after n room (put-more _ _ b₀ b₄ after 0 k₄ n (omega arith) words t))
 
 pub laid-done : (m : ℕ) (b₀ b₁ b₂ after : List ℕ) (k₁ k₂ n : ℕ) → n ≤ length b₀ → PutAt (ascii "done") b₀ 0 k₁ b₁
     → PutAt (32 ∷ decimal m) b₁ k₁ k₂ b₂ → PutAt (10 ∷ []) b₂ k₂ n after → LaidOut (doneLine m) b₀ n after

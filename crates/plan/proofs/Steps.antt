@@ -17,7 +17,7 @@ use Rattle.record.specs.declared.Found.the-variants.{End, Cut, Whole}
 use Rattle.floor.specs.declared.Floor.{Floor}
 use Rattle.plan.specs.Plan.{accepted, rejected, judgedHead, rowFault, rowsEnd, onward, readRows, behindHead, readRecords, readPlan}
 use Rattle.plan.specs.Plan.{firstHead, headIn, rowsFrom}
-use Rattle.plan.specs.Valid.{InRange}
+use Rattle.plan.specs.Valid.{HeadInRange}
 use Rattle.plan.specs.Passed.{head-passed}
 use Rattle.plan.specs.declared.Head.{Head}
 use Rattle.plan.specs.declared.HeadAnswer.{HeadAnswer}
@@ -53,7 +53,7 @@ refused-head f s r h e = in-records f s h ∙ go (recordsIn s .records) (records
 
 -- behind an accepted head come the rows, at 10
 pub record Headed (s : List ℕ) (h : Head) : Type 0 where
-  pub range : InRange h
+  pub range : HeadInRange h
   pub room : 10 ≤ length s
   pub rows : (f : Floor) → length s ≤ 65536 → readPlan f s ≡ rowsFrom f h [] 10 s
 

@@ -15,7 +15,7 @@ use Rattle.record.specs.RoundTrip.{length-encoded}
 use Rattle.floor.specs.declared.Floor.{Floor}
 use Rattle.plan.specs.Plan.{PlanNumbers, accepted, outOfRange, judgedPlaces, judgedRow, rowFaultBy, rowFault, onward, readRows, readPlan}
 use Rattle.plan.specs.Numbers.{Narrow, planBytes, planFile}
-use Rattle.plan.specs.Valid.{InRange, RowFits, ValidPlan}
+use Rattle.plan.specs.Valid.{HeadInRange, RowFits, ValidPlan}
 use Rattle.plan.specs.RoundTrip.{length-plan}
 use Rattle.plan.specs.Passed.{row-sizes}
 use Rattle.plan.specs.Judged.{good-head}
@@ -30,7 +30,7 @@ fits-all places i (p ∷ row) h =
     ap (λ (b : Bool). cond b (Absent i) (judgedPlaces places (suc i) row)) (lt-leb places p (h 0 (omega arith)))
     ∙ fits-all places (suc i) row (λ s l. h (suc s) (omega arith))
 
-in-range : (h : Head) → InRange h → outOfRange h ≡ false
+in-range : (h : Head) → HeadInRange h → outOfRange h ≡ false
 in-range h r =
     let z : (h .steps ≡ 0 → ⊥) = λ e. omega (arith, r .some) in
     simp (ne-eqb _ _ z, le-ltb 64 (h .steps) (r .steps), lt-leb (h .steps) (h .stem) (r .stem), le-ltb 16 (h .drift) (r .drift))
@@ -91,7 +91,7 @@ file-length n some sizes =
     ap (λ (x : List (List ℕ)). length (layout (map (ofKind 5) x))) (parts-flatten k (n .rows) some sizes) in
     omega (arith, length-plan (n .head) (flatten (n .rows)), length-bodies 5 k (n .rows) sizes)
 
-pub file-short : (n : PlanNumbers) → InRange (n .head) → AllOf (n .head .steps) (n .rows) → length (n .rows) ≤ 32 → length (planFile n) ≤ 65536
+pub file-short : (n : PlanNumbers) → HeadInRange (n .head) → AllOf (n .head .steps) (n .rows) → length (n .rows) ≤ 32 → length (planFile n) ≤ 65536
 file-short n r sizes few = omega (arith, file-length n (r .some) sizes, few-rows (n .head .steps) (length (n .rows)) (r .steps) few)
 
 -- a row of the table's is not refused

@@ -12,14 +12,14 @@ use Rattle.refusal.specs.Faults.{none-holds, no-fault, not-not, either-false}
 use Rattle.record.specs.All.{AllOf, all-of}
 use Rattle.floor.specs.declared.Floor.{Floor}
 use Rattle.plan.specs.Plan.{PlanNumbers, headFrom, outOfRange, headFault, judgedHead, judgedPlaces, judgedRow, rowNumber, rowFault}
-use Rattle.plan.specs.Valid.{InRange, ValidPlan}
+use Rattle.plan.specs.Valid.{HeadInRange, ValidPlan}
 pub use Rattle.plan.specs.Valid.{RowFits}
 use Rattle.plan.specs.declared.RowAnswer.{RowAnswer}
 use Rattle.plan.specs.declared.RowAnswer.the-variants.{Fits, WrongLength, Absent}
 use Rattle.plan.specs.declared.Head.{Head}
 use Rattle.plan.specs.declared.HeadAnswer.the-variants.{Good, Refused}
 
-pub in-range : (h : Head) → outOfRange h ≡ false → InRange h
+pub in-range : (h : Head) → outOfRange h ≡ false → HeadInRange h
 in-range h e =
     let a = either-false (eqb (h .steps) 0) _ e in
     let b = either-false (ltb 64 (h .steps)) _ (a .1) in
@@ -30,7 +30,7 @@ in-range h e =
 pub record HeadPassed (kind : ℕ) (body : List ℕ) (h : Head) : Type 0 where
   pub kind-is : kind ≡ 4
   pub size : length body ≡ 6
-  pub range : InRange h
+  pub range : HeadInRange h
   pub is : h ≡ headFrom body
 
 refused-apart : (h : Head) (n : ℕ) → Refused (atOffset n 0) ≡ Good h → ⊥
@@ -48,7 +48,7 @@ head-passed kind body h e =
     record {
       kind-is = eqb-true _ _ (not-not _ (a .0));
       size = eqb-true _ _ (not-not _ (b .0));
-      range = subst InRange (sym is) (in-range (headFrom body) (c .0));
+      range = subst HeadInRange (sym is) (in-range (headFrom body) (c .0));
       is = is;
     }
 

@@ -18,7 +18,7 @@ use Rattle.floor.specs.declared.FloorAnswer.the-variants.{Read as FloorAccepted
 use Rattle.plan.specs.Plan.{PlanNumbers, PlanAnswer, accepted, rejected, readPlan, blockRows, heldNumbers, afterPlan, afterFloor, planRead, onFloor, readBoth}
 use Rattle.plan.specs.After.{afterReading, ReadAs}
 use Rattle.plan.specs.Promises.{AcceptedPlan, PlanReads}
-use Rattle.plan.specs.Valid.{InRange}
+use Rattle.plan.specs.Valid.{HeadInRange}
 use Rattle.plan.specs.Passed.{row-sizes}
 use Rattle.plan.specs.Block.{length-block, short-all}
 use Rattle.plan.specs.declared.Head.{Head}
@@ -77,8 +77,8 @@ module _ (floor s : List ℕ) (r : PlanRead) (w : AcceptedPlan floor s r) where
       (λ i l. let m : i < c = omega (arith, length-rows-in c (n .head .steps) (r .plan .block)) in row-in c (n .head .steps) (r .plan .block) i m ∙ w .row i m) in
       ap (λ (h : Head). heldNumbers c h (r .plan .block)) held-head ∙ ap (λ (x : List (List ℕ)). record { head = n .head; rows = x }) rows
 
-  pub held-range : InRange (r .plan .head)
-  held-range = subst InRange (sym held-head) (w .valid .head)
+  pub held-range : HeadInRange (r .plan .head)
+  held-range = subst HeadInRange (sym held-head) (w .valid .head)
 
   pub held-length : r .floor .carts ≤ 32 → length (r .plan .block) ≡ 2048
   held-length few =

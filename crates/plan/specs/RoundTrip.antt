@@ -30,7 +30,7 @@ use Rattle.plan.specs.Numbers.{Narrow, headBytes, rowRecords, planRecord
 use Rattle.plan.specs.After.{ReadAs}
 use Rattle.plan.specs.Promises.{AcceptedPlan}
 use Rattle.plan.specs.declared.PlanRead.{PlanRead}
-use Rattle.plan.specs.Valid.{InRange, ValidPlan}
+use Rattle.plan.specs.Valid.{HeadInRange, ValidPlan}
 use Rattle.plan.specs.Block.{row-at, short-all}
 use Rattle.plan.specs.Passed.{all-on-floor, head-passed, row-passed}
 use Rattle.plan.specs.declared.Head.{Head}
@@ -99,7 +99,7 @@ pub record Whole (f : Floor) (s : List ℕ) (n : PlanNumbers) : Type 0 where
   pub short : length s ≤ 65536
   pub body : List ℕ
   pub size : length body ≡ 6
-  pub range : InRange (n .head)
+  pub range : HeadInRange (n .head)
   pub head-is : n .head ≡ headFrom body
   pub records : recordsIn s .records ≡ ofKind 4 body ∷ map (ofKind 5) (n .rows)
   pub sizes : AllOf (n .head .steps) (n .rows)
@@ -125,7 +125,7 @@ from-records f s n (r ∷ rs) cut l p q e = go (judgedHead (r .kind) (r .body)) 
           short = l;
           body = r .body;
           size = g .size;
-          range = subst InRange head (g .range);
+          range = subst HeadInRange head (g .range);
           head-is = sym head ∙ g .is;
           records = p ∙ ap₂ (λ (k : ℕ) (t : List Record). ofKind k (r .body) ∷ t) (g .kind-is) (w .records ∙ ap (map (ofKind 5)) rows);
           sizes = subst (λ (x : Head). AllOf (x .steps) (n .rows)) head (subst (AllOf (h .steps)) rows (w .sizes));

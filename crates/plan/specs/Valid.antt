@@ -8,7 +8,7 @@ use Rattle.plan.specs.Plan.{PlanNumbers}
 use Rattle.plan.specs.declared.Head.{Head}
 
 -- "steps 1 to 64, first step of the lap (below h), drift 0 to 16"
-pub record InRange (h : Head) : Type 0 where
+pub record HeadInRange (h : Head) : Type 0 where
   pub some : 0 < h .steps
   pub steps : h .steps ≤ 64
   pub stem : h .stem < h .steps
@@ -20,7 +20,7 @@ pub record RowFits (steps places : ℕ) (row : List ℕ) : Type 0 where
   pub there : (s : ℕ) → s < length row → getD row s 0 < places
 
 pub record ValidPlan (n : PlanNumbers) (f : Floor) : Type 0 where
-  pub head : InRange (n .head)
+  pub head : HeadInRange (n .head)
   -- rows: "one a cart", "h bytes, one place a step"
   pub carts : length (n .rows) ≡ f .carts
   pub steps : (c : ℕ) → c < f .carts → length (getD (n .rows) c []) ≡ n .head .steps

@@ -12,7 +12,7 @@ ghost use lib.ListN.{length};
 ghost use Rattle.refusal.specs.declared.Verdict.the-variants.{Accepted};
 ghost use Rattle.floor.specs.Promises.{AcceptedFloor};
 ghost use Rattle.plan.specs.Plan.{heldNumbers};
-ghost use Rattle.plan.specs.Valid.{InRange};
+ghost use Rattle.plan.specs.Valid.{HeadInRange};
 ghost use Rattle.grammar.specs.Reader.{readSheet};
 ghost use Rattle.sheet.specs.Rules.{rulesVerdict};
 ghost use Rattle.plancheck.specs.Check.{placeOnStep, planRows, clausesOf, clausesVerdict};
@@ -28,7 +28,7 @@ fn judge_with(
     table: &mut [u64],
 ) -> Verdict
     requires { ⌜ AcceptedFloor (now floor) f ⌝ }
-    requires { ⌜ InRange h × (length (now block) ≡ 2048) ⌝ }
+    requires { ⌜ HeadInRange h × (length (now block) ≡ 2048) ⌝ }
     requires { ⌜ ((c s : ℕ) → c < f .carts → s < h .steps → placeOnStep (heldNumbers (f .carts) h (now block)) c s < f .places) ⌝ }
     requires { ⌜ rulesVerdict (now rules) ≡ Accepted ⌝ }
     requires { ⌜ f .carts * 32 ≤ length (now table) ⌝ }
@@ -47,7 +47,7 @@ fn judge_with(
 // The same, with no more room than a small floor needs, since a table is cleared before it is filled.
 fn judge_clauses(floor: &[u8], f: Floor, h: Head, block: &[u8], rules: &[u8]) -> Verdict
     requires { ⌜ AcceptedFloor (now floor) f ⌝ }
-    requires { ⌜ InRange h × (length (now block) ≡ 2048) ⌝ }
+    requires { ⌜ HeadInRange h × (length (now block) ≡ 2048) ⌝ }
     requires { ⌜ ((c s : ℕ) → c < f .carts → s < h .steps → placeOnStep (heldNumbers (f .carts) h (now block)) c s < f .places) ⌝ }
     requires { ⌜ rulesVerdict (now rules) ≡ Accepted ⌝ }
     ensures { λ v. ⌜ v ≡ clausesVerdict (planRows (now (floor .entry)) f (heldNumbers (f .carts) h (now (block .entry)))) (h .drift) (clausesOf (readSheet (now (rules .entry)))) ⌝ }

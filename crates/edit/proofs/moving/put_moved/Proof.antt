@@ -7,16 +7,16 @@ use borrow.Author.Needs.{needs}
 use Rattle.refusal.specs.declared.Verdict.the-variants.{Plan as AboutPlan}
 use Rattle.refusal.specs.Outcome.{Gives, written}
 use Rattle.plan.specs.declared.Head.{Head}
-use Rattle.plan.specs.Valid.{InRange}
+use Rattle.plan.specs.Valid.{HeadInRange}
 use Rattle.edit.specs.MovedReads.{head-moved}
 use Rattle.edit.proofs.RowsMoved.{rows-fit, same-file, file-fits}
 use Rattle.edit.proofs.moving.put_moved.Statement.{statement}
 use Rattle.edit.proofs.moving.put_moved.Tie as tie
 
 -- the moved head is in range
-ranged : (c : tie.After-moved-head) → InRange (c .moved-head .result)
+ranged : (c : tie.After-moved-head) → HeadInRange (c .moved-head .result)
 ranged c =
-    subst InRange (sym (c .moved-head .ensures))
+    subst HeadInRange (sym (c .moved-head .ensures))
     (head-moved (c .before .before .before .args .s) (c .before .before .before .args .h) (c .before .before .before .pre .0))
 
 moved-head-requires : tie.Need-moved-head-requires
