@@ -2,3 +2,4 @@
 pub mod Edge
 -- laws
 pub mod Told
+pub mod Demands

@@ -30,7 +30,7 @@ use Rattle.plan.specs.Plan.{PlanNumbers, PlanAnswer, readPlan, refusedRead, acc
 use Rattle.plan.specs.Plan as plan
 use Rattle.plan.specs.Numbers.{planBytes, planFile, byFloor, writePlan}
 use Rattle.plan.specs.Numbers as numbers
-use Rattle.plan.specs.After.{afterReading}
+use Rattle.plan.specs.After.{afterReading, ReadAs}
 use Rattle.plan.specs.Read.{ReadingCases, floor-refused, plan-refused, both-read, reading-cases, read-on}
 use Rattle.plan.specs.Promises.{PlanReads, AcceptedPlan, PlanWritten}
 use Rattle.plan.specs.declared.Head.{Head}
@@ -125,12 +125,15 @@ pub floor-read : (s : List ℕ) (r : FloorAnswer) → FloorRead s r → Given re
     → c ≡ codeOf v → FloorReadCode s c
 floor-read s r w g v e c q = subst (FloorReadCode s) (sym (q ∙ ap codeOf e)) (floor-read-as s r w g)
 
--- accepted as reading's own definition accepts
-read-accepts : (floor s : List ℕ) → AcceptedPlan floor s (readBoth floor s) → readBoth floor s .verdict ≡ Accepted
+-- what reading gives of a floor and a plan that are read
+pub read-both : (floor s : List ℕ) (f : Floor) (n : PlanNumbers) → ReadAs floor s f n → readBoth floor s ≡ acceptedRead f n
 unfolding readBoth afterReading
+read-both floor s f n w = read-on refusedRead acceptedRead floor s f n w
+
+read-accepts : (floor s : List ℕ) → AcceptedPlan floor s (readBoth floor s) → readBoth floor s .verdict ≡ Accepted
 read-accepts floor s a =
     ap (λ (x : PlanRead). x .verdict)
-    (read-on refusedRead acceptedRead floor s (readBoth floor s .floor) (a .numbers) (record { floor-read = a .floor-read; plan-read = a .plan-read }))
+    (read-both floor s (readBoth floor s .floor) (a .numbers) (record { floor-read = a .floor-read; plan-read = a .plan-read }))
 
 pub plan-read : (floor s : List ℕ) (r : PlanRead) → PlanReads floor s r → Given readingPlan (r .verdict) → (c : Code) → c ≡ codeOf (r .verdict)
     → PlanReadCode floor s c
