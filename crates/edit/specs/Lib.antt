@@ -10,5 +10,6 @@ pub mod RowStored
 pub mod Later
 pub mod MovedReads
 pub mod ReplacedReads
+pub mod Demands
 -- worked cases
 pub mod Examples

@@ -138,7 +138,7 @@ module _ (floor before : List ℕ) (c : ℕ) (row : List ℕ) (v : Verdict) (aft
   unfolding replaceRow refuse step
   verdict f p w = g .answer ∙ ap (λ (o : Outcome). o .answer) (read-on refuse step floor before f p w)
 
-  left : (f : Floor) (p : PlanNumbers) → ReadAs floor before f p → (b : Bool) → isAccepted v ≡ b
+  pub left : (f : Floor) (p : PlanNumbers) → ReadAs floor before f p → (b : Bool) → isAccepted v ≡ b
       → after ≡ cond b (stored before (rowAt (p .head .steps) c) row) before
   unfolding replaceRow refuse step
   left f p w b e =

@@ -7,5 +7,6 @@ pub mod CartBytes
 pub mod Judged
 pub mod Refusing
 pub mod Unending
+pub mod Demands
 -- worked cases
 pub mod Examples

@@ -13,7 +13,7 @@ use Rattle.plan.specs.Plan.{PlanNumbers}
 use Rattle.plan.specs.After.{ReadAs}
 use Rattle.row.specs.Moves.{lanesIn}
 use Rattle.row.specs.Meaning.{Unending, Lowest}
-use Rattle.row.specs.declared.MoveAnswer.the-variants.{Shut}
+use Rattle.row.specs.declared.MoveAnswer.the-variants.{Elsewhere, Shut}
 use Rattle.moves.specs.Carts.{classOf, startOf, verdictOf, rowVerdict, checkedMoves}
 
 -- cart c begins at its start, and its move at every counter is open to its class
@@ -40,6 +40,8 @@ pub record FirstRefused (floor : List ℕ) (f : Floor) (p : PlanNumbers) (v : Ve
   pub there : cart < f .carts
   pub refused : rowVerdict floor p cart ≡ v
   pub before : (c : ℕ) → c < cart → CartUnending floor p c
+  -- 10: "first place is not the start"
+  pub away : v ≡ verdictOf cart Elsewhere → getD (getD (p .rows) cart []) 0 0 ≡ startOf floor cart → ⊥
   -- 11 names the "lowest step left"
   pub lowest : (k : ℕ) → v ≡ verdictOf cart (Shut k) → LowestLeft floor p cart k
 

@@ -16,7 +16,7 @@ use Rattle.plan.specs.After.{ReadAs}
 use Rattle.plan.specs.RoundTrip.{valid}
 use Rattle.plan.specs.Read.{ReadingCases, floor-refused, plan-refused, both-read, reading-cases, read-on}
 use Rattle.row.specs.Firsts.{FirstAnswer, all-pass, none-fails, first-fault}
-use Rattle.row.specs.Unending.{unending, accepts-all, refused-step}
+use Rattle.row.specs.Unending.{unending, accepts-all, refused-start, refused-step}
 use Rattle.row.specs.declared.MoveAnswer.{MoveAnswer}
 use Rattle.row.specs.declared.MoveAnswer.the-variants.{Open, Elsewhere, Shut}
 use Rattle.moves.specs.Carts.{startOf, verdictOf, rowVerdict, rowAccepted, judgedCarts, movesVerdict, checkedMoves}
@@ -32,6 +32,11 @@ only-shut : (c k : ℕ) (a : MoveAnswer) → verdictOf c a ≡ verdictOf c (Shut
 only-shut c k Open e = let z = ap (λ (v : Verdict). codeOf v .number) e in absurd (omega arith)
 only-shut c k Elsewhere e = let z = ap (λ (v : Verdict). codeOf v .number) e in absurd (omega arith)
 only-shut c k (Shut s) e = ap Shut (ap (λ (v : Verdict). codeOf v .second) e)
+
+only-elsewhere : (c : ℕ) (a : MoveAnswer) → verdictOf c a ≡ verdictOf c Elsewhere → a ≡ Elsewhere
+only-elsewhere c Open e = let z = ap (λ (v : Verdict). codeOf v .number) e in absurd (omega arith)
+only-elsewhere c Elsewhere e = refl
+only-elsewhere c (Shut s) e = let z = ap (λ (v : Verdict). codeOf v .number) e in absurd (omega arith)
 
 module _ (floor : List ℕ) (p : PlanNumbers) where
   -- cart c's row is not refused
@@ -82,6 +87,8 @@ module _ (floor : List ℕ) (p : PlanNumbers) where
             refused = sym (w .is);
             before = λ c l. cart-unending c
                 (accepted-is _ (w .first .before c (omega arith) l));
+            away = λ q. refused-start _ _ _ _ _ (startOf floor (w .at))
+                (only-elsewhere (w .at) _ (sym (w .is) ∙ q));
             lowest = λ k q. refused-step _ _ _ _ _ (startOf floor (w .at)) k
                 (only-shut (w .at) k _ (sym (w .is) ∙ q)) .1;
           }

@@ -7,9 +7,9 @@ pub mod Chain
 -- laws
 pub mod Firsts
 pub mod Round
+pub mod Judged
 pub mod Unending
 pub mod Linked
 pub mod FloorBytes
-pub mod Judged
 -- worked cases
 pub mod Examples

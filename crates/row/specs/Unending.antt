@@ -8,10 +8,11 @@ use lib.Dec.{eqb}
 use lib.ListN.{getD}
 use borrow.Author.Tests.{eq-eqb, eqb-true}
 use Rattle.row.specs.First.{FailsFirst}
-use Rattle.row.specs.Firsts.{all-pass, none-fails, first-fault}
+use Rattle.row.specs.Firsts.{all-pass, none-fails, first-fault, each-answer}
 use Rattle.row.specs.Lasso.{nextStep, stepOf}
 use Rattle.row.specs.Moves.{isOpen, openAt, lowestShut, judgedMoves}
 use Rattle.row.specs.Meaning.{Unending, Lowest}
+use Rattle.row.specs.Judged.{at-start}
 use Rattle.row.specs.Round.{step-low, step-below, step-next}
 use Rattle.row.specs.declared.MoveAnswer.{MoveAnswer}
 use Rattle.row.specs.declared.MoveAnswer.the-variants.{Open, Elsewhere, Shut}
@@ -63,6 +64,14 @@ module _ (lanes : List (List ℕ)) (class : ℕ) (row : List ℕ) (h l : ℕ) wh
       let here : stepOf h l k ≡ k = step-low h l k p in
       let then : stepOf h l (suc k) ≡ nextStep h l k = step-next h l some k ∙ ap (nextStep h l) here in
       ap₂ (λ (x y : ℕ). isOpen lanes class (getD row x 0) (getD row y 0)) (sym here) (sym then) ∙ w .open-at k)
+
+  -- 10: it begins elsewhere
+  pub refused-start : (start : ℕ) → judgedMoves lanes class start row h l ≡ Elsewhere → getD row 0 0 ≡ start → ⊥
+  unfolding lowestShut
+  refused-start start e q =
+      each-answer (openAt lanes class row h l) Shut (λ end. Open) h 0 (λ (a : MoveAnswer). a ≡ Elsewhere → ⊥)
+      (λ k u. let z : _≡_ {A = ℕ} 0 1 = cc in omega arith) (λ k u. let z : _≡_ {A = ℕ} 0 1 = cc in omega arith)
+      (sym (at-start lanes class row h l start q) ∙ e)
 
   -- 11: it begins at the start, and the step is the lowest
   pub refused-step : (start k : ℕ) → judgedMoves lanes class start row h l ≡ Shut k → (getD row 0 0 ≡ start) × Lowest lanes class row h l k
