@@ -2,7 +2,7 @@
 use Prim.Native.Nat.{ℕ, _≤_, _<_}
 use native.Mathlib.Omega.{arith}
 use mathlib.Core.Path.{_≡_, refl, sym, ap, ap₂, subst, _∙_}
-use mathlib.Core.Bool.{Bool, true, false, cond, _||_}
+use mathlib.Core.Bool.{Bool, true, false, cond}
 use mathlib.Core.Logic.{_⊎_, inl, inr, ⊎-elim, _↔_}
 use mathlib.Core.List.{List, [], _∷_, _++_}
 use lib.Dec.{eqb, ltb}
@@ -12,9 +12,9 @@ use borrow.Author.Tests.{eqb-false}
 use Rattle.refusal.specs.Codes.{refused, codeOf}
 use Rattle.refusal.specs.Faults.{either-false}
 use Rattle.refusal.specs.Given.{OneOf, Refusals, Done, accepts, writes, Given, readingFloor, readingPlan, writingFloor, writingPlan, checkingMoves, readingSheet, checkingPlan, movingOn, replacingRow}
-use Rattle.refusal.specs.Numbered.{numbered, zero-accepts, zero-writes, answered}
+use Rattle.refusal.specs.Numbered.{among, numbered, zero-accepts, zero-writes, answered}
 use Rattle.refusal.specs.Outcome.{Outcome, unchanged, written, Gives}
-use Rattle.refusal.specs.Held.{written-if}
+use Rattle.refusal.specs.Held.{about-floor, about-plan, written-if}
 use Rattle.refusal.specs.Stages.{isAccepted}
 use Rattle.refusal.specs.declared.Code.{Code}
 use Rattle.refusal.specs.declared.Refusal.{Refusal}
@@ -46,7 +46,8 @@ use Rattle.edit.specs.Moved.{moved, moveOn}
 use Rattle.edit.specs.Replaced.{replaceRow}
 use Rattle.edit.specs.Promises.{MovedOn, RowReplaced}
 use Rattle.plancheck.specs.Check.{checked}
-use Rattle.plancheck.specs.Promises.{Means, PlanChecked}
+use Rattle.plancheck.specs.Claims.{means-as}
+use Rattle.plancheck.specs.Promises.{PlanChecked}
 use Rattle.plancheck.specs.ShownClause.{shown-clause}
 use Rattle.controller.specs.Edge.{Coded, CodedOut, refusalIn, FloorReadCode, PlanReadCode, FloorWrittenCode, PlanWrittenCode, RulesReadCode, MovesCheckedCode, PlanCheckedCode, MovedOnCode, RowReplacedCode}
 
@@ -69,12 +70,6 @@ coded-as t ok v u e g = record { code = ap codeOf e; answered = answered t ok v 
 data Writes (before file : List ℕ) : Outcome → Type 0 where
   stays : (v : Verdict) → ((k : ℕ) → v ≡ Written k → ⊥) → Writes before file (unchanged v before)
   puts : (about : Refusal → Verdict) → ((r : Refusal) (k : ℕ) → about r ≡ Written k → ⊥) → Writes before file (written about file before)
-
-floor-apart : (r : Refusal) (k : ℕ) → AboutFloor r ≡ Written k → ⊥
-floor-apart r k e = let z : _≡_ {A = ℕ} 0 1 = cc in omega arith
-
-plan-apart : (r : Refusal) (k : ℕ) → AboutPlan r ≡ Written k → ⊥
-plan-apart r k e = let z : _≡_ {A = ℕ} 0 1 = cc in omega arith
 
 module _ (before file : List ℕ) where
   -- the outcome of putting the file, by whether the buffer is too short
@@ -152,8 +147,8 @@ unfolding writeFloor
 floor-writes n before = go (readFloor (floorBytes n))
   where
     go : (a : FloorAnswer) → Writes before (floorBytes n) (byReading a (floorBytes n) before)
-    go (FloorRefused r) = stays (AboutFloor r) (floor-apart r)
-    go (FloorAccepted f) = puts AboutFloor floor-apart
+    go (FloorRefused r) = stays (AboutFloor r) (about-floor r)
+    go (FloorAccepted f) = puts AboutFloor about-floor
 
 pub floor-written : (n : FloorNumbers) (before : List ℕ) (v : Verdict) (after : List ℕ) → FloorWritten n before v after → Given writingFloor v → (c : Code)
     → c ≡ codeOf v → FloorWrittenCode n before c after
@@ -173,12 +168,12 @@ unfolding writePlan
 plan-writes floor h rows before = on-floor (readFloor floor)
   where
     on-plan : (a : PlanAnswer) → Writes before (planBytes h rows) (numbers.byReading a (planBytes h rows) before)
-    on-plan (plan.accepted n) = puts AboutPlan plan-apart
-    on-plan (plan.rejected r) = stays (AboutPlan r) (plan-apart r)
+    on-plan (plan.accepted n) = puts AboutPlan about-plan
+    on-plan (plan.rejected r) = stays (AboutPlan r) (about-plan r)
 
     on-floor : (a : FloorAnswer) → Writes before (planBytes h rows) (byFloor a h rows before)
     on-floor (FloorAccepted f) = on-plan (readPlan f (planBytes h rows))
-    on-floor (FloorRefused r) = stays (AboutFloor r) (floor-apart r)
+    on-floor (FloorRefused r) = stays (AboutFloor r) (about-floor r)
 
 pub plan-written : (floor : List ℕ) (h : Head) (rows before : List ℕ) (v : Verdict) (after : List ℕ) → PlanWritten floor h rows before v after
     → Given writingPlan v → (c : Code) → c ≡ codeOf v → PlanWrittenCode floor h rows before c after
@@ -234,9 +229,9 @@ move-writes floor s k before = go (reading-cases (λ v. unchanged v before) (λ 
     go : ReadingCases (λ v. unchanged v before) (λ f p. written AboutPlan (planFile (moved k p)) before) floor s
         → (file : List ℕ) × Writes before file
         (afterReading (λ v. unchanged v before) (λ f p. written AboutPlan (planFile (moved k p)) before) floor s)
-    go (floor-refused r e) = ([], subst (Writes before []) (sym e) (stays (AboutFloor r) (floor-apart r)))
-    go (plan-refused r e) = ([], subst (Writes before []) (sym e) (stays (AboutPlan r) (plan-apart r)))
-    go (both-read f p w e) = (planFile (moved k p), subst (Writes before (planFile (moved k p))) (sym e) (puts AboutPlan plan-apart))
+    go (floor-refused r e) = ([], subst (Writes before []) (sym e) (stays (AboutFloor r) (about-floor r)))
+    go (plan-refused r e) = ([], subst (Writes before []) (sym e) (stays (AboutPlan r) (about-plan r)))
+    go (both-read f p w e) = (planFile (moved k p), subst (Writes before (planFile (moved k p))) (sym e) (puts AboutPlan about-plan))
 
 pub moved-on : (floor s : List ℕ) (k : ℕ) (before : List ℕ) (v : Verdict) (after : List ℕ) → MovedOn floor s k before v after → Given movingOn v
     → (c : Code) → c ≡ codeOf v → MovedOnCode floor s k before c after
@@ -265,34 +260,19 @@ row-replaced floor before cart row v after w g c q = subst (λ (x : Code). RowRe
 })
 
 ---- The check.
--- the same said by another fact that holds exactly if the first does
-means-by : (floor s sheet : List ℕ) (A B : Type 0) → (A → B) → (B → A) → Means floor s sheet A → Means floor s sheet B
-means-by floor s sheet A B on back w = record {
-  in-step = λ f p files none. (λ y. w .in-step f p files none .0 (back y), λ t. on (w .in-step f p files none .1 t));
-  kept = λ f p cs a. (λ y. w .kept f p cs a .0 (back y), λ t. on (w .kept f p cs a .1 t));
-  runs = λ y. w .runs (back y);
-  smaller = λ y. w .smaller (back y);
-  readable = λ y. w .readable (back y);
-}
-
--- m is one of these
-abbrev listed : ℕ → List ℕ → Bool
-listed m [] = false
-listed m (x ∷ xs) = eqb m x || listed m xs
-
-not-listed : (xs : List ℕ) (m n : ℕ) → listed m xs ≡ false → OneOf xs n → n ≡ m → ⊥
-not-listed [] m n e h q = h
-not-listed (x ∷ xs) m n e (inl h) q = eqb-false m x (either-false (eqb m x) (listed m xs) e .0) (sym q ∙ h)
-not-listed (x ∷ xs) m n e (inr h) q = not-listed xs m n (either-false (eqb m x) (listed m xs) e .1) h q
+not-among : (xs : List ℕ) (m n : ℕ) → among xs m ≡ false → OneOf xs n → n ≡ m → ⊥
+not-among [] m n e h q = h
+not-among (x ∷ xs) m n e (inl h) q = eqb-false m x (either-false (eqb m x) (among xs m) e .0) (sym q ∙ h)
+not-among (x ∷ xs) m n e (inr h) q = not-among xs m n (either-false (eqb m x) (among xs m) e .1) h q
 
 -- a number that only the sheet's refusals have
-by-number : (t : Refusals) (m : ℕ) → listed m (0 ∷ t .floor) ≡ false → listed m (t .plan) ≡ false → (v : Verdict) → Given t v → num v ≡ m
+of-number : (t : Refusals) (m : ℕ) → among (0 ∷ t .floor) m ≡ false → among (t .plan) m ≡ false → (v : Verdict) → Given t v → num v ≡ m
     → v ≡ AboutRules (refused m (codeOf v .first) (codeOf v .second))
-by-number t m f p Accepted g e = absurd (not-listed (0 ∷ t .floor) m 0 f (inl refl) e)
-by-number t m f p (Written k) g e = absurd (not-listed (0 ∷ t .floor) m 0 f (inl refl) e)
-by-number t m f p (AboutFloor r) g e = absurd (not-listed (0 ∷ t .floor) m (r .number) f (inr g) e)
-by-number t m f p (AboutPlan r) g e = absurd (not-listed (t .plan) m (r .number) p g e)
-by-number t m f p (AboutRules r) g e = ap (λ (n : ℕ). AboutRules (refused n (r .first) (r .second))) e
+of-number t m f p Accepted g e = absurd (not-among (0 ∷ t .floor) m 0 f (inl refl) e)
+of-number t m f p (Written k) g e = absurd (not-among (0 ∷ t .floor) m 0 f (inl refl) e)
+of-number t m f p (AboutFloor r) g e = absurd (not-among (0 ∷ t .floor) m (r .number) f (inr g) e)
+of-number t m f p (AboutPlan r) g e = absurd (not-among (t .plan) m (r .number) p g e)
+of-number t m f p (AboutRules r) g e = ap (λ (n : ℕ). AboutRules (refused n (r .first) (r .second))) e
 
 -- the file tells the case
 of-floor : (v : Verdict) → codeOf v .about ≡ 1 → v ≡ AboutFloor (refusalIn (codeOf v))
@@ -320,11 +300,11 @@ pub plan-checked : (floor s sheet : List ℕ) (v : Verdict) → PlanChecked floo
     → PlanCheckedCode floor s sheet c
 plan-checked floor s sheet v w g c q = subst (PlanCheckedCode floor s sheet) (sym q) (record {
   coded = coded-as checkingPlan refl v (checked floor s sheet) (w .verdict) g;
-  means = means-by floor s sheet (v ≡ Accepted) (num v ≡ 0) (λ e. ap num e) (zero-accepts checkingPlan refl refl v g) (w .means);
-  next-16 = λ e. w .next-16 (codeOf v .first) (codeOf v .second) (by-number checkingPlan 16 refl refl v g e);
-  fails-17 = λ e. w .fails-17 (codeOf v .first) (codeOf v .second) (by-number checkingPlan 17 refl refl v g e);
+  means = means-as floor s sheet (λ e. ap num e, zero-accepts checkingPlan refl refl v g) (w .means);
+  next-16 = λ e. w .next-16 (codeOf v .first) (codeOf v .second) (of-number checkingPlan 16 refl refl v g e);
+  fails-17 = λ e. w .fails-17 (codeOf v .first) (codeOf v .second) (of-number checkingPlan 17 refl refl v g e);
   shown = λ e cs a p picked. shown-clause floor s sheet v w cs a (codeOf v .first) (codeOf v .second)
-      (⊎-elim (λ x. inl (by-number checkingPlan 16 refl refl v g x)) (λ x. inr (by-number checkingPlan 17 refl refl v g x)) e) p picked;
+      (⊎-elim (λ x. inl (of-number checkingPlan 16 refl refl v g x)) (λ x. inr (of-number checkingPlan 17 refl refl v g x)) e) p picked;
   floor-refused = λ e. w .floor-refused (refusalIn (codeOf v)) (of-floor v e);
   plan-refused = λ e. w .plan-refused (refusalIn (codeOf v)) (of-plan v e);
   sheet-refused = λ e. w .sheet-refused (refusalIn (codeOf v)) (of-rules v e);
