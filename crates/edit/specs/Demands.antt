@@ -87,7 +87,8 @@ module _ (floor plan : List ℕ) (s : ℕ) (before : List ℕ) (v : Verdict) (af
       same = read-once floor plan (it .floor-is) f (it .numbers) p (it .read) r
 
       pub length-written : k ≡ fileLength f (moved s p)
-      length-written = it .size ∙ ap (λ (g : Floor). fileLength g (moved s (it .numbers))) (same .0) ∙ ap (λ (n : PlanNumbers). fileLength f (moved s n)) (same .1)
+      length-written =
+          it .size ∙ ap (λ (g : Floor). fileLength g (moved s (it .numbers))) (same .0) ∙ ap (λ (n : PlanNumbers). fileLength f (moved s n)) (same .1)
 
       pub goes-on : (q : PlanNumbers) × (readPlan f (take k after) ≡ accepted q) × GoesOn f p q s
       goes-on =

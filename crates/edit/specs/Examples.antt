@@ -113,4 +113,31 @@ pub worked :
     × (replaceRow [] [] 0 [] ≡ gives (AboutFloor (refused 7 0 0)) [])
     × (new 0 (plan 0 0 0 2) 1 (0 ∷ 0 ∷ []) ≡ refuses 9 16 0 (plan 0 0 0 2))
 unfolding computing
-worked = (refl, refl, refl, refl, refl, refl, refl, refl, refl, refl, refl, refl, refl, refl, refl, refl, refl, refl, refl, refl, refl, refl, refl, refl, refl, refl)
+worked = (
+  refl,
+  refl,
+  refl,
+  refl,
+  refl,
+  refl,
+  refl,
+  refl,
+  refl,
+  refl,
+  refl,
+  refl,
+  refl,
+  refl,
+  refl,
+  refl,
+  refl,
+  refl,
+  refl,
+  refl,
+  refl,
+  refl,
+  refl,
+  refl,
+  refl,
+  refl,
+)

@@ -56,7 +56,8 @@ module _ (floor : List ℕ) (f : Floor) (p : PlanNumbers) (c : ℕ) (row : List 
 
   verdict-given : Given replacingRow (replaceVerdict floor f p c row)
   verdict-given =
-      both-given replacingRow (movesVerdict floor f p) (cartRowVerdict floor f p c row) (carts-given replacingRow refl refl floor p (f .carts) 0) row-verdict-given
+      both-given replacingRow (movesVerdict floor f p) (cartRowVerdict floor f p c row)
+      (carts-given replacingRow refl refl floor p (f .carts) 0) row-verdict-given
 
 pub replacing-given : (floor plan : List ℕ) (c : ℕ) (row : List ℕ) → Given replacingRow (replaceRow floor plan c row .answer)
 unfolding replaceRow

@@ -66,7 +66,8 @@ module _ (floor plan : List ℕ) (v : Verdict) (w : MovesChecked floor plan v) w
   pub plan-refused : (f : Floor) (x : Refusal) → readFloor floor ≡ FloorAccepted f → readPlan f plan ≡ rejected x → v ≡ AboutPlan x
   unfolding checkedMoves afterReading
   plan-refused f x e q =
-      w .answer ∙ ap (λ (a : FloorAnswer). afterFloor (λ v. v) (movesVerdict floor) a plan) e ∙ ap (λ (a : PlanAnswer). afterPlan (λ v. v) (movesVerdict floor) f a) q
+      w .answer ∙ ap (λ (a : FloorAnswer). afterFloor (λ v. v) (movesVerdict floor) a plan) e
+      ∙ ap (λ (a : PlanAnswer). afterPlan (λ v. v) (movesVerdict floor) f a) q
 
   module _ (f : Floor) (p : PlanNumbers) (r : ReadAs floor plan f p) where
     -- accepted exactly if every cart goes on without end
@@ -86,7 +87,8 @@ module _ (floor plan : List ℕ) (v : Verdict) (w : MovesChecked floor plan v) w
       cart-is : first .cart ≡ c
       cart-is =
           same-cart (first .cart) c n k
-          (judgedMoves (lanesIn floor) (classOf floor (first .cart)) (startOf floor (first .cart)) (getD (p .rows) (first .cart) []) (p .head .steps) (p .head .stem))
+          (judgedMoves (lanesIn floor) (classOf floor (first .cart)) (startOf floor (first .cart)) (getD (p .rows) (first .cart) []) (p .head .steps)
+          (p .head .stem))
           (first .refused ∙ e)
 
       -- once floor and plan are read, a refusal names the first cart that is refused

@@ -30,7 +30,8 @@ module _ (t : Refusals) (done : t .done ≡ accepts) (numbers : allAmong (t .pla
   pub carts-given : (floor : List ℕ) (p : PlanNumbers) (n c : ℕ) → Given t (judgedCarts floor p n c)
   unfolding judgedCarts
   carts-given floor p n c =
-      each-answer (rowAccepted floor p) (rowVerdict floor p) (λ end. Accepted) n c (Given t) (λ k. row-given floor k (getD (p .rows) k []) (p .head .steps) (p .head .stem)) (λ end. done)
+      each-answer (rowAccepted floor p) (rowVerdict floor p) (λ end. Accepted) n c (Given t)
+      (λ k. row-given floor k (getD (p .rows) k []) (p .head .steps) (p .head .stem)) (λ end. done)
 
 pub moves-given : (floor plan : List ℕ) → Given checkingMoves (checkedMoves floor plan)
 unfolding checkedMoves

@@ -44,7 +44,8 @@ row-at-requires c κs = held-range _ _ _ (read-it (c .before .before .before .be
 returns-2 : tie.Need-returns-2
 returns-2 c =
     judged _ _ _ _ (c .before .before .before .before .before .before .before .before .read .result)
-    (read-it (c .before .before .before .before .before .before)) (c .before .judge-moves-and-row .result) (c .before .judge-moves-and-row .ensures) _ (c .row-at .ensures)
+    (read-it (c .before .before .before .before .before .before))
+    (c .before .judge-moves-and-row .result) (c .before .judge-moves-and-row .ensures) _ (c .row-at .ensures)
 
 pub judge-spec : {M : Type 1} → statement M
 judge-spec =

@@ -57,13 +57,19 @@ lane-at-requires : tie.Need-lane-at-requires Inv-loop μ-loop
 lane-at-requires c κs = let v = c .before .before .before .before .before .before .pre .0 .valid in omega (arith, room c, v .few-places, v .few-lanes)
 
 add-at : tie.Need-add-at Inv-loop μ-loop
-add-at c = let v = c .before .before .before .before .before .before .before .pre .0 .valid in omega (arith, c .lane-at .ensures, room (c .before), v .few-places, v .few-lanes)
+add-at c =
+    let v = c .before .before .before .before .before .before .before .pre .0 .valid in
+    omega (arith, c .lane-at .ensures, room (c .before), v .few-places, v .few-lanes)
 
 add-opens-to : tie.Need-add-opens-to Inv-loop μ-loop
-add-opens-to c = let v = c .before .before .before .before .before .before .before .pre .0 .valid in omega (arith, c .lane-at .ensures, room (c .before), v .few-places, v .few-lanes)
+add-opens-to c =
+    let v = c .before .before .before .before .before .before .before .pre .0 .valid in
+    omega (arith, c .lane-at .ensures, room (c .before), v .few-places, v .few-lanes)
 
 shared-slice-read-opens-to : tie.Need-shared-slice-read-opens-to Inv-loop μ-loop
-shared-slice-read-opens-to c = omega (arith, c .before .lane-at .ensures, room (c .before .before), file-length _ _ (c .before .before .before .before .before .before .before .before .pre .0))
+shared-slice-read-opens-to c =
+    let long = file-length _ _ (c .before .before .before .before .before .before .before .before .pre .0) in
+    omega (arith, c .before .lane-at .ensures, room (c .before .before))
 
 add-opens-to-2 : tie.Need-add-opens-to-2 Inv-loop μ-loop
 add-opens-to-2 c =
@@ -72,7 +78,8 @@ add-opens-to-2 c =
 
 shared-slice-read-opens-to-2 : tie.Need-shared-slice-read-opens-to-2 Inv-loop μ-loop
 shared-slice-read-opens-to-2 c =
-    omega (arith, c .before .before .lane-at .ensures, room (c .before .before .before), file-length _ _ (c .before .before .before .before .before .before .before .before .before .pre .0))
+    let long = file-length _ _ (c .before .before .before .before .before .before .before .before .before .pre .0) in
+    omega (arith, c .before .before .lane-at .ensures, room (c .before .before .before))
 
 opens-to-requires : tie.Need-opens-to-requires Inv-loop μ-loop
 opens-to-requires c κs = search needs
@@ -80,18 +87,25 @@ opens-to-requires c κs = search needs
 returns : tie.Need-returns Inv-loop μ-loop
 returns c =
     let a = c .before .before .before .before .before .before .before .before .before .before .before .args in
-    found (a .s .now) (a .next .now) (a .f) (c .before .before .before .before .before .before .before .before .before .before .before .pre .0) (a .class) (a .from) (a .to)
-    (c .before .before .before .before .before .before .loop .k) (c .before .before .before .before .before .before .loop .inv) (c .before .before .before .before .before .loop-test .taken)
-    (c .before .before .before .before .lane-at .result) (c .before .before .before .before .lane-at .ensures) (c .before .opens-to .result) (c .before .opens-to .ensures) (c .if1 .taken)
+    let l = c .before .before .before .before .before .before .loop in
+    found (a .s .now) (a .next .now) (a .f) (c .before .before .before .before .before .before .before .before .before .before .before .pre .0)
+    (a .class) (a .from) (a .to)
+    (l .k) (l .inv) (c .before .before .before .before .before .loop-test .taken)
+    (c .before .before .before .before .lane-at .result) (c .before .before .before .before .lane-at .ensures)
+    (c .before .opens-to .result) (c .before .opens-to .ensures) (c .if1 .taken)
 
 sub-wide16 : tie.Need-sub-wide16 Inv-loop μ-loop
 sub-wide16 c = omega (arith, c .before .before .before .before .before .loop-test .taken)
 
 mul-wide16-2 : tie.Need-mul-wide16-2 Inv-loop μ-loop
-mul-wide16-2 c = omega (arith, room (c .before .before .before .before .before), c .before .before .before .before .before .before .before .before .before .before .before .pre .0 .valid .few-lanes)
+mul-wide16-2 c =
+    let v = c .before .before .before .before .before .before .before .before .before .before .before .pre .0 .valid in
+    omega (arith, room (c .before .before .before .before .before), v .few-lanes)
 
 element-copy-out-wide16-2 : tie.Need-element-copy-out-wide16-2 Inv-loop μ-loop
-element-copy-out-wide16-2 c = omega (arith, room (c .before .before .before .before .before), c .before .before .before .before .before .before .before .before .before .before .before .pre .0 .valid .few-lanes)
+element-copy-out-wide16-2 c =
+    let v = c .before .before .before .before .before .before .before .before .before .before .before .pre .0 .valid in
+    omega (arith, room (c .before .before .before .before .before), v .few-lanes)
 
 wide16-requires-2 : tie.Need-wide16-requires-2 Inv-loop μ-loop
 wide16-requires-2 c κs = search needs
@@ -99,15 +113,20 @@ wide16-requires-2 c κs = search needs
 loop-less : tie.Need-loop-less Inv-loop μ-loop
 loop-less c =
     let a = c .before .before .before .before .before .before .before .before .before .before .before .before .before .args in
-    falls (a .s .now) (a .next .now) (a .f) (c .before .before .before .before .before .before .before .before .before .before .before .before .before .pre .0) (a .class) (a .from) (a .to)
-    (c .before .before .before .before .before .before .before .before .loop .k) (c .before .before .before .before .before .before .before .before .loop .inv) (c .before .before .before .before .before .before .before .loop-test .taken) (c .wide162 .result) (c .wide162 .ensures)
+    let l = c .before .before .before .before .before .before .before .before .loop in
+    falls (a .s .now) (a .next .now) (a .f) (c .before .before .before .before .before .before .before .before .before .before .before .before .before .pre .0)
+    (a .class) (a .from) (a .to)
+    (l .k) (l .inv) (c .before .before .before .before .before .before .before .loop-test .taken) (c .wide162 .result) (c .wide162 .ensures)
 
 loop-again : tie.Need-loop-again Inv-loop μ-loop
 loop-again c =
     let a = c .before .before .before .before .before .before .before .before .before .before .before .before .before .args in
-    again (a .s .now) (a .next .now) (a .f) (c .before .before .before .before .before .before .before .before .before .before .before .before .before .pre .0) (a .class) (a .from) (a .to)
-    (c .before .before .before .before .before .before .before .before .loop .k) (c .before .before .before .before .before .before .before .before .loop .inv) (c .before .before .before .before .before .before .before .loop-test .taken)
-    (c .before .before .before .before .before .before .lane-at .result) (c .before .before .before .before .before .before .lane-at .ensures) (c .before .before .before .opens-to .result) (c .before .before .before .opens-to .ensures)
+    let l = c .before .before .before .before .before .before .before .before .loop in
+    again (a .s .now) (a .next .now) (a .f) (c .before .before .before .before .before .before .before .before .before .before .before .before .before .pre .0)
+    (a .class) (a .from) (a .to)
+    (l .k) (l .inv) (c .before .before .before .before .before .before .before .loop-test .taken)
+    (c .before .before .before .before .before .before .lane-at .result) (c .before .before .before .before .before .before .lane-at .ensures)
+    (c .before .before .before .opens-to .result) (c .before .before .before .opens-to .ensures)
     (c .before .before .if1 .left) (c .wide162 .result) (c .wide162 .ensures)
 
 returns-2 : tie.Need-returns-2 Inv-loop μ-loop
