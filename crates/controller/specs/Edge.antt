@@ -39,14 +39,14 @@ use Rattle.plancheck.specs.Check.{checked}
 use Rattle.plancheck.specs.Meaning.{IsLineOf, Next16, Fails17, PlanRefused, SheetRefused}
 use Rattle.plancheck.specs.Promises.{Means}
 
+-- the refusal that four numbers tell
+abbrev pub refusalIn : Code → Refusal
+refusalIn c = record { number = c .number; first = c .first; second = c .second }
+
 -- the four numbers of an operation's answer, which is one that document 01 names for it
 pub record Coded (t : Refusals) (v : Verdict) (c : Code) : Type 0 where
   pub code : c ≡ codeOf v
   pub answered : Answered t c
-
--- the refusal that four numbers tell
-abbrev pub refusalIn : Code → Refusal
-refusalIn c = record { number = c .number; first = c .first; second = c .second }
 
 -- the same with a lent buffer: every byte afterwards, and a refusal changes none
 pub record CodedOut (t : Refusals) (o : Outcome) (before : List ℕ) (c : Code) (after : List ℕ) : Type 0 where

@@ -1,4 +1,4 @@
--- definitions
+-- promises
 pub mod Edge
 -- laws
 pub mod Told
