@@ -142,14 +142,32 @@ static void check_moves(void)
           "plan unchanged by the check");
 }
 
-/* The paper's floor without its last lane, from place 1 to itself: 49 bytes. */
-static void check_shut_move(void)
+/* The paper's floor without its lanes from a place to itself, 42 bytes: carts park. Then without the lane from place 1 to 0 too. */
+static void check_parked(void)
 {
-    uint8_t floor[FLOOR_LEN - 7];
+    static const uint8_t away[4] = {0, 0, 0, 1}, parked[4] = {0, 1, 1, 1};
+    static const uint8_t sheet[] = "F [m1,2]\n";
+    uint8_t floor[FLOOR_LEN - 14], plan[PLAN_LEN];
 
-    memcpy(floor, floor_bytes, 37);
-    memcpy(floor + 37, floor_bytes + 44, 12);
-    check_numbers(cartplan_check_moves(floor, sizeof floor, plan_bytes, PLAN_LEN), 2, 11, 0, 1, "no lane to stand on");
+    memcpy(floor, floor_bytes, 30);
+    memcpy(floor + 30, floor_bytes + 44, 12);
+    memcpy(plan, plan_bytes, PLAN_LEN);
+    check_verdict(cartplan_check_moves(floor, sizeof floor, plan, PLAN_LEN), 0, 0, 0, "carts park");
+    check_verdict(cartplan_check(floor, sizeof floor, plan, PLAN_LEN, sheet, sizeof sheet - 1), 0, 0, 0, "checked, carts park");
+    check_verdict(cartplan_replace_row(floor, sizeof floor, plan, PLAN_LEN, 1, parked, 4), 0, 0, 0, "a row that parks");
+    check(memcmp(plan, plan_bytes, 22) == 0 && memcmp(plan + 22, parked, 4) == 0, "the parked row's bytes alone");
+
+    memcpy(floor + 23, floor_bytes + 44, 12);
+    check_numbers(cartplan_check_moves(floor, 35, plan, PLAN_LEN), 2, 11, 0, 2, "no lane back");
+    plan[6] = 3; /* the lap is the last step alone */
+    plan[17] = 1;
+    check_verdict(cartplan_check_moves(floor, 35, plan, PLAN_LEN), 0, 0, 0, "parked by the closing move");
+    plan[6] = 0;
+    memset(plan + 14, 0, 4);
+    memset(plan + 22, 0, 4);
+    check_numbers(cartplan_replace_row(floor, 35, plan, PLAN_LEN, 1, away, 4), 2, 11, 1, 3, "a row that does not come back");
+    check_numbers(cartplan_check(floor, 35, plan_bytes, PLAN_LEN, sheet, sizeof sheet - 1), 2, 11, 0, 2, "checked, no lane back");
+    check_verdict(cartplan_check_moves(floor, 35, plan, PLAN_LEN), 0, 0, 0, "all parked");
 }
 
 static void check_moved_on(void)
@@ -295,7 +313,7 @@ int main(void)
     check_floor_written();
     check_plan_written();
     check_moves();
-    check_shut_move();
+    check_parked();
     check_moved_on();
     check_replaced();
     check_sheet();

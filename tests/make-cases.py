@@ -2,7 +2,7 @@
 """Writes the data sets and the expected output of the programs crates/cases and crates/cartcheck.
 
 Run from the repository's root: python3 tests/make-cases.py
-It prints each case's number, name and verdict. The verdicts are written by hand from document 01; no reader is asked.
+It prints each case's number, name and verdict. The verdicts are written by hand from documents 01 and 02; no reader is asked.
 With --list it writes nothing and prints, for each file and each number that its refusals have, the data sets that give it.
 """
 import pathlib
@@ -269,12 +269,13 @@ def done(result, room=None):
     return f"done {len(result)}", result + lent(rest)
 
 
-# Three places in a ring for class 1, standing still on place 2 only; one cart that starts on place 1.
+# Three places in a ring for class 1, and a lane from place 2 to itself; one cart that starts on place 1.
 RING = place() * 3 + lane(0, 1, 2) + lane(1, 2, 2) + lane(2, 0, 2) + lane(2, 2, 2) + cart(1, 1)
 
 # The last of everything: 256 places, 1,024 lanes of which the last is the one needed, 32 carts, 64 steps.
-FULL = PLACES_256 + lane(0, 1) * 1023 + lane(255, 255, 128) + cart(7, 255) * 32
-FULL_PLAN = head(64, 63, 16) + row(*[255] * 64) * 32
+FULL = PLACES_256 + lane(0, 1) * 1023 + lane(254, 255, 128) + cart(7, 254) * 32
+FULL_ROW = [254] + [255] * 63
+FULL_PLAN = head(64, 63, 16) + row(*FULL_ROW) * 32
 
 SIX = head(6, 2, 7) + row(0, 1, 2, 3, 4, 5)
 SIX_FLOOR = place() * 6 + cart(0, 0)
@@ -296,12 +297,12 @@ EDITS = [
     ("second move shut", RING, head(3) + row(1, 2, 1), MOVES, "refused plan 11 0 1"),
     ("closing move shut, l 0", RING, head(2) + row(1, 2), MOVES, "refused plan 11 0 1"),
     ("closing move shut, l 1", RING, head(3, 1) + row(1, 2, 0), MOVES, "refused plan 11 0 2"),
-    ("standing still without a lane", RING, head(1) + row(1), MOVES, "refused plan 11 0 0"),
+    ("parked without a lane", RING, head(1) + row(1), MOVES, "accepted"),
     ("the lane is for another class", RING[:-2] + bytes([0, 1]), head(3) + row(1, 2, 0), MOVES, "refused plan 11 0 0"),
-    ("class 7 by the highest bit", PLACES + lane(0, 0, 128) + cart(7, 0), head(1) + row(0), MOVES, "accepted"),
-    ("class 7, all bits but the highest", PLACES + lane(0, 0, 127) + cart(7, 0), head(1) + row(0), MOVES,
+    ("class 7 by the highest bit", PLACES + lane(0, 1, 128) + cart(7, 0), head(2, 1) + row(0, 1), MOVES, "accepted"),
+    ("class 7, all bits but the highest", PLACES + lane(0, 1, 127) + cart(7, 0), head(2, 1) + row(0, 1), MOVES,
      "refused plan 11 0 0"),
-    ("either of two equal lanes opens it", PLACES + lane(0, 0, 1) + lane(0, 0, 2) + cart(1, 0), head(1) + row(0), MOVES,
+    ("either of two equal lanes opens it", PLACES + lane(0, 1, 1) + lane(0, 1, 2) + cart(1, 0), head(2, 1) + row(0, 1), MOVES,
      "accepted"),
     ("a lane the other way round", PLACES + lane(1, 0) + cart(0, 0), head(2) + row(0, 1), MOVES, "refused plan 11 0 0"),
     ("cart 0 shut before cart 1 begins elsewhere", FLOOR[:16] + lane(0, 1) + CARTS, head(2) + row(0, 1) + row(1, 0), MOVES,
@@ -332,7 +333,7 @@ EDITS = [
     # Replacing a row.
     ("second row replaced", FLOOR, PLAN, replace(1, 0, 1, 0, 1), "accepted", head(4) + row(0, 1, 1, 0) + row(0, 1, 0, 1)),
     ("first row replaced by itself", FLOOR, PLAN, replace(0, 0, 1, 1, 0), "accepted", PLAN),
-    ("32nd row replaced by itself", FULL, FULL_PLAN, replace(31, *[255] * 64), "accepted", FULL_PLAN),
+    ("32nd row replaced by itself", FULL, FULL_PLAN, replace(31, *FULL_ROW), "accepted", FULL_PLAN),
     ("no cart 2 of two", FLOOR, PLAN, replace(2, 0, 1, 1, 0), "refused plan 19 2 0", PLAN),
     ("no cart 4,294,967,295", FLOOR, PLAN, replace(4294967295), "refused plan 19 4294967295 0", PLAN),
     ("no cart 256, 0 but for the second byte", FLOOR, PLAN, replace(256, 0, 1, 1, 0), "refused plan 19 256 0", PLAN),
@@ -423,10 +424,9 @@ CHECKS = [
      "refused plan 7 18 0"),
     ("plan before sheet", FLOOR, PLAN[:-1], b"", "refused plan 2 18 0"),
     ("10 before an empty sheet", FLOOR, head(1) + row(0) + row(1), b"", "refused plan 10 1 0"),
-    ("11 before a sheet's 13", PLACES + LANES[:7] + CARTS, PLAN, sheet("?"), "refused plan 11 0 1"),
-    ("11 before 16", PLACES + LANES[:14] + CARTS, drifting(1), sheet("X true"), "refused plan 11 0 1"),
-    ("closing move before 17", PLACES + lane(0, 1) + lane(1, 1) + CARTS, pair(2, 0, 0, 0, 1), sheet("!true"),
-     "refused plan 11 0 1"),
+    ("11 before a sheet's 13", PLACES + LANES[:7] + CARTS, PLAN, sheet("?"), "refused plan 11 0 2"),
+    ("11 before 16", PLACES + LANES[:7] + CARTS, drifting(1), sheet("X true"), "refused plan 11 0 2"),
+    ("closing move before 17", PLACES + lane(0, 1) + CARTS, pair(2, 0, 0, 0, 1), sheet("!true"), "refused plan 11 0 1"),
     ("a sheet's 13 in the second line before 16 in the first", FLOOR, drifting(1), sheet("X true", "?"),
      "refused rules 13 7 0"),
     ("a sheet's 15 in the second line before 17 in the first", FLOOR, PLAN, sheet("!true", "[m32,1]"),
@@ -625,8 +625,49 @@ SHOWN = [
     ("shown: nothing for 13", FLOOR, PLAN, sheet("true", "?"), "refused rules 13 5 0", ""),
     ("shown: nothing for 15, whose offset is a line's number", FLOOR, PLAN, sheet("[m32,1]", "true", "true"), "refused rules 15 2 0", ""),
     ("shown: nothing for 7", FLOOR, PLAN, b"", "refused rules 7 0 0", ""),
-    ("shown: nothing for the plan's 11", PLACES + LANES[:7] + CARTS, PLAN, sheet("true", "true"), "refused plan 11 0 1", ""),
+    ("shown: nothing for the plan's 11", PLACES + LANES[:7] + CARTS, PLAN, sheet("true", "true"), "refused plan 11 0 2", ""),
     ("shown: nothing for the floor's 7", PLACES, PLAN, sheet("true"), "refused floor 7 16 0", ""),
+]
+
+# Document 02, 1): a cart may park on any place. Two places without a lane; document 01's floor without its lanes from a place to itself.
+NO_LANES = PLACES + CARTS
+BARE = PLACES + LANES[:14] + CARTS
+
+# As EDITS.
+PARKED = [
+    ("parked: moves of document 01's plan", BARE, PLAN, MOVES, "accepted"),
+    ("parked: no lane, h 1", NO_LANES, head(1) + row(0) * 2, MOVES, "accepted"),
+    ("parked: no lane, the lap all steps", NO_LANES, pair(3, 0, 0, 0, 0, 0), MOVES, "accepted"),
+    ("parked: class 7 on the last place, no lane", PLACES + cart(7, 1), head(2) + row(1, 1), MOVES, "accepted"),
+    ("parked: a lane to itself for the other classes", PLACES + lane(0, 0, 253) + cart(1, 0), head(1) + row(0), MOVES, "accepted"),
+    ("parked: a lane to itself for no class", PLACES + lane(0, 0, 0) + cart(1, 0), head(1) + row(0), MOVES, "accepted"),
+    ("parked: lanes away for the class alone", PLACES + lane(0, 1, 2) + cart(1, 0), head(2) + row(0, 0), MOVES, "accepted"),
+    ("parked: on another place than the start", NO_LANES, head(1) + row(0) + row(1), MOVES, "refused plan 10 1 0"),
+    ("parked: by the closing move, l = h - 1", RING, head(3, 2) + row(1, 2, 0), MOVES, "accepted"),
+    ("parked: by the closing move, l = h - 2", RING, head(3, 1) + row(1, 2, 2), MOVES, "accepted"),
+    ("parked: but the closing move is shut", RING, head(4) + row(1, 1, 2, 2), MOVES, "refused plan 11 0 3"),
+    ("parked: then a shut move", NO_LANES, pair(4, 3, 0, 0, 0, 1, 1), MOVES, "refused plan 11 0 1"),
+    ("parked: the first cart; the second is shut", NO_LANES, head(2, 1) + row(0, 0) + row(0, 1), MOVES, "refused plan 11 1 0"),
+    ("parked: lanes to themselves open no other move", PLACES + lane(0, 0) + lane(1, 1) + CARTS, pair(2, 1, 0, 0, 1), MOVES,
+     "refused plan 11 0 0"),
+    ("parked: the 32nd cart of class 7 on place 255, 1,024 lanes that leave it", PLACES_256 + lane(255, 0, 127) * 1024 + cart(7, 255) * 32,
+     head(64) + row(*[255] * 64) * 32, MOVES, "accepted"),
+    ("parked: moved on", NO_LANES, pair(2, 1, 3, 0, 0), move_on(1), lent(20), *done(pair(1, 0, 3, 0))),
+    ("parked: a row replaced by itself", NO_LANES, pair(2, 0, 0, 0, 0), replace(1, 0, 0), "accepted", pair(2, 0, 0, 0, 0)),
+    ("parked: a row that parks for one that goes", BARE, pair(2, 0, 0, 0, 1), replace(0, 0, 0), "accepted",
+     head(2) + row(0, 0) + row(0, 1)),
+    ("parked: a row that goes for one that parks", NO_LANES, pair(2, 0, 0, 0, 0), replace(1, 0, 1), "refused plan 11 1 0",
+     pair(2, 0, 0, 0, 0)),
+    ("parked: a row that parks elsewhere", NO_LANES, pair(2, 0, 0, 0, 0), replace(1, 1, 1), "refused plan 10 1 0",
+     pair(2, 0, 0, 0, 0)),
+    ("parked: the old plan's 11 before a row that parks", NO_LANES, pair(2, 1, 0, 0, 1), replace(0, 0, 0), "refused plan 11 0 0",
+     pair(2, 1, 0, 0, 1)),
+]
+
+# As CHECKS: document 01's table, the same verdicts; and the order of refusals.
+PARKED_CHECKS = [(f"parked: {name}", BARE, *rest) for name, _, *rest in CHECKS[:12]] + [
+    ("parked: 11 before 17", NO_LANES, pair(3, 2, 0, 0, 0, 1), sheet("!true"), "refused plan 11 0 1"),
+    ("parked: true in every run", NO_LANES, pair(1, 0, 16, 0), sheet("G [m0,2]"), "accepted"),
 ]
 
 # The numbers that each file's refusals have. No task writes a floor, so 18 is about the plan alone.
@@ -639,20 +680,32 @@ def write(folder, name, content):
         (folder / name).write_bytes(content)
 
 
+def edit_set(name, floor, plan, task, *rest):
+    files = {"floor": floor, "plan": plan, "task": task}
+    if task[0] == 2:
+        files["out"], *rest = rest
+    verdict, *after = rest
+    return name, files, " ".join([verdict + ":" * len(after), *(str(b) for left in after for b in left)])
+
+
+def check_set(name, floor, plan, rules, verdict):
+    return name, {"floor": floor, "plan": plan, "rules": rules, "task": CHECK}, verdict
+
+
 def data_sets():
     """Name, files by their names, and the line due for each case."""
     for name, floor, plan, verdict in CASES:
         yield name, {"floor": floor, "plan": plan}, verdict
-    for name, floor, plan, task, *rest in EDITS:
-        files = {"floor": floor, "plan": plan, "task": task}
-        if task[0] == 2:
-            files["out"] = rest.pop(0)
-        verdict, *after = rest
-        yield name, files, " ".join([verdict + ":" * len(after), *(str(b) for left in after for b in left)])
-    for name, floor, plan, rules, verdict in CHECKS:
-        yield name, {"floor": floor, "plan": plan, "rules": rules, "task": CHECK}, verdict
+    for case in EDITS:
+        yield edit_set(*case)
+    for case in CHECKS:
+        yield check_set(*case)
     for name, floor, plan, rules, verdict, part in SHOWN:
         yield name, {"floor": floor, "plan": plan, "rules": rules, "task": SHOW}, f'{verdict}: "{part}"'
+    for case in PARKED:
+        yield edit_set(*case)
+    for case in PARKED_CHECKS:
+        yield check_set(*case)
 
 
 def giving(sets, file, number):

@@ -210,43 +210,44 @@ fn replacing_order() -> Vec<Limit> {
 
 /// New rows for a cart of class 2, h 3 and l 1.
 fn replacing_moves() -> Vec<Limit> {
-    let lanes = [[0, 1, 4], [1, 2, 5], [2, 1, 255], [1, 1, 4], [2, 3, 4]];
-    let lanes = [&lanes[..], &[[3, 2, 251], [3, 3, 0], [3, 3, 4]]].concat();
+    let lanes = [[0, 1, 4], [1, 2, 5], [2, 1, 255], [2, 2, 251], [2, 3, 4], [3, 2, 251]];
     let floor = floor(4, &lanes, &[[2, 0]]);
     let old = plan(1, 16, &[&[0, 1, 2]]);
     let case = |name: &'static str, row: &[u8], due: Result<&[u8], Verdict>| {
         replace(name, [&floor, &old], 0, row, due)
     };
     let stays = plan(1, 16, &[&[0, 1, 1]]);
+    let parked = plan(1, 16, &[&[0, 0, 0]]);
     vec![
         case("the old moves", &[0, 1, 2], Ok(&old)),
-        case("standing still", &[0, 1, 1], Ok(&stays)),
+        case("parked from step 1 on", &[0, 1, 1], Ok(&stays)),
+        case("parked from step 0 on", &[0, 0, 0], Ok(&parked)),
         case("no lane at step 0", &[0, 2, 1], Err([2, 11, 0, 0])),
-        case("no standing still at 0", &[0, 0, 0], Err([2, 11, 0, 0])),
         case("no lane at step 1", &[0, 1, 3], Err([2, 11, 0, 1])),
+        case("parked, no lane at step 1", &[0, 0, 2], Err([2, 11, 0, 1])),
+        case("parked elsewhere", &[2, 2, 2], Err([2, 10, 0, 0])),
         case("no lane back to l", &[0, 1, 0], Err([2, 11, 0, 1])),
     ]
 }
 
-/// Only the closing move is shut to the new row, for each first step of the lap.
+/// Only the closing move is shut to the new row, but where the lap is its last step alone.
 fn replacing_closing() -> Vec<Limit> {
-    let lanes = [[0, 1, 2], [1, 2, 3], [2, 0, 2], [2, 1, 2], [2, 2, 2]];
-    let lanes = [&lanes[..], &[[1, 3, 2], [0, 3, 2]]].concat();
+    let lanes = [[0, 1, 2], [1, 2, 3], [2, 0, 2], [2, 1, 2], [1, 3, 2], [0, 3, 2], [3, 3, 253]];
     let floor = floor(4, &lanes, &[[1, 0]]);
-    let case = |name: &'static str, l: u8, row: &[u8]| {
+    let case = |name: &'static str, l: u8, due: Result<&[u8], Verdict>| {
         let old = plan(l, 0, &[&[0, 1, 2]]);
-        replace(name, [&floor, &old], 0, row, Err([2, 11, 0, 2]))
+        replace(name, [&floor, &old], 0, &[0, 1, 3], due)
     };
     vec![
-        case("no closing move to 0", 0, &[0, 1, 3]),
-        case("no closing move to 1", 1, &[0, 1, 3]),
-        case("no closing move to 2", 2, &[0, 1, 3]),
+        case("no closing move to 0", 0, Err([2, 11, 0, 2])),
+        case("no closing move to 1", 1, Err([2, 11, 0, 2])),
+        case("parked by the closing move", 2, Ok(&plan(2, 0, &[&[0, 1, 3]]))),
     ]
 }
 
 /// The last of 32 rows of 64 steps, with place 255.
 fn replacing_full() -> Vec<Limit> {
-    let lanes = [[0, 0, 128], [0, 255, 128], [255, 0, 128]];
+    let lanes = [[0, 255, 128], [255, 0, 128]];
     let floor = floor(256, &lanes, &[[7, 0]; 32]);
     let mut rows = [&[0; 64][..]; 32];
     let old = plan(0, 0, &rows);
@@ -257,13 +258,17 @@ fn replacing_full() -> Vec<Limit> {
     rows.swap(0, 31);
     let first = plan(0, 0, &rows);
     let files = [&floor[..], &old];
-    let stands = [&[0; 62][..], &[255; 2]].concat();
-    let shut = Err([2, 11, 31, 62]);
+    let parks = [&[0; 62][..], &[255; 2]].concat();
+    let strays = [&[0; 62][..], &[254; 2]].concat();
+    rows = [&[0; 64]; 32];
+    rows[31] = &parks;
+    let parked = plan(0, 0, &rows);
     vec![
         replace("last of 32 rows", files, 31, &row, Ok(&last)),
         replace("first of 32 rows", files, 0, &row, Ok(&first)),
         replace("row of a 33rd cart", files, 32, &row, Err([2, 19, 32, 0])),
-        replace("place 255 twice", files, 31, &stands, shut),
+        replace("place 255 twice", files, 31, &parks, Ok(&parked)),
+        replace("place 254 twice", files, 31, &strays, Err([2, 11, 31, 61])),
     ]
 }
 

@@ -1,12 +1,12 @@
-//! Checking moves, moving a plan on and replacing a row, straight from document 01. Slow and plain
+//! Checking moves, moving a plan on and replacing a row, straight from documents 01 and 02. Slow and plain
 //! on purpose, as reference.rs is; it shares nothing with the library.
 
 use crate::reference::{self, refuse_with, Answer, Floor, Plan, Refusal, PLAN};
 
-/// Whether some lane leads from one place to the other and is open to the class.
+/// Whether the cart stays on its place, or some lane leads to the other and is open to the class.
 fn is_open(floor: &Floor, class: u8, from: u8, to: u8) -> bool {
     let opens = |lane: &[u8]| lane[0] == from && lane[1] == to && (lane[2] >> class) % 2 == 1;
-    floor.lanes.chunks(3).any(opens)
+    from == to || floor.lanes.chunks(3).any(opens)
 }
 
 /// Judges a row as the cart's: 10, then 11 for each step in turn. After the last step comes `l`.

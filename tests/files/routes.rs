@@ -42,7 +42,7 @@ fn step(random: &mut Random, h: usize) -> usize {
     random.pick(&[0, h - 1, h - 1, any, any])
 }
 
-/// A row from `start` over places of the pool; standing still is frequent.
+/// A row from `start` over places of the pool; parking is frequent.
 fn row(random: &mut Random, start: u8, h: u16, pool: &[u8]) -> Vec<u8> {
     let mut row = vec![start];
     for _ in 1..h {
@@ -88,11 +88,15 @@ fn outline(random: &mut Random) -> (Floor, Plan) {
     (floor, Plan { h, l, d, rows })
 }
 
-/// A lane for each pair of places, open to the classes that need it.
-fn needed_lanes(moves: &[Move]) -> Vec<[u8; 3]> {
+/// A lane for each pair of places, open to the classes that need it. On most floors parked carts have none; on some their
+/// places have lanes to themselves too, which change nothing.
+fn needed_lanes(random: &mut Random, moves: &[Move]) -> Vec<[u8; 3]> {
     let mut classes: BTreeMap<(u8, u8), u8> = BTreeMap::new();
+    let self_lanes = random.percent(20);
     for (from, to, class) in moves {
-        *classes.entry((*from, *to)).or_default() |= 1 << class;
+        if from != to || self_lanes {
+            *classes.entry((*from, *to)).or_default() |= 1 << class;
+        }
     }
     let lane = |((from, to), classes)| [from, to, classes];
     classes.into_iter().map(lane).collect()
@@ -142,7 +146,7 @@ fn shuffle(random: &mut Random, lanes: &mut [[u8; 3]]) {
 
 /// All lanes of the floor: those for the moves, and others that change nothing about them.
 fn lanes(random: &mut Random, moves: &[Move], places: usize, pool: &[u8]) -> Vec<u8> {
-    let mut lanes = needed_lanes(moves);
+    let mut lanes = needed_lanes(random, moves);
     if !lanes.is_empty() {
         vary_lanes(random, &mut lanes);
     }

@@ -1,4 +1,4 @@
-//! Document 01's own cases and the settled readings, for both checkers.
+//! The cases of documents 01 and 02 and the settled readings, for both checkers.
 
 use crate::check;
 use crate::library;
@@ -7,9 +7,14 @@ use crate::verdict::{Refusal, Verdict, PLAN, RULES};
 pub const FLOOR: [u8; 56] = [
     4, 0, 1, 0, 1, 0, 0, 0, 4, 0, 1, 0, 2, 0, 0, 0, // places with m0, with m1
     3, 0, 2, 0, 0, 1, 255, 3, 0, 2, 0, 1, 0, 255, // lanes between them
-    3, 0, 2, 0, 0, 0, 255, 3, 0, 2, 0, 1, 1, 255, // lanes for standing still
+    3, 0, 2, 0, 0, 0, 255, 3, 0, 2, 0, 1, 1, 255, // lanes from a place to itself
     2, 0, 3, 0, 0, 0, 2, 0, 3, 0, 0, 0, // carts
 ];
+
+/// The same floor without its lanes from a place to itself: carts park.
+fn bare_floor() -> Vec<u8> {
+    [&FLOOR[..30], &FLOOR[44..]].concat()
+}
 
 pub fn plan(d: u8) -> Vec<u8> {
     let mut plan = vec![6, 0, 4, 0, 4, 0, 0, 0, d, 0];
@@ -127,27 +132,67 @@ fn sheets() -> impl Iterator<Item = (String, u8, Refusal)> {
     table.chain(sheets).chain(limits)
 }
 
-fn compare(plan: &[u8], rules: &[u8], wanted: Verdict) -> Result<(), String> {
-    let second = check::check(&FLOOR, plan, rules);
-    let (first, _) = library::check(&FLOOR, plan, rules);
+fn compare(floor: &[u8], plan: &[u8], rules: &[u8], wanted: Verdict) -> Result<(), String> {
+    let second = check::check(floor, plan, rules);
+    let (first, _) = library::check(floor, plan, rules);
     if second == wanted && first == wanted {
         return Ok(());
     }
     let sheet = String::from_utf8_lossy(rules);
     Err(format!(
-        "plan {plan:?}, sheet {sheet:?}: {wanted} is wanted, second checker: {second}, library: {first}"
+        "floor {floor:?}, plan {plan:?}, sheet {sheet:?}: {wanted} is wanted, second checker: {second}, library: {first}"
     ))
+}
+
+/// Lanes, a cart's class, the rows of one cart from place 0 and its lap's first step, refusal of its moves: two places.
+type Moves = (&'static [[u8; 3]], u8, &'static [u8], u8, Refusal);
+
+/// Parked carts, and carts that leave their place without a lane.
+const MOVES: [Moves; 12] = [
+    (&[], 7, &[0], 0, ACCEPTED),
+    (&[], 7, &[1], 0, Refusal(10, 0, 0)),
+    (&[[0, 0, 1]], 1, &[0, 0], 0, ACCEPTED),
+    (&[[0, 1, 255]], 1, &[0, 0], 1, ACCEPTED),
+    (&[[0, 1, 1]], 0, &[0, 1], 1, ACCEPTED),
+    (&[[0, 1, 1]], 0, &[0, 1], 0, Refusal(11, 0, 1)),
+    (&[[0, 1, 1]], 1, &[0, 1], 1, Refusal(11, 0, 0)),
+    (&[[0, 0, 255]], 0, &[0, 1], 1, Refusal(11, 0, 0)),
+    (&[[1, 1, 255]], 0, &[0, 1], 1, Refusal(11, 0, 0)),
+    (&[], 0, &[0, 0, 1, 1], 2, Refusal(11, 0, 1)),
+    (&[[0, 1, 2]], 1, &[0, 0, 1, 1], 2, ACCEPTED),
+    (&[[0, 1, 2]], 1, &[0, 0, 1, 1], 1, Refusal(11, 0, 3)),
+];
+
+fn moves() -> impl Iterator<Item = (Vec<u8>, Vec<u8>, Verdict)> {
+    MOVES.iter().map(|&(lanes, class, row, l, refusal)| {
+        let mut floor = FLOOR[..16].to_vec();
+        lanes.iter().for_each(|lane| {
+            floor.extend([3, 0, 2, 0]);
+            floor.extend(lane);
+        });
+        floor.extend([2, 0, 3, 0, class, 0]);
+        let h = row.len() as u8;
+        let mut plan = vec![6, 0, 4, 0, h, 0, l, 0, 0, 0, h, 0, 5, 0];
+        plan.extend(row);
+        let about = if refusal == ACCEPTED { 0 } else { PLAN };
+        (floor, plan, Verdict::refused(about, refusal))
+    })
 }
 
 /// The number of cases; the first case that comes out otherwise is told.
 pub fn run() -> Result<usize, String> {
     let mut count = 0;
     for (sheet, d, refusal) in sheets() {
-        compare(&plan(d), sheet.as_bytes(), wanted(refusal))?;
-        count += 1;
+        compare(&FLOOR, &plan(d), sheet.as_bytes(), wanted(refusal))?;
+        compare(&bare_floor(), &plan(d), sheet.as_bytes(), wanted(refusal))?;
+        count += 2;
     }
     for (plan, verdict) in heads() {
-        compare(&plan, b"true\n", verdict)?;
+        compare(&FLOOR, &plan, b"true\n", verdict)?;
+        count += 1;
+    }
+    for (floor, plan, verdict) in moves() {
+        compare(&floor, &plan, b"true\n", verdict)?;
         count += 1;
     }
     Ok(count)

@@ -14,10 +14,10 @@ use crate::random::Random;
 use crate::tally::Tally;
 use crate::verdict::Verdict;
 
-/// Document 01's cases, then so many random triples; false once a difference was told.
+/// The cases of documents 01 and 02, then so many random triples; false once a difference was told.
 pub fn gate(cases: u64, seed: u64) -> bool {
     match cases::run() {
-        Ok(count) => println!("{count} cases of document 01"),
+        Ok(count) => println!("{count} cases of documents 01 and 02"),
         Err(text) => {
             println!("second: {text}");
             return false;

@@ -61,7 +61,7 @@ impl Plan {
         }
     }
 
-    /// Each cart begins at its start and leaves every step by a lane open to its class.
+    /// Each cart begins at its start, and leaves every step by a lane open to its class or stays on its place.
     pub fn check_moves(&self, floor: &Floor) -> Result<(), Refusal> {
         let open = adjacency(floor);
         for (n, (cart, row)) in floor.carts.iter().zip(&self.rows).enumerate() {
@@ -80,10 +80,12 @@ impl Plan {
     }
 }
 
-/// The adjacency matrices of all classes at once: the classes that may go from a place to another.
+/// The adjacency matrices of all classes at once: the classes that may go from a place to another. Every
+/// class may park, so that the diagonal is full.
 fn adjacency(floor: &Floor) -> Vec<u8> {
     let places = floor.places.len();
     let mut open = vec![0; places * places];
+    open.iter_mut().step_by(places + 1).for_each(|classes| *classes = 255);
     for lane in &floor.lanes {
         open[lane.from * places + lane.to] |= lane.classes;
     }

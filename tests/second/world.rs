@@ -190,13 +190,16 @@ fn random_carts(random: &mut Random, plan: &Plan) -> Vec<Cart> {
     plan.rows.iter().map(&mut cart).collect()
 }
 
-/// Lanes for all moves of the plan, some in two parts, and some more.
+/// Lanes for all moves of the plan to another place, now and then for parked carts too, some in two parts, and some more.
 fn random_lanes(random: &mut Random, plan: &Plan, carts: &[Cart], places: usize) -> Vec<Lane> {
     let mut used = BTreeMap::new();
+    let self_lanes = random.chance(20);
     for (cart, row) in carts.iter().zip(&plan.rows) {
         for t in 0..plan.h {
-            let pair = (row[t] as usize, row[plan.step(t + 1)] as usize);
-            *used.entry(pair).or_insert(0u8) |= 1 << cart.class;
+            let (from, to) = (row[t] as usize, row[plan.step(t + 1)] as usize);
+            if from != to || self_lanes {
+                *used.entry((from, to)).or_insert(0u8) |= 1 << cart.class;
+            }
         }
     }
     let mut lanes = Vec::new();

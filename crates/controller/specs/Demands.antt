@@ -2,7 +2,7 @@
 use Prim.Native.Nat.{ℕ, _≤_}
 use native.Mathlib.Omega.{arith}
 use mathlib.Core.Path.{_≡_, ap, subst, _∙_}
-use mathlib.Core.Logic.{_↔_}
+use mathlib.Core.Logic.{_⊎_, inl, inr, ⊎-elim, _↔_}
 use mathlib.Core.Bool.{Bool, cond}
 use mathlib.Core.List.{List, _++_, flatten}
 use lib.ListN.{length, take, drop}
@@ -22,6 +22,8 @@ use Rattle.plan.specs.Plan.{PlanNumbers}
 use Rattle.plan.specs.After.{ReadAs}
 use Rattle.plan.specs.declared.Head.{Head}
 use Rattle.plan.specs.declared.PlanRead.{PlanRead}
+use Rattle.moves.specs.Promises.{CartDeparts}
+use Rattle.edit.specs.Replaced.{replaced}
 use Rattle.grammar.specs.Grammar.{Clause}
 use Rattle.cltl.specs.Meaning.{Run, TrueOf, TrueInStep}
 use Rattle.plancheck.specs.Check.{planRows}
@@ -83,6 +85,18 @@ replaced-kept floor before cart row after c w n = w .coded .kept n
 pub replaced-moves : (floor before : List ℕ) (cart : ℕ) (row after : List ℕ) (c c′ : Code) → RowReplacedCode floor before cart row c after → c .number ≡ 0
     → MovesCheckedCode floor after c′ → c′ .number ≡ 0
 replaced-moves floor before cart row after c c′ w z m = ap (λ (x : Code). x .number) (m .coded .code) ∙ ap (λ (v : Verdict). codeOf v .number) (w .replaces z .moves)
+
+---- 11: the cart leaves the step for another place, so that no parked cart is refused by it.
+module _ (floor plan : List ℕ) (f : Floor) (p : PlanNumbers) (files : ReadAs floor plan f p) (c : Code) (e : c .number ≡ 11) where
+  pub moves-departs : MovesCheckedCode floor plan c → CartDeparts p (c .first) (c .second)
+  moves-departs w = w .shut-11 f p files e .departs
+
+  pub check-departs : (rules : List ℕ) → PlanCheckedCode floor plan rules c → CartDeparts p (c .first) (c .second)
+  check-departs rules w = w .shut-11 f p files e .departs
+
+  pub replace-departs : (cart : ℕ) (row after : List ℕ) → RowReplacedCode floor plan cart row c after
+      → CartDeparts p (c .first) (c .second) ⊎ CartDeparts (replaced cart row p) (c .first) (c .second)
+  replace-departs cart row after w = ⊎-elim (λ l. inl (l .departs)) (λ l. inr (l .departs)) (w .shut-11 f p files e)
 
 ---- The check.
 module _ (floor plan rules : List ℕ) (c : Code) (w : PlanCheckedCode floor plan rules c) where

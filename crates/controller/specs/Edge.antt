@@ -31,7 +31,7 @@ use Rattle.clause.specs.Promises.{Picked}
 use Rattle.clause.specs.declared.Span.{Span}
 use Rattle.sheet.specs.Rules.{rulesVerdict}
 use Rattle.moves.specs.Carts.{checkedMoves}
-use Rattle.moves.specs.Promises.{AllUnending, CartUnending, Moving, FirstRefused}
+use Rattle.moves.specs.Promises.{AllUnending, CartUnending, LowestLeft, Moving, FirstRefused}
 use Rattle.edit.specs.Moved.{moved, moveOn}
 use Rattle.edit.specs.Replaced.{replaced, replaceRow}
 use Rattle.edit.specs.Promises.{fileLength, Later, NewRow}
@@ -102,12 +102,16 @@ pub record MovesCheckedCode (floor plan : List ℕ) (c : Code) : Type 0 where
   pub accepted : (c .number ≡ 0) ↔ Moving floor plan
   -- floor and plan read, and refused: the first cart refused, and for 11 its lowest step
   pub first : (f : Floor) (p : PlanNumbers) → ReadAs floor plan f p → (c .number ≡ 0 → ⊥) → FirstRefused floor f p (checkedMoves floor plan)
+  -- 11, by the cart in `first` and the step in `second`: its lowest that is left by a move that is not open, and that for another place
+  pub shut-11 : (f : Floor) (p : PlanNumbers) → ReadAs floor plan f p → c .number ≡ 11 → LowestLeft floor p (c .first) (c .second)
 
 -- cartplan_check
 pub record PlanCheckedCode (floor plan rules : List ℕ) (c : Code) : Type 0 where
   pub coded : Coded checkingPlan (checked floor plan rules) c
   -- demands 2 and 3, from number 0
   pub means : Means floor plan rules (c .number ≡ 0)
+  -- 11, by the cart in `first` and the step in `second`, as for cartplan_check_moves
+  pub shut-11 : (f : Floor) (p : PlanNumbers) → ReadAs floor plan f p → c .number ≡ 11 → LowestLeft floor p (c .first) (c .second)
   -- 16 and 17, by the clause in `first` and the step in `second`
   pub next-16 : c .number ≡ 16 → (c .second ≡ 0) × Next16 floor plan rules (c .first)
   pub fails-17 : c .number ≡ 17 → Fails17 floor plan rules (c .first) (c .second)
@@ -137,3 +141,6 @@ pub record RowReplacedCode (floor before : List ℕ) (cart : ℕ) (row : List �
   -- a row that fits a cart of the floor, and whose moves go on without end as those of the plan do, is not refused
   pub complete : (f : Floor) (p : PlanNumbers) → ReadAs floor before f p → AllUnending floor f p → cart < f .carts
       → RowFits (p .head .steps) (f .places) row → CartUnending floor (replaced cart row p) cart → c .number ≡ 0
+  -- 11, as for cartplan_check_moves: of the plan as it is, or with the new row
+  pub shut-11 : (f : Floor) (p : PlanNumbers) → ReadAs floor before f p → c .number ≡ 11
+      → LowestLeft floor p (c .first) (c .second) ⊎ LowestLeft floor (replaced cart row p) (c .first) (c .second)

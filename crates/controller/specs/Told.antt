@@ -42,12 +42,14 @@ use Rattle.sheet.specs.Rules.{readVerdict, rulesVerdict}
 use Rattle.sheet.specs.Promises.{RulesRead}
 use Rattle.moves.specs.Carts.{checkedMoves}
 use Rattle.moves.specs.Promises.{FirstRefused, MovesChecked}
+use Rattle.moves.specs.Demands.{lowest-left}
 use Rattle.edit.specs.Moved.{moved, moveOn}
 use Rattle.edit.specs.Replaced.{replaceRow}
 use Rattle.edit.specs.Promises.{MovedOn, RowReplaced}
 use Rattle.plancheck.specs.Check.{checked}
 use Rattle.plancheck.specs.Claims.{means-as}
 use Rattle.plancheck.specs.Promises.{PlanChecked}
+use Rattle.plancheck.specs.Demands.{check-11}
 use Rattle.plancheck.specs.ShownClause.{shown-clause}
 use Rattle.controller.specs.Edge.{Coded, CodedOut, refusalIn, FloorReadCode, PlanReadCode, FloorWrittenCode, PlanWrittenCode, RulesReadCode, MovesCheckedCode, PlanCheckedCode, MovedOnCode, RowReplacedCode}
 
@@ -213,6 +215,24 @@ rules-read s v w g c q = subst (RulesReadCode s) (sym q) (record {
       ap (λ (u : Verdict). codeOf u .second) e,
     )
 
+---- The file that a number tells.
+not-among : (xs : List ℕ) (m n : ℕ) → among xs m ≡ false → OneOf xs n → n ≡ m → ⊥
+not-among [] m n e h q = h
+not-among (x ∷ xs) m n e (inl h) q = eqb-false m x (either-false (eqb m x) (among xs m) e .0) (sym q ∙ h)
+not-among (x ∷ xs) m n e (inr h) q = not-among xs m n (either-false (eqb m x) (among xs m) e .1) h q
+
+-- a number that no refusal of the floor has: the plan's if none of the sheet has it, the sheet's if none of the plan has it
+of-number : (t : Refusals) (m : ℕ) → among (0 ∷ t .floor) m ≡ false → (v : Verdict) → Given t v → num v ≡ m
+    → (among (t .rules) m ≡ false → v ≡ AboutPlan (refused m (codeOf v .first) (codeOf v .second)))
+    × (among (t .plan) m ≡ false → v ≡ AboutRules (refused m (codeOf v .first) (codeOf v .second)))
+of-number t m f Accepted g e = absurd (not-among (0 ∷ t .floor) m 0 f (inl refl) e)
+of-number t m f (Written k) g e = absurd (not-among (0 ∷ t .floor) m 0 f (inl refl) e)
+of-number t m f (AboutFloor r) g e = absurd (not-among (0 ∷ t .floor) m (r .number) f (inr g) e)
+of-number t m f (AboutPlan r) g e =
+    (λ u. ap (λ (n : ℕ). AboutPlan (refused n (r .first) (r .second))) e, λ p. absurd (not-among (t .plan) m (r .number) p g e))
+of-number t m f (AboutRules r) g e =
+    (λ u. absurd (not-among (t .rules) m (r .number) u g e), λ p. ap (λ (n : ℕ). AboutRules (refused n (r .first) (r .second))) e)
+
 ---- Moves, moving on, replacing.
 pub moves-checked : (floor s : List ℕ) (v : Verdict) → MovesChecked floor s v → Given checkingMoves v → (c : Code) → c ≡ codeOf v
     → MovesCheckedCode floor s c
@@ -220,6 +240,7 @@ moves-checked floor s v w g c q = subst (MovesCheckedCode floor s) (sym q) (reco
   coded = coded-as checkingMoves refl v (checkedMoves floor s) (w .answer) g;
   accepted = (λ z. w .sound (zero-accepts checkingMoves refl refl v g z), λ m. ap num (w .complete m));
   first = λ f p files n. subst (FirstRefused floor f p) (w .answer) (w .first f p files (not-accepted v n));
+  shut-11 = λ f p files e. lowest-left floor s v w f p files (codeOf v .first) (codeOf v .second) (of-number checkingMoves 11 refl v g e .0 refl);
 })
 
 move-writes : (floor s : List ℕ) (k : ℕ) (before : List ℕ) → (file : List ℕ) × Writes before file (moveOn floor s k before)
@@ -257,23 +278,10 @@ row-replaced floor before cart row v after w g c q = subst (λ (x : Code). RowRe
   };
   replaces = λ z. w .replaces (zero-accepts replacingRow refl refl v g z);
   complete = λ f p files u l fits new. ap num (w .complete f p files u l fits new);
+  shut-11 = λ f p files e. w .shut-11 f p files (codeOf v .first) (codeOf v .second) (of-number replacingRow 11 refl v g e .0 refl);
 })
 
 ---- The check.
-not-among : (xs : List ℕ) (m n : ℕ) → among xs m ≡ false → OneOf xs n → n ≡ m → ⊥
-not-among [] m n e h q = h
-not-among (x ∷ xs) m n e (inl h) q = eqb-false m x (either-false (eqb m x) (among xs m) e .0) (sym q ∙ h)
-not-among (x ∷ xs) m n e (inr h) q = not-among xs m n (either-false (eqb m x) (among xs m) e .1) h q
-
--- a number that only the sheet's refusals have
-of-number : (t : Refusals) (m : ℕ) → among (0 ∷ t .floor) m ≡ false → among (t .plan) m ≡ false → (v : Verdict) → Given t v → num v ≡ m
-    → v ≡ AboutRules (refused m (codeOf v .first) (codeOf v .second))
-of-number t m f p Accepted g e = absurd (not-among (0 ∷ t .floor) m 0 f (inl refl) e)
-of-number t m f p (Written k) g e = absurd (not-among (0 ∷ t .floor) m 0 f (inl refl) e)
-of-number t m f p (AboutFloor r) g e = absurd (not-among (0 ∷ t .floor) m (r .number) f (inr g) e)
-of-number t m f p (AboutPlan r) g e = absurd (not-among (t .plan) m (r .number) p g e)
-of-number t m f p (AboutRules r) g e = ap (λ (n : ℕ). AboutRules (refused n (r .first) (r .second))) e
-
 -- the file tells the case
 of-floor : (v : Verdict) → codeOf v .about ≡ 1 → v ≡ AboutFloor (refusalIn (codeOf v))
 of-floor Accepted e = absurd (omega arith)
@@ -301,10 +309,11 @@ pub plan-checked : (floor s sheet : List ℕ) (v : Verdict) → PlanChecked floo
 plan-checked floor s sheet v w g c q = subst (PlanCheckedCode floor s sheet) (sym q) (record {
   coded = coded-as checkingPlan refl v (checked floor s sheet) (w .verdict) g;
   means = means-as floor s sheet (λ e. ap num e, zero-accepts checkingPlan refl refl v g) (w .means);
-  next-16 = λ e. w .next-16 (codeOf v .first) (codeOf v .second) (of-number checkingPlan 16 refl refl v g e);
-  fails-17 = λ e. w .fails-17 (codeOf v .first) (codeOf v .second) (of-number checkingPlan 17 refl refl v g e);
+  shut-11 = λ f p files e. check-11 floor s sheet v w f p files (codeOf v .first) (codeOf v .second) (of-number checkingPlan 11 refl v g e .0 refl);
+  next-16 = λ e. w .next-16 (codeOf v .first) (codeOf v .second) (of-number checkingPlan 16 refl v g e .1 refl);
+  fails-17 = λ e. w .fails-17 (codeOf v .first) (codeOf v .second) (of-number checkingPlan 17 refl v g e .1 refl);
   shown = λ e cs a p picked. shown-clause floor s sheet v w cs a (codeOf v .first) (codeOf v .second)
-      (⊎-elim (λ x. inl (of-number checkingPlan 16 refl refl v g x)) (λ x. inr (of-number checkingPlan 17 refl refl v g x)) e) p picked;
+      (⊎-elim (λ x. inl (of-number checkingPlan 16 refl v g x .1 refl)) (λ x. inr (of-number checkingPlan 17 refl v g x .1 refl)) e) p picked;
   floor-refused = λ e. w .floor-refused (refusalIn (codeOf v)) (of-floor v e);
   plan-refused = λ e. w .plan-refused (refusalIn (codeOf v)) (of-plan v e);
   sheet-refused = λ e. w .sheet-refused (refusalIn (codeOf v)) (of-rules v e);

@@ -16,7 +16,7 @@ use Rattle.plan.specs.Plan.{judgedHead, judgedPlaces, judgedRow, readRows, read
 use Rattle.plan.specs.Numbers.{headOf}
 use Rattle.plan.specs.After.{afterReading}
 use Rattle.row.specs.Lasso.{nextStep}
-use Rattle.row.specs.Moves.{isOpen, lowestShut, judgedMoves}
+use Rattle.row.specs.Moves.{someLaneOpens, isOpen, lowestShut, judgedMoves}
 use Rattle.moves.specs.Carts.{judgedCarts}
 use Rattle.edit.specs.Moved.{movedRow, movedHead, moveOn}
 use Rattle.edit.specs.Replaced.{replaceRow}
@@ -28,12 +28,11 @@ six = 10 ∷ 11 ∷ 12 ∷ 13 ∷ 14 ∷ 15 ∷ []
 abbrev by : ℕ → List ℕ
 by s = movedRow 6 2 s six
 
--- two places; lanes 0 to 0, 0 to 1 and, for these classes, 1 to 0; two carts of class 0 from place 0
+-- two places; lanes 0 to 1 and, for these classes, 1 to 0; two carts of class 0 from place 0
 abbrev floor : ℕ → List ℕ
 floor classes =
     4 ∷ 0 ∷ 1 ∷ 0 ∷ 1 ∷ 0 ∷ 0 ∷ 0 ∷
     4 ∷ 0 ∷ 1 ∷ 0 ∷ 2 ∷ 0 ∷ 0 ∷ 0 ∷
-    3 ∷ 0 ∷ 2 ∷ 0 ∷ 0 ∷ 0 ∷ 255 ∷
     3 ∷ 0 ∷ 2 ∷ 0 ∷ 0 ∷ 1 ∷ 255 ∷
     3 ∷ 0 ∷ 2 ∷ 0 ∷ 1 ∷ 0 ∷ classes ∷
     2 ∷ 0 ∷ 3 ∷ 0 ∷ 0 ∷ 0 ∷
@@ -65,7 +64,7 @@ computing : List ℕ → List ℕ → ℕ → List ℕ → Outcome × Outcome
 unfolding
     flatten value bytes split recordsIn encoded layout partsIn parts judged walk readFloor bodiesOf
     judgedHead judgedPlaces judgedRow readRows readPlan afterReading
-    nextStep isOpen lowestShut judgedMoves judgedCarts movedRow movedHead moveOn replaceRow
+    nextStep someLaneOpens isOpen lowestShut judgedMoves judgedCarts movedRow movedHead moveOn replaceRow
 computing floor plan n rest = (moveOn floor plan n rest, replaceRow floor plan n rest)
 
 -- a new row for a cart of a plan
@@ -100,6 +99,8 @@ pub worked :
     -- "only that row's bytes change"
     × (new 1 (plan 0 0 0 0) 0 (0 ∷ 1 ∷ []) ≡ gives Accepted (plan 0 1 0 0))
     × (new 1 (plan 0 0 0 0) 1 (0 ∷ 1 ∷ []) ≡ gives Accepted (plan 0 0 0 1))
+    -- a row that parks, beside one that parks already
+    × (new 1 (plan 0 0 0 1) 1 (0 ∷ 0 ∷ []) ≡ gives Accepted (plan 0 0 0 0))
     -- the new row's own refusals: 19, 4, 9, 10, 11
     × (new 0 (plan 0 0 0 0) 2 [] ≡ refuses 19 2 0 (plan 0 0 0 0))
     × (new 0 (plan 0 0 0 0) 1 (0 ∷ []) ≡ refuses 4 0 0 (plan 0 0 0 0))
@@ -114,6 +115,7 @@ pub worked :
     × (new 0 (plan 0 0 0 2) 1 (0 ∷ 0 ∷ []) ≡ refuses 9 16 0 (plan 0 0 0 2))
 unfolding computing
 worked = (
+  refl,
   refl,
   refl,
   refl,

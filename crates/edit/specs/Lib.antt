@@ -9,6 +9,7 @@ pub mod Refusing
 pub mod RowStored
 pub mod Later
 pub mod MovedReads
+pub mod ShutMoves
 pub mod ReplacedReads
 pub mod Demands
 -- worked cases

@@ -2,20 +2,22 @@
 use Prim.Native.Nat.{ℕ, _+_, _*_, _≤_, _<_}
 use mathlib.Core.Path.{_≡_}
 use mathlib.Core.Bool.{false}
+use mathlib.Core.Logic.{_⊎_}
 use mathlib.Core.List.{List, []}
 use lib.ListN.{length, take, getD}
+use Rattle.refusal.specs.Codes.{refused}
 use Rattle.refusal.specs.Given.{Given, movingOn, replacingRow}
 use Rattle.refusal.specs.Stages.{isAccepted}
 use Rattle.refusal.specs.Outcome.{Gives}
 use Rattle.refusal.specs.declared.Verdict.{Verdict}
-use Rattle.refusal.specs.declared.Verdict.the-variants.{Accepted, Written}
+use Rattle.refusal.specs.declared.Verdict.the-variants.{Accepted, Written, Plan as AboutPlan}
 use Rattle.floor.specs.declared.Floor.{Floor}
 use Rattle.plan.specs.Plan.{PlanNumbers, accepted, readPlan}
 use Rattle.plan.specs.After.{ReadAs}
 use Rattle.plan.specs.Valid.{RowFits}
 use Rattle.row.specs.Meaning.{placeAtCounter}
 use Rattle.moves.specs.Carts.{checkedMoves}
-use Rattle.moves.specs.Promises.{AllUnending, CartUnending}
+use Rattle.moves.specs.Promises.{AllUnending, CartUnending, LowestLeft}
 use Rattle.edit.specs.Moved.{moved, moveOn}
 use Rattle.edit.specs.Replaced.{replaced, replaceRow}
 
@@ -68,3 +70,6 @@ pub record RowReplaced (floor before : List ℕ) (c : ℕ) (row : List ℕ) (v :
   -- a row that fits a cart of the floor, and whose moves go on without end as those of the plan do, is not refused
   pub complete : (f : Floor) (p : PlanNumbers) → ReadAs floor before f p → AllUnending floor f p → c < f .carts
       → RowFits (p .head .steps) (f .places) row → CartUnending floor (replaced c row p) c → v ≡ Accepted
+  -- 11, of the plan as it is or with the new row: the "lowest step left", and that for another place
+  pub shut-11 : (f : Floor) (p : PlanNumbers) → ReadAs floor before f p → (n k : ℕ) → v ≡ AboutPlan (refused 11 n k)
+      → LowestLeft floor p n k ⊎ LowestLeft floor (replaced c row p) n k

@@ -35,6 +35,7 @@ use Rattle.moves.specs.Unending.{Passes, each-passes, none-refused, cart-accept
 use Rattle.edit.specs.Replaced.{replaced, placesVerdict, newRowVerdict, cartRowVerdict, replaceVerdict, replacedIn, replaceRow}
 use Rattle.edit.specs.Refusing.{replacing-given}
 use Rattle.edit.specs.RowStored.{row-stored, row-inside}
+use Rattle.edit.specs.ShutMoves.{replaced-11}
 use Rattle.edit.specs.Promises.{NewRow, RowReplaced}
 
 only-fits : (c : ℕ) (a : RowAnswer) → placesVerdict c a ≡ Accepted → a ≡ Fits
@@ -199,4 +200,5 @@ module _ (floor before : List ℕ) (c : ℕ) (row : List ℕ) (v : Verdict) (aft
       replaces = new-row;
       kept = kept;
       complete = complete;
+      shut-11 = λ f p w n k e. replaced-11 n k floor f p (valid f before p (w .plan-read)) c row (sym (verdict f p w) ∙ e);
     }

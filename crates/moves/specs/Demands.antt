@@ -22,7 +22,7 @@ use Rattle.row.specs.Moves.{lanesIn, judgedMoves}
 use Rattle.row.specs.declared.MoveAnswer.{MoveAnswer}
 use Rattle.row.specs.declared.MoveAnswer.the-variants.{Open, Elsewhere, Shut}
 use Rattle.moves.specs.Carts.{classOf, startOf, verdictOf, movesVerdict, checkedMoves}
-use Rattle.moves.specs.Promises.{CartUnending, AllUnending, LowestLeft, FirstRefused, MovesChecked}
+use Rattle.moves.specs.Promises.{CartUnending, AllUnending, CartDeparts, LowestLeft, FirstRefused, MovesChecked}
 
 -- floor and plan are read in one way
 pub read-once : (floor plan : List ℕ) (f g : Floor) (n m : PlanNumbers) → ReadAs floor plan f n → ReadAs floor plan g m → (f ≡ g) × (n ≡ m)
@@ -33,11 +33,21 @@ read-once floor plan f g n m a b =
     let numbers : n ≡ m = cc in
     (same, numbers)
 
+-- the moves of cart c's row judged
+abbrev answerOf : List ℕ → PlanNumbers → ℕ → MoveAnswer
+answerOf floor p c = judgedMoves (lanesIn floor) (classOf floor c) (startOf floor c) (getD (p .rows) c []) (p .head .steps) (p .head .stem)
+
 -- a refusal names its own cart
 same-cart : (c d n k : ℕ) (a : MoveAnswer) → verdictOf c a ≡ AboutPlan (refused n d k) → c ≡ d
 same-cart c d n k Open e = let z : _≡_ {A = ℕ} 0 1 = cc in absurd (omega arith)
 same-cart c d n k Elsewhere e = ap (λ (v : Verdict). codeOf v .first) e
 same-cart c d n k (Shut s) e = ap (λ (v : Verdict). codeOf v .first) e
+
+-- 11: the step is the lowest that its cart leaves by a move that is not open
+pub first-11 : (floor : List ℕ) (f : Floor) (p : PlanNumbers) (c k : ℕ) → FirstRefused floor f p (AboutPlan (refused 11 c k)) → LowestLeft floor p c k
+first-11 floor f p c k w =
+    let q = same-cart (w .cart) c 11 k (answerOf floor p (w .cart)) (w .refused) in
+    subst (λ (i : ℕ). LowestLeft floor p i k) q (w .lowest k (ap (λ (i : ℕ). AboutPlan (refused 11 i k)) (sym q)))
 
 -- cart c is one of the floor's, and each before it goes on without end
 pub record FirstCart (floor : List ℕ) (f : Floor) (p : PlanNumbers) (c : ℕ) : Type 0 where
@@ -85,11 +95,7 @@ module _ (floor plan : List ℕ) (v : Verdict) (w : MovesChecked floor plan v) w
       first = w .first f p r (ap isAccepted e)
 
       cart-is : first .cart ≡ c
-      cart-is =
-          same-cart (first .cart) c n k
-          (judgedMoves (lanesIn floor) (classOf floor (first .cart)) (startOf floor (first .cart)) (getD (p .rows) (first .cart) []) (p .head .steps)
-          (p .head .stem))
-          (first .refused ∙ e)
+      cart-is = same-cart (first .cart) c n k (answerOf floor p (first .cart)) (first .refused ∙ e)
 
       -- once floor and plan are read, a refusal names the first cart that is refused
       pub first-cart : FirstCart floor f p c
@@ -107,6 +113,8 @@ module _ (floor plan : List ℕ) (v : Verdict) (w : MovesChecked floor plan v) w
 
     -- 11: the step is the lowest that the cart leaves by a move that is not open
     pub lowest-left : (c k : ℕ) → v ≡ AboutPlan (refused 11 c k) → LowestLeft floor p c k
-    lowest-left c k e =
-        let q = cart-is 11 c k e in
-        subst (λ (i : ℕ). LowestLeft floor p i k) q (first 11 c k e .lowest k (e ∙ ap (λ (i : ℕ). AboutPlan (refused 11 i k)) (sym q)))
+    lowest-left c k e = first-11 floor f p c k (subst (FirstRefused floor f p) e (first 11 c k e))
+
+    -- and it is left for another place
+    pub left-departs : (c k : ℕ) → v ≡ AboutPlan (refused 11 c k) → CartDeparts p c k
+    left-departs c k e = lowest-left c k e .departs

@@ -13,7 +13,7 @@ use Rattle.floor.specs.Numbers.{bodiesOf}
 use Rattle.plan.specs.Plan.{judgedHead, judgedPlaces, judgedRow, readRows, readPlan}
 use Rattle.plan.specs.After.{afterReading}
 use Rattle.row.specs.Lasso.{nextStep}
-use Rattle.row.specs.Moves.{isOpen, lowestShut, judgedMoves}
+use Rattle.row.specs.Moves.{someLaneOpens, isOpen, lowestShut, judgedMoves}
 use Rattle.moves.specs.Carts.{judgedCarts, checkedMoves}
 
 -- two places; a lane from a to b for these classes and one from 0 to 1 for all; a cart of class 0 from place 0 and one of this class and start
@@ -41,28 +41,53 @@ still = floor 0 0 255 0 0
 computing : List ℕ → List ℕ → Verdict
 unfolding
     flatten value split recordsIn partsIn parts judged walk readFloor bodiesOf judgedHead judgedPlaces judgedRow readRows readPlan afterReading
-    nextStep isOpen lowestShut judgedMoves judgedCarts checkedMoves
+    nextStep someLaneOpens isOpen lowestShut judgedMoves judgedCarts checkedMoves
 computing floor plan = checkedMoves floor plan
 
 pub worked :
     (checkedMoves still (plan 0 0 0 0 0 0) ≡ Accepted)
     -- the move from the last step to the lap's first, from place 1 back to 0
     × (checkedMoves still (plan 0 0 0 0 0 1) ≡ AboutPlan (refused 11 1 2))
-    -- and to another first step: standing on place 1
-    × (checkedMoves (floor 1 1 255 0 0) (plan 1 1 1 0 1 1) ≡ Accepted)
     × (checkedMoves (floor 1 1 255 0 0) (plan 0 1 1 0 1 1) ≡ AboutPlan (refused 11 0 2))
-    -- the lowest step, and not the last
+    -- and to another first step: carts park on place 1, which no lane leaves
+    × (checkedMoves still (plan 1 1 1 0 1 1) ≡ Accepted)
+    × (checkedMoves still (plan 2 0 1 0 0 1) ≡ Accepted)
+    -- every class parks, where its start is
+    × (checkedMoves (floor 0 1 1 7 1) (plan 0 0 0 1 1 1) ≡ Accepted)
+    × (checkedMoves (floor 0 0 1 7 0) (plan 0 0 0 0 0 0) ≡ Accepted)
+    -- the lowest step, and not the last, nor one that the cart stays on
     × (checkedMoves still (plan 0 1 0 0 0 0) ≡ AboutPlan (refused 11 0 1))
+    × (checkedMoves (floor 1 0 255 0 1) (plan 0 0 0 1 1 0) ≡ Accepted)
+    × (checkedMoves still (plan 0 0 0 0 1 0) ≡ AboutPlan (refused 11 1 1))
     -- 10 before 11 of one cart, but carts in order
     × (checkedMoves still (plan 0 0 0 1 0 0) ≡ AboutPlan (refused 10 1 0))
     × (checkedMoves still (plan 0 0 1 1 0 0) ≡ AboutPlan (refused 11 0 2))
     -- each cart's own start and class
     × (checkedMoves (floor 0 0 255 0 1) (plan 0 0 0 0 0 0) ≡ AboutPlan (refused 10 1 0))
-    × (checkedMoves (floor 0 0 3 1 0) (plan 0 0 0 0 0 0) ≡ Accepted)
-    × (checkedMoves (floor 0 0 1 1 0) (plan 0 0 0 0 0 0) ≡ AboutPlan (refused 11 1 0))
-    × (checkedMoves (floor 0 0 2 1 0) (plan 0 0 0 0 0 0) ≡ AboutPlan (refused 11 0 0))
+    × (checkedMoves (floor 1 0 3 1 0) (plan 0 0 1 0 0 1) ≡ Accepted)
+    × (checkedMoves (floor 1 0 1 1 0) (plan 0 0 1 0 0 1) ≡ AboutPlan (refused 11 1 2))
+    × (checkedMoves (floor 1 0 2 1 0) (plan 0 0 1 0 0 1) ≡ AboutPlan (refused 11 0 2))
     -- the floor's refusal, then the plan's
     × (checkedMoves [] [] ≡ AboutFloor (refused 7 0 0))
     × (checkedMoves still [] ≡ AboutPlan (refused 7 0 0))
 unfolding computing
-worked = (refl, refl, refl, refl, refl, refl, refl, refl, refl, refl, refl, refl, refl)
+worked = (
+  refl,
+  refl,
+  refl,
+  refl,
+  refl,
+  refl,
+  refl,
+  refl,
+  refl,
+  refl,
+  refl,
+  refl,
+  refl,
+  refl,
+  refl,
+  refl,
+  refl,
+  refl,
+)

@@ -12,7 +12,7 @@ use Rattle.floor.specs.declared.Floor.{Floor}
 use Rattle.plan.specs.Plan.{PlanNumbers}
 use Rattle.plan.specs.After.{ReadAs}
 use Rattle.row.specs.Moves.{lanesIn}
-use Rattle.row.specs.Meaning.{Unending, Lowest}
+use Rattle.row.specs.Meaning.{Unending, Departs, Lowest}
 use Rattle.row.specs.declared.MoveAnswer.the-variants.{Elsewhere, Shut}
 use Rattle.moves.specs.Carts.{classOf, startOf, verdictOf, rowVerdict, checkedMoves}
 
@@ -23,7 +23,11 @@ CartUnending floor p c = Unending (lanesIn floor) (classOf floor c) (startOf flo
 abbrev pub AllUnending : List ℕ → Floor → PlanNumbers → Type 0
 AllUnending floor f p = (c : ℕ) → c < f .carts → CartUnending floor p c
 
--- step k is the lowest of cart c's that is left by a move that is not open
+-- cart c leaves step k for another place
+abbrev pub CartDeparts : PlanNumbers → ℕ → ℕ → Type 0
+CartDeparts p c k = Departs (getD (p .rows) c []) (p .head .steps) (p .head .stem) k
+
+-- step k is the lowest of cart c's that is left by a move that is not open, and that move is to another place
 abbrev pub LowestLeft : List ℕ → PlanNumbers → ℕ → ℕ → Type 0
 LowestLeft floor p c k = Lowest (lanesIn floor) (classOf floor c) (getD (p .rows) c []) (p .head .steps) (p .head .stem) k
 
@@ -42,7 +46,7 @@ pub record FirstRefused (floor : List ℕ) (f : Floor) (p : PlanNumbers) (v : Ve
   pub before : (c : ℕ) → c < cart → CartUnending floor p c
   -- 10: "first place is not the start"
   pub away : v ≡ verdictOf cart Elsewhere → getD (getD (p .rows) cart []) 0 0 ≡ startOf floor cart → ⊥
-  -- 11 names the "lowest step left"
+  -- 11 names the "lowest step left", and that for another place
   pub lowest : (k : ℕ) → v ≡ verdictOf cart (Shut k) → LowestLeft floor p cart k
 
 pub record MovesChecked (floor plan : List ℕ) (v : Verdict) : Type 0 where

@@ -1,19 +1,24 @@
 -- What the promise gives, clause by clause and byte by byte: a reader of it alone can conclude this.
 use Prim.Native.Nat.{ℕ, _≤_, _<_}
+use native.Mathlib.Omega.{arith}
 use mathlib.Core.Path.{_≡_, subst, subst₃}
-use mathlib.Core.Logic.{_⊎_}
+use mathlib.Core.Logic.{_⊎_, inl, inr}
 use mathlib.Core.List.{List}
 use lib.Dec.{T}
 use lib.ListN.{length, getD}
 use Rattle.endian.specs.Little.{bytes}
 use Rattle.refusal.specs.Codes.{refused}
 use Rattle.refusal.specs.declared.Verdict.{Verdict}
-use Rattle.refusal.specs.declared.Verdict.the-variants.{Accepted, Rules as AboutRules}
+use Rattle.refusal.specs.declared.Verdict.the-variants.{Accepted, Plan as AboutPlan, Rules as AboutRules}
 use Rattle.record.specs.All.{All, each}
 use Rattle.record.specs.Buffer.{stored}
+use Rattle.floor.specs.Floor.{readFloor}
 use Rattle.floor.specs.declared.Floor.{Floor}
-use Rattle.plan.specs.Plan.{PlanNumbers}
+use Rattle.floor.specs.declared.FloorAnswer.the-variants.{Read as FloorAccepted}
+use Rattle.plan.specs.Plan.{PlanNumbers, rejected, readPlan}
 use Rattle.plan.specs.After.{ReadAs}
+use Rattle.moves.specs.Promises.{LowestLeft, FirstRefused}
+use Rattle.moves.specs.Demands.{first-11}
 use Rattle.grammar.specs.Grammar.{top, Clause}
 use Rattle.cltl.specs.Meaning.{Run, TrueOf, TrueInStep}
 use Rattle.cltl.specs.Rules.{hasNext}
@@ -58,12 +63,24 @@ module _ (floor plan sheet : List ℕ) (yes : Type 0) (w : Means floor plan shee
   pub no-next : yes → (f : Floor) × (p : PlanNumbers) × (cs : List Clause) × ReadAndOpen floor plan sheet f p cs × ((p .head .drift ≡ 0) ⊎ All Plain cs)
   no-next e = let a = w .readable e in (a .0, a .1, a .2, a .3 .readable, a .3 .no-16)
 
----- Refused by 16 or 17, in the caller's own reading of floor, plan and sheet.
+---- Refused by 11, 16 or 17, in the caller's own reading of floor, plan and sheet.
 same-floor : (floor plan : List ℕ) (f g : Floor) (p q : PlanNumbers) → ReadAs floor plan f p → ReadAs floor plan g q → f ≡ g
 same-floor floor plan f g p q a b = let x = a .floor-read in let y = b .floor-read in cc
 
 same-plan : (floor plan : List ℕ) (f g : Floor) (p q : PlanNumbers) → ReadAs floor plan f p → ReadAs floor plan g q → p ≡ q
 same-plan floor plan f g p q a b = let x = a .plan-read in let y = b .plan-read in let e = same-floor floor plan f g p q a b in cc
+
+-- 11: step k is the lowest that cart c leaves by a move that is not open, and the cart is on another place after it
+pub check-11 : (floor plan sheet : List ℕ) (v : Verdict) → PlanChecked floor plan sheet v → (f : Floor) (p : PlanNumbers) → ReadAs floor plan f p
+    → (c k : ℕ) → v ≡ AboutPlan (refused 11 c k) → LowestLeft floor p c k
+check-11 floor plan sheet v w f p files c k e = let x = w .plan-refused (refused 11 c k) e in go (x .0) (x .1) (x .2)
+  where
+    go : (g : Floor) → readFloor floor ≡ FloorAccepted g
+        → (readPlan g plan ≡ rejected (refused 11 c k)) ⊎ ((q : PlanNumbers) × ReadAs floor plan g q × FirstRefused floor g q (AboutPlan (refused 11 c k)))
+        → LowestLeft floor p c k
+    go g a (inl u) = let x = files .floor-read in let y = files .plan-read in let z : _≡_ {A = ℕ} 0 1 = cc in absurd (omega arith)
+    go g a (inr r) =
+        subst (λ (q : PlanNumbers). LowestLeft floor q c k) (same-plan floor plan g f (r .0) p (r .1) files) (first-11 floor g (r .0) c k (r .2))
 
 module _ (floor plan sheet : List ℕ) (v : Verdict) (w : PlanChecked floor plan sheet v) (f : Floor) (p : PlanNumbers) (cs : List Clause)
     (r : ReadAndOpen floor plan sheet f p cs) (k s : ℕ) where

@@ -3,7 +3,7 @@ use Prim.Native.Nat.{ℕ}
 use Prim.Native.Char.{code}
 use Prim.Native.String.{String, [] as end, _∷_ as _then_}
 use mathlib.Core.Path.{_≡_, refl}
-use mathlib.Core.List.{List, [], _∷_, flatten}
+use mathlib.Core.List.{List, [], _∷_, _++_, flatten}
 use Rattle.endian.specs.Little.{value}
 use Rattle.refusal.specs.Codes.{refused}
 use Rattle.refusal.specs.declared.Verdict.{Verdict}
@@ -15,7 +15,7 @@ use Rattle.floor.specs.Numbers.{bodiesOf}
 use Rattle.plan.specs.Plan.{judgedHead, judgedPlaces, judgedRow, readRows, readPlan}
 use Rattle.plan.specs.After.{afterReading}
 use Rattle.row.specs.Lasso.{nextStep, stepOf}
-use Rattle.row.specs.Moves.{isOpen, lowestShut, judgedMoves}
+use Rattle.row.specs.Moves.{someLaneOpens, isOpen, lowestShut, judgedMoves}
 use Rattle.moves.specs.Carts.{judgedCarts}
 use Rattle.grammar.specs.Reader.{bind, node, skip, expectAt, expect, literal, digits, number, percent, chainAt, chainMore, chain, andChain, orChain, byKind, smallAt, smallOf, byOnward, untilAt, untilOf, deeper, smalls, untils, ors, markBy, marks, inners, countEnd, countBy, counts, clauses, clauseLine, lines, outcome, start, readSheet}
 use Rattle.sheet.specs.Rules.{rulesVerdict}
@@ -24,17 +24,20 @@ use Rattle.cltl.specs.Rules.{tally, every, fix, window, quorum, judge, mark, in
 use Rattle.cltl.specs.Step.{lowest, failing}
 use Rattle.plancheck.specs.Check.{nextVerdict, keptVerdict, checked}
 
--- place 0 with m0 only, place 1 with m1 only; lanes 0→1, 1→0, 0→0, 1→1 for classes 255; two carts of class 0 from place 0
-abbrev floor : List ℕ
-floor =
+-- place 0 with m0 only, place 1 with m1 only; lanes 0→1 and 1→0 for classes 255 and then these; two carts of class 0 from place 0
+abbrev floorWith : List ℕ → List ℕ
+floorWith lanes =
     4 ∷ 0 ∷ 1 ∷ 0 ∷ 1 ∷ 0 ∷ 0 ∷ 0 ∷
     4 ∷ 0 ∷ 1 ∷ 0 ∷ 2 ∷ 0 ∷ 0 ∷ 0 ∷
     3 ∷ 0 ∷ 2 ∷ 0 ∷ 0 ∷ 1 ∷ 255 ∷
     3 ∷ 0 ∷ 2 ∷ 0 ∷ 1 ∷ 0 ∷ 255 ∷
-    3 ∷ 0 ∷ 2 ∷ 0 ∷ 0 ∷ 0 ∷ 255 ∷
-    3 ∷ 0 ∷ 2 ∷ 0 ∷ 1 ∷ 1 ∷ 255 ∷
-    2 ∷ 0 ∷ 3 ∷ 0 ∷ 0 ∷ 0 ∷
-    2 ∷ 0 ∷ 3 ∷ 0 ∷ 0 ∷ 0 ∷ []
+    (lanes ++
+    (2 ∷ 0 ∷ 3 ∷ 0 ∷ 0 ∷ 0 ∷
+    2 ∷ 0 ∷ 3 ∷ 0 ∷ 0 ∷ 0 ∷ []))
+
+-- document 01's floor: 0→0 and 1→1 besides
+abbrev floor : List ℕ
+floor = floorWith (3 ∷ 0 ∷ 2 ∷ 0 ∷ 0 ∷ 0 ∷ 255 ∷ 3 ∷ 0 ∷ 2 ∷ 0 ∷ 1 ∷ 1 ∷ 255 ∷ [])
 
 -- h 4, l and the drift; rows 0 1 1 0 and 0 0 1 1
 abbrev planFrom : ℕ → ℕ → List ℕ
@@ -48,49 +51,66 @@ abbrev sheet : String → List ℕ
 sheet end = 10 ∷ []
 sheet (c then s) = code c ∷ sheet s
 
+abbrev verdictOn : List ℕ → String → ℕ → Verdict
+verdictOn floor clause d = checked floor (planFrom 0 d) (sheet clause)
+
 abbrev verdict : String → ℕ → Verdict
-verdict clause d = checked floor (planFrom 0 d) (sheet clause)
+verdict = verdictOn floor
 
 -- the definitions that a check computes with, under one name
 computing : List ℕ → List ℕ → List ℕ → Verdict
 unfolding
     flatten value split recordsIn partsIn parts judged walk readFloor bodiesOf judgedHead judgedPlaces judgedRow readRows readPlan afterReading
-    nextStep stepOf isOpen lowestShut judgedMoves judgedCarts
+    nextStep stepOf someLaneOpens isOpen lowestShut judgedMoves judgedCarts
     bind node skip expectAt expect literal digits number percent chainAt chainMore chain andChain orChain byKind
     smallAt smallOf byOnward untilAt untilOf deeper smalls untils ors markBy marks inners countEnd countBy counts clauses
     clauseLine lines outcome start readSheet rulesVerdict
     quota threshold tally every fix window quorum judge mark inner count rules lowest failing nextVerdict keptVerdict checked
 computing floor plan sheet = checked floor plan sheet
 
-pub starred :
-    (verdict "F [m1,2]" 0 ≡ Accepted)
-    × (verdict "F [m1,2]" 1 ≡ AboutRules (refused 17 0 0))
-    × (verdict "F [m1,1]" 1 ≡ Accepted)
-    × (verdict "F [m1,1]" 2 ≡ Accepted)
-    × (verdict "G ![m1,2]" 0 ≡ AboutRules (refused 17 0 2))
-    × (verdict "G [m0,1]" 0 ≡ AboutRules (refused 17 0 2))
-    × (verdict "G [m0,1]" 1 ≡ AboutRules (refused 17 0 1))
-    × (verdict "[G F m1,2]" 16 ≡ Accepted)
-    × (verdict "X [m1,1]" 0 ≡ Accepted)
-    × (verdict "X [m1,1]" 1 ≡ AboutRules (refused 16 0 0))
-    × (verdict "[m0,0]" 16 ≡ Accepted)
-    × (verdict "[m0,3]" 0 ≡ AboutRules (refused 17 0 0))
+-- document 01's starred cases, on a floor
+abbrev Cases : List ℕ → Type 0
+Cases floor =
+    (verdictOn floor "F [m1,2]" 0 ≡ Accepted)
+    × (verdictOn floor "F [m1,2]" 1 ≡ AboutRules (refused 17 0 0))
+    × (verdictOn floor "F [m1,1]" 1 ≡ Accepted)
+    × (verdictOn floor "F [m1,1]" 2 ≡ Accepted)
+    × (verdictOn floor "G ![m1,2]" 0 ≡ AboutRules (refused 17 0 2))
+    × (verdictOn floor "G [m0,1]" 0 ≡ AboutRules (refused 17 0 2))
+    × (verdictOn floor "G [m0,1]" 1 ≡ AboutRules (refused 17 0 1))
+    × (verdictOn floor "[G F m1,2]" 16 ≡ Accepted)
+    × (verdictOn floor "X [m1,1]" 0 ≡ Accepted)
+    × (verdictOn floor "X [m1,1]" 1 ≡ AboutRules (refused 16 0 0))
+    × (verdictOn floor "[m0,0]" 16 ≡ Accepted)
+    × (verdictOn floor "[m0,3]" 0 ≡ AboutRules (refused 17 0 0))
+
+pub starred : Cases floor
 unfolding computing
 starred = (refl, refl, refl, refl, refl, refl, refl, refl, refl, refl, refl, refl)
+
+-- document 02, 1): carts park, so the same without the lanes from a place to itself
+pub parked : Cases (floorWith [])
+unfolding computing
+parked = (refl, refl, refl, refl, refl, refl, refl, refl, refl, refl, refl, refl)
 
 ---- Further cases, so that no definition here has another reading.
 -- both carts from place 0, where the first row begins on place 1
 abbrev astray : List ℕ
 astray = 6 ∷ 0 ∷ 4 ∷ 0 ∷ 1 ∷ 0 ∷ 0 ∷ 0 ∷ 0 ∷ 0 ∷ 1 ∷ 0 ∷ 5 ∷ 0 ∷ 1 ∷ 1 ∷ 0 ∷ 5 ∷ 0 ∷ 0 ∷ []
 
--- the two places, a lane 1→1 for class 2 alone, a cart of class 2 from place 1; and a plan that stays there
-abbrev another : List ℕ
-another =
+-- the two places, lanes 1→0 and 0→1 for these classes, a cart of class 2 from place 1; and a plan that goes there and back
+abbrev another : ℕ → List ℕ
+another classes =
     4 ∷ 0 ∷ 1 ∷ 0 ∷ 1 ∷ 0 ∷ 0 ∷ 0 ∷
     4 ∷ 0 ∷ 1 ∷ 0 ∷ 2 ∷ 0 ∷ 0 ∷ 0 ∷
-    3 ∷ 0 ∷ 2 ∷ 0 ∷ 1 ∷ 1 ∷ 4 ∷
+    3 ∷ 0 ∷ 2 ∷ 0 ∷ 1 ∷ 0 ∷ classes ∷
+    3 ∷ 0 ∷ 2 ∷ 0 ∷ 0 ∷ 1 ∷ classes ∷
     2 ∷ 0 ∷ 3 ∷ 0 ∷ 2 ∷ 1 ∷ []
 
+abbrev away : List ℕ
+away = 6 ∷ 0 ∷ 4 ∷ 0 ∷ 2 ∷ 0 ∷ 0 ∷ 0 ∷ 0 ∷ 0 ∷ 2 ∷ 0 ∷ 5 ∷ 0 ∷ 1 ∷ 0 ∷ []
+
+-- and one that parks there
 abbrev stay : List ℕ
 stay = 6 ∷ 0 ∷ 4 ∷ 0 ∷ 1 ∷ 0 ∷ 0 ∷ 0 ∷ 0 ∷ 0 ∷ 1 ∷ 0 ∷ 5 ∷ 0 ∷ 1 ∷ []
 
@@ -105,7 +125,9 @@ pub worked :
     × (verdict "[m0,3]\n[m0,3]" 0 ≡ AboutRules (refused 17 0 0))
     -- the lap's first step, a cart's class and start
     × (checked floor (planFrom 3 0) (sheet "F G [m1,1]") ≡ Accepted)
-    × (checked another stay (sheet "G [m1,1]") ≡ Accepted)
+    × (checked (another 4) away (sheet "G F [m1,1]") ≡ Accepted)
+    × (checked (another 251) away (sheet "G F [m1,1]") ≡ AboutPlan (refused 11 0 0))
+    × (checked (another 251) stay (sheet "G [m1,1]") ≡ Accepted)
     -- no other operator is X, and none inside a count
     × (verdict "true" 1 ≡ Accepted)
     × (verdict "[m0,0] U [m0,0]" 1 ≡ Accepted)
@@ -118,4 +140,24 @@ pub worked :
     × (verdict "[m0,1] U [m0,3]" 0 ≡ AboutRules (refused 17 0 0))
     × (verdict "X [m0,2]" 0 ≡ AboutRules (refused 17 0 0))
 unfolding computing
-worked = (refl, refl, refl, refl, refl, refl, refl, refl, refl, refl, refl, refl, refl, refl, refl, refl, refl)
+worked = (
+  refl,
+  refl,
+  refl,
+  refl,
+  refl,
+  refl,
+  refl,
+  refl,
+  refl,
+  refl,
+  refl,
+  refl,
+  refl,
+  refl,
+  refl,
+  refl,
+  refl,
+  refl,
+  refl,
+)

@@ -11,7 +11,7 @@ use borrow.Author.Tests.{eq-eqb}
 use Rattle.floor.specs.Numbers.{laneAt}
 use Rattle.floor.specs.Promises.{AcceptedFloor}
 use Rattle.floor.specs.declared.Floor.{Floor}
-use Rattle.row.specs.Moves.{bit, opens, isOpen, lanesIn}
+use Rattle.row.specs.Moves.{bit, opens, someLaneOpens, lanesIn}
 use Rattle.row.specs.Chain.{Leads}
 use Rattle.row.specs.Linked.{Linked, linked, ended, later}
 use Rattle.row.specs.FloorBytes.{lane-count, lane-byte}
@@ -26,10 +26,10 @@ pub record Following (s next : List ℕ) (c a b k : ℕ) : Type 0 where
   pub from : ℕ
   pub within : from ≤ length (lanesIn s)
   pub leads : Leads (lanesIn s) next a k from
-  pub same : isOpen (lanesIn s) c a b ≡ isOpen (drop from (lanesIn s)) c a b
+  pub same : someLaneOpens (lanesIn s) c a b ≡ someLaneOpens (drop from (lanesIn s)) c a b
 
 module _ (s next : List ℕ) (f : Floor) (w : AcceptedFloor s f) (c a b k : ℕ) (g : Following s next c a b k) where
-  pub none-open : k ≡ 0 → false ≡ isOpen (lanesIn s) c a b
+  pub none-open : k ≡ 0 → false ≡ someLaneOpens (lanesIn s) c a b
   none-open z = sym (g .same ∙ ended (lanesIn s) next a (g .leads) z (g .within) c b)
 
   module _ (some : k ≡ 0 → ⊥) where
@@ -57,10 +57,10 @@ module _ (s next : List ℕ) (f : Floor) (w : AcceptedFloor s f) (c a b k : ℕ)
         ∙ ap₂ (λ (x y : ℕ). eqb x b && bit c y) p q
 
     module _ (at : ℕ) (here : at ≡ laneAt f (k - 1)) (t : Bool) (e : t ≡ judged at) where
-      decided : (answer : Bool) → t ≡ answer → isOpen (lanesIn s) c a b ≡ answer || isOpen (drop (suc (it .lane)) (lanesIn s)) c a b
-      decided answer z = g .same ∙ it .same c b ∙ ap (λ (x : Bool). x || isOpen (drop (suc (it .lane)) (lanesIn s)) c a b) (by-bytes at here ∙ sym e ∙ z)
+      decided : (answer : Bool) → t ≡ answer → someLaneOpens (lanesIn s) c a b ≡ answer || someLaneOpens (drop (suc (it .lane)) (lanesIn s)) c a b
+      decided answer z = g .same ∙ it .same c b ∙ ap (λ (x : Bool). x || someLaneOpens (drop (suc (it .lane)) (lanesIn s)) c a b) (by-bytes at here ∙ sym e ∙ z)
 
-      pub found : t ≡ true → true ≡ isOpen (lanesIn s) c a b
+      pub found : t ≡ true → true ≡ someLaneOpens (lanesIn s) c a b
       found z = sym (decided true z)
 
       pub again : t ≡ false → (n : ℕ) → n ≡ getD next (k - 1) 0 → Following s next c a b n

@@ -8,6 +8,7 @@ pub mod Chain
 pub mod Firsts
 pub mod Round
 pub mod Judged
+pub mod Parking
 pub mod Unending
 pub mod Linked
 pub mod FloorBytes

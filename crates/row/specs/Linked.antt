@@ -9,20 +9,20 @@ use lib.Dec.{eqb}
 use lib.ListN.{length, drop, getD, set, drop-of-length-le, replicate, getD-replicate}
 use lib.Seq.{getD-set-same, getD-set-other, drop-cons}
 use borrow.Author.Tests.{eqb-true, eqb-false, ne-eqb}
-use Rattle.row.specs.Moves.{bit, opens, isOpen}
+use Rattle.row.specs.Moves.{bit, opens, someLaneOpens}
 use Rattle.row.specs.Chain.{leaves, Free, Leads, end, link, Chained}
 
 module _ (lanes : List (List ℕ)) where
   -- lanes that leave another place are passed over
-  skip : (c a b n j i : ℕ) → i ≡ j + n → i ≤ length lanes → Free lanes a j i → isOpen (drop j lanes) c a b ≡ isOpen (drop i lanes) c a b
-  unfolding isOpen
-  skip c a b zero j i e l f = let q : j ≡ i = omega arith in ap (λ (k : ℕ). isOpen (drop k lanes) c a b) q
+  skip : (c a b n j i : ℕ) → i ≡ j + n → i ≤ length lanes → Free lanes a j i → someLaneOpens (drop j lanes) c a b ≡ someLaneOpens (drop i lanes) c a b
+  unfolding someLaneOpens
+  skip c a b zero j i e l f = let q : j ≡ i = omega arith in ap (λ (k : ℕ). someLaneOpens (drop k lanes) c a b) q
   skip c a b (suc n) j i e l f =
       let m : j < length lanes = omega arith in
       let s = drop-cons lanes j [] m in
       let off : eqb (leaves lanes j) a ≡ false = ne-eqb _ _ (f j (omega arith) (omega arith)) in
-      ap (λ (x : List (List ℕ)). isOpen x c a b) s
-      ∙ ap (λ (t : Bool). (t && (eqb (getD (getD lanes j []) 1 0) b && bit c (getD (getD lanes j []) 2 0))) || isOpen (drop (suc j) lanes) c a b) off
+      ap (λ (x : List (List ℕ)). someLaneOpens x c a b) s
+      ∙ ap (λ (t : Bool). (t && (eqb (getD (getD lanes j []) 1 0) b && bit c (getD (getD lanes j []) 2 0))) || someLaneOpens (drop (suc j) lanes) c a b) off
       ∙ skip c a b n (suc j) i (omega arith) l (λ x p q. f x (omega arith) q)
 
   free-more : (a j i top : ℕ) → j ≡ suc i → Free lanes a j top → (leaves lanes i ≡ a → ⊥) → Free lanes a i top
@@ -41,10 +41,10 @@ module _ (lanes : List (List ℕ)) where
       pub there : lane < length lanes
       pub leaves-it : leaves lanes lane ≡ a
       pub rest : Leads lanes next a (getD next lane 0) (suc lane)
-      pub same : (c b : ℕ) → isOpen (drop j lanes) c a b ≡ opens (getD lanes lane []) c a b || isOpen (drop (suc lane) lanes) c a b
+      pub same : (c b : ℕ) → someLaneOpens (drop j lanes) c a b ≡ opens (getD lanes lane []) c a b || someLaneOpens (drop (suc lane) lanes) c a b
 
     pub linked : {k j : ℕ} → Leads lanes next a k j → (k ≡ 0 → ⊥) → Linked k j
-    unfolding isOpen
+    unfolding someLaneOpens
     linked (end f) n = absurd (n refl)
     linked {j = j} (link {i = i} p q e f r) n = record {
       lane = i;
@@ -53,14 +53,14 @@ module _ (lanes : List (List ℕ)) where
       there = q;
       leaves-it = e;
       rest = r;
-      same = λ c b. skip c a b (i - j) j i (omega arith) (omega arith) f ∙ ap (λ (x : List (List ℕ)). isOpen x c a b) (drop-cons lanes i [] q);
+      same = λ c b. skip c a b (i - j) j i (omega arith) (omega arith) f ∙ ap (λ (x : List (List ℕ)). someLaneOpens x c a b) (drop-cons lanes i [] q);
     }
 
-    pub ended : {k j : ℕ} → Leads lanes next a k j → k ≡ 0 → j ≤ length lanes → (c b : ℕ) → isOpen (drop j lanes) c a b ≡ false
-    unfolding isOpen
+    pub ended : {k j : ℕ} → Leads lanes next a k j → k ≡ 0 → j ≤ length lanes → (c b : ℕ) → someLaneOpens (drop j lanes) c a b ≡ false
+    unfolding someLaneOpens
     ended {j = j} (end f) z l c b =
         skip c a b (length lanes - j) j (length lanes) (omega arith) (omega arith) f
-        ∙ ap (λ (x : List (List ℕ)). isOpen x c a b) (drop-of-length-le lanes {i = length lanes} (omega arith))
+        ∙ ap (λ (x : List (List ℕ)). someLaneOpens x c a b) (drop-of-length-le lanes {i = length lanes} (omega arith))
     ended (link p q e f r) z l c b = absurd (omega arith)
 
     -- a link points at a later lane

@@ -28,9 +28,13 @@ abbrev pub opens : List ℕ → ℕ → ℕ → ℕ → Bool
 opens lane c a b = eqb (getD lane 0 0) a && (eqb (getD lane 1 0) b && bit c (getD lane 2 0))
 
 -- "The same lane may stand twice; either opens it."
+unfoldable pub someLaneOpens : List (List ℕ) → ℕ → ℕ → ℕ → Bool
+someLaneOpens [] c a b = false
+someLaneOpens (lane ∷ lanes) c a b = opens lane c a b || someLaneOpens lanes c a b
+
+-- document 02, 1): "A move from a place to the same place is open to every class, lane or not." Any other needs a lane.
 unfoldable pub isOpen : List (List ℕ) → ℕ → ℕ → ℕ → Bool
-isOpen [] c a b = false
-isOpen (lane ∷ lanes) c a b = opens lane c a b || isOpen lanes c a b
+isOpen lanes c a b = eqb a b || someLaneOpens lanes c a b
 
 -- the move that leaves step s of a row of h steps whose lap begins at l, "the move from h − 1 to l included"
 abbrev pub openAt : List (List ℕ) → ℕ → List ℕ → ℕ → ℕ → ℕ → Bool

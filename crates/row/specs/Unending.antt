@@ -13,6 +13,7 @@ use Rattle.row.specs.Lasso.{nextStep, stepOf}
 use Rattle.row.specs.Moves.{isOpen, openAt, lowestShut, judgedMoves}
 use Rattle.row.specs.Meaning.{Unending, Lowest}
 use Rattle.row.specs.Judged.{at-start}
+use Rattle.row.specs.Parking.{shut-apart}
 use Rattle.row.specs.Round.{step-low, step-below, step-next}
 use Rattle.row.specs.declared.MoveAnswer.{MoveAnswer}
 use Rattle.row.specs.declared.MoveAnswer.the-variants.{Open, Elsewhere, Shut}
@@ -39,7 +40,8 @@ module _ (lanes : List (List ℕ)) (class : ℕ) (row : List ℕ) (h l : ℕ) wh
       let s = w .is in
       let z : w .at ≡ k = cc in
       let top : 0 + h ≡ h = omega arith in
-      subst (Lowest lanes class row h l) z (subst (λ (n : ℕ). FailsFirst (openAt lanes class row h l) 0 n (w .at)) top (w .first))
+      let f : FailsFirst (openAt lanes class row h l) 0 h (w .at) = subst (λ (n : ℕ). FailsFirst (openAt lanes class row h l) 0 n (w .at)) top (w .first) in
+      subst (Lowest lanes class row h l) z (record { first = f; departs = shut-apart lanes class _ _ (f .fails) })
 
   -- only such moves are accepted
   pub unending : (start : ℕ) → l < h → judgedMoves lanes class start row h l ≡ Open → Unending lanes class start row h l

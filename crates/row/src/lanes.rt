@@ -1,4 +1,4 @@
-// Lanes by the place that they leave, and the one judge of a move.
+// Lanes by the place that they leave.
 use crate::Links;
 use floor::Floor;
 ghost use mathlib.Core.Path.{_≡_};
@@ -6,7 +6,7 @@ ghost use mathlib.Core.Bool.{_&&_};
 ghost use Prim.Native.Nat.{_<_};
 ghost use lib.Dec.{eqb};
 ghost use Rattle.floor.specs.Promises.{AcceptedFloor};
-ghost use Rattle.row.specs.Moves.{bit, isOpen, lanesIn};
+ghost use Rattle.row.specs.Moves.{bit, lanesIn, someLaneOpens};
 ghost use Rattle.row.specs.Chain.{Chained};
 
 // Links the lanes of an accepted floor, the last lane first.
@@ -40,8 +40,8 @@ fn opens_to(target: u8, classes: u8, class: u8, to: u8) -> bool
     (classes >> class) % 2 == 1
 }
 
-// Whether a move is open to a class: the lanes that leave its place are looked at, in the file's order.
-pub(crate) fn is_open<'a>(
+// Whether some lane opens a move to a class: those that leave its place are looked at, in the file's order.
+pub(crate) fn some_lane_opens<'a>(
     s: &[u8],
     f: Floor,
     first: &'a [u16; 256],
@@ -53,7 +53,7 @@ pub(crate) fn is_open<'a>(
     requires { ⌜ AcceptedFloor (now s) f ⌝ }
     requires { ⌜ Chained (lanesIn (now s)) (now first) (now next) 0 ⌝ }
     requires { ⌜ class < 8 ⌝ }
-    ensures { λ r. ⌜ r ≡ isOpen (lanesIn (now (s .entry))) class from to ⌝ }
+    ensures { λ r. ⌜ r ≡ someLaneOpens (lanesIn (now (s .entry))) class from to ⌝ }
 {
     let mut k = endian::wide16(first[endian::wide(from)]);
     while k != 0 {

@@ -62,7 +62,7 @@ verdict-of-requires c κs =
       λ s e. omega (
         arith,
         refused-step (lanesIn (a .s .now)) _ (a .row .now) (length (a .row .now))
-            (a .stem) _ s (sym (c .judge-moves .ensures) ∙ e) .1 .below,
+            (a .stem) _ s (sym (c .judge-moves .ensures) ∙ e) .1 .first .below,
         p .1 .1 .2,
       ),
     )

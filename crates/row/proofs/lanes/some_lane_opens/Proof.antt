@@ -7,8 +7,8 @@ use Rattle.row.specs.Chain.{Leads, Chained}
 use Rattle.row.specs.Moves.{lanesIn}
 use Rattle.row.specs.FloorBytes.{file-length}
 use Rattle.row.proofs.Following.{Following, rank, none-open, found, again, falls, lane-below}
-use Rattle.row.proofs.lanes.is_open.Statement.{statement}
-use Rattle.row.proofs.lanes.is_open.Tie as tie
+use Rattle.row.proofs.lanes.some_lane_opens.Statement.{statement}
+use Rattle.row.proofs.lanes.some_lane_opens.Tie as tie
 
 abbrev Inv-loop : tie.InvT-loop
 Inv-loop s f first next class from to k₀ k = Following s next class from to k
@@ -135,8 +135,8 @@ returns-2 c =
     none-open (a .s .now) (a .next .now) (a .f) (c .before .before .before .before .before .before .pre .0) (a .class) (a .from) (a .to)
     (c .before .loop .k) (c .before .loop .inv) (c .loop-test .left)
 
-pub is-open-spec : {M : Type 1} → statement M
-is-open-spec =
+pub some-lane-opens-spec : {M : Type 1} → statement M
+some-lane-opens-spec =
     tie.close
     (tie.spec
     Inv-loop
