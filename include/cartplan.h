@@ -54,8 +54,8 @@ struct cartplan_verdict cartplan_write_plan(const uint8_t *floor, size_t floor_l
 struct cartplan_verdict cartplan_read_rules(const uint8_t *rules, size_t rules_len);
 
 /* Checks the moves of a plan. The refusals of reading come first; then, carts in order: 10 (cart, 0) for a row that does not
- * begin at the cart's start, 11 (cart, step) for the lowest step that the cart leaves by no lane open to its class, the move
- * from step h - 1 to l included. */
+ * begin at the cart's start, 11 (cart, step) for the lowest step that the cart leaves for another place by no lane open to its
+ * class, the move from step h - 1 to l included. Any cart may park: a move from a place to the same place needs no lane. */
 struct cartplan_verdict cartplan_check_moves(const uint8_t *floor, size_t floor_len,
                                              const uint8_t *plan, size_t plan_len);
 

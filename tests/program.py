@@ -27,6 +27,7 @@ CASES = [
     ("workshop", [read("workshop", name) for name in ("floor", "plan", "rules")], "accepted"),
     ("two carts", [FLOOR, PLAN, RULES], "accepted"),
     ("a clause that fails at step 2", [FLOOR, PLAN, b"G [m0,1]\n"], "refused rules 17 0 2"),
+    ("no lanes", [FLOOR[:16] + FLOOR[30:], PLAN, RULES], "refused plan 11 0 0"),
     ("no floor", [None, PLAN, RULES], "refused floor 7 0 0"),
     ("no plan", [FLOOR, None, RULES], "refused plan 7 0 0"),
     ("no rules", [FLOOR, PLAN, None], "refused rules 7 0 0"),

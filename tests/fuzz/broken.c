@@ -71,6 +71,8 @@ verdict __wrap_cartplan_check_moves(BYTES(floor), BYTES(plan))
 {
     verdict v = __real_cartplan_check_moves(floor, floor_len, plan, plan_len);
     if (fault("accepts_moves")) return (verdict){0, 0, 0, 0};
+    if (fault("parked_shut") && v.number == 0) return (verdict){2, 11, 0, 0};
+    if (fault("step_one_late") && v.number == 11) return (verdict){2, 11, v.first, v.second + 1};
     return v;
 }
 
@@ -99,6 +101,7 @@ verdict __wrap_cartplan_replace_row(BYTES(floor), uint8_t *plan, size_t plan_len
     if (fault("replaces_less") && v.number == 0 && cart == 1) plan[plan_len - 1] = last;
     if (fault("replaces_more") && v.number == 0) plan[10]++;
     if (fault("replaces_on_refusal") && v.number == 19) plan[plan_len - 1]++;
+    if (fault("parked_row_shut") && v.number == 11) v.second = 0;
     return v;
 }
 

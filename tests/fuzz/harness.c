@@ -225,12 +225,36 @@ static void after_check(const struct operation *op, verdict v)
     drift[0] = expected(PLAN)[8];
 }
 
-/* A replaced row's bytes alone may change: behind the head's ten bytes, a row for each cart. */
+/* 11 is given only between two different places: a row's on that step, and on the step after it. */
+static void demand_departs(const uint8_t *row, uint32_t step)
+{
+    const uint8_t *head = lent[PLAN].at + 4;
+    demand(step < head[0], "the step is one of the row's");
+    demand(row[step] != row[step + 1 < head[0] ? step + 1 : head[2]], "11 between two different places");
+}
+
+/* The row of a cart: behind the head's ten bytes, each has four of its own before it. */
+static size_t row_offset(uint32_t of)
+{
+    return 10 + (size_t)of * (4 + lent[PLAN].at[4]) + 4;
+}
+
+static void after_moves(const struct operation *op, verdict v)
+{
+    (void)op;
+    if (v.number == 11) demand_departs(lent[PLAN].at + row_offset(v.first), v.second);
+}
+
+/* A replaced row's bytes alone may change. */
 static void after_replace(const struct operation *op, verdict v)
 {
     (void)op;
+    if (v.number == 11 && check_moves().number == 0) {
+        demand(v.first == cart(), "11 of the new row");
+        demand_departs(lent[ROW].at, v.second);
+    }
     if (v.number != 0) return;
-    size_t h = lent[PLAN].at[4], offset = 10 + (size_t)cart() * (4 + h) + 4;
+    size_t h = lent[PLAN].at[4], offset = row_offset(cart());
     demand(lent[ROW].len == h && offset + h <= lent[PLAN].len, "the row is of the plan");
     memcpy(expected(PLAN) + offset, lent[ROW].at, h);
     demand_done(check_moves(), 0);
@@ -249,7 +273,7 @@ static const struct operation operations[OPERATIONS] = {
     [WRITE_PLAN] = {"write_plan", write_plan, after_write, 4, B(FLOOR) | B(ROWS) | B(OUT), {READ_FLOOR},
                     {0, 0, N(1) | N(4) | N(5) | N(7) | N(8) | N(9) | N(18)}},
     [READ_RULES] = {"read_rules", read_rules, NULL, 0, B(RULES), {0}, {0, 0, 0, SHEET}},
-    [CHECK_MOVES] = {"check_moves", check_moves, NULL, 0, B(FLOOR) | B(PLAN), {READ_PLAN}, {0, 0, N(10) | N(11)}},
+    [CHECK_MOVES] = {"check_moves", check_moves, after_moves, 0, B(FLOOR) | B(PLAN), {READ_PLAN}, {0, 0, N(10) | N(11)}},
     [CHECK] = {"check", check, after_check, 0, B(FLOOR) | B(PLAN) | B(RULES), {CHECK_MOVES, READ_RULES}, {0, 0, 0, N(16) | N(17)}},
     [MOVE_ON] = {"move_on", move_on, after_write, 2, B(FLOOR) | B(PLAN) | B(OUT), {READ_PLAN}, {0, 0, N(18)}},
     [REPLACE_ROW] = {"replace_row", replace_row, after_replace, 2, B(FLOOR) | B(PLAN) | B(ROW), {CHECK_MOVES},

@@ -82,16 +82,19 @@ def seeds_of(floor, plan, rules):
 
 
 def special_seeds():
-    """A clause that fails at a step. Moves on by less than the run-in, by just it and by a whole lap more. No lanes. Sheets past level
-    32 and 128 nodes. Buffers past the limits by repetition: a floor of 65,550 bytes, a plan of 65,542, a sheet of 16,649, 116 clauses,
+    """A clause that fails at a step. Moves on by less than the run-in, by just it and by a whole lap more. Carts that park on a floor
+    without lanes, one that leaves its place there, and a row for it that does. Sheets past level 32 and 128 nodes. Buffers past the limits by repetition: a floor of 65,550 bytes, a plan of 65,542, a sheet of 16,649, 116 clauses,
     261 places, 521 carts, 33 rows and a half. A cart too many, a verdict of 14 bytes. Empty buffers as null pointers."""
     line, (floor, plan, _), two_carts = b"G [m0,1]\n", full(), folder("examples/two-carts")
+    parked, away = (record(4, little(3, 2, 0)) + record(5, row) for row in ([0, 0, 0], [0, 0, 1]))
     return {
         "fails_at_2": seed("check", [], *two_carts[:2], b"true\n" + line),
         "move_on-3": seed("move_on", [3, 0], floor, plan),
         "move_on-20": seed("move_on", [20, 170], floor, plan),
         "move_on-61": seed("move_on", [61, 999], floor, plan),
         "no_lanes": seed("check_moves", [], PLACE + CART * 2, one()[1] + record(5, [0])),
+        "no_lane_away": seed("check", [], PLACE * 2 + CART, away, line),
+        "no_lane_for_row": seed("replace_row", [0, 0], PLACE * 2 + CART, parked, bytes([0, 0, 1])),
         "deep_sheet": seed("read_rules", [], b"[m0,1] & !" + b"(" * 30 + b"[X (m1),1] " + b")" * 30 + b"\n"),
         "many_nodes": seed("read_rules", [], b"true |" * 64 + b"true\n"),
         "long_floor": seed("read_floor", [], PLACE * 3 + CART, repeat=63 << 2),
