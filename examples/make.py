@@ -28,8 +28,8 @@ HIDES = 1 << 0  # open to class 0, the carts that carry hides
 PANELS = 1 << 1  # open to class 1, the carts that carry cut panels
 
 EXAMPLES = {
-    # Document 01's cases: two carts that go from place 0 to place 1 and back, and park there for a step. A cart may park on any
-    # place, so the floor needs no lane from a place to itself.
+    # Document 01's cases: two carts that go from place 0 to place 1 and back, and park on each for a step. A cart may park on
+    # any place, so the floor needs no lane from a place to itself.
     "two-carts": (
         floor(
             places=[{0}, {1}],

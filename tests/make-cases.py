@@ -644,7 +644,7 @@ PARKED = [
     ("parked: lanes away for the class alone", PLACES + lane(0, 1, 2) + cart(1, 0), head(2) + row(0, 0), MOVES, "accepted"),
     ("parked: on another place than the start", NO_LANES, head(1) + row(0) + row(1), MOVES, "refused plan 10 1 0"),
     ("parked: by the closing move, l = h - 1", RING, head(3, 2) + row(1, 2, 0), MOVES, "accepted"),
-    ("parked: by the closing move, l = h - 2", RING, head(3, 1) + row(1, 2, 2), MOVES, "accepted"),
+    ("parked: by the closing move, l = h - 2", RING, head(4, 2) + row(1, 2, 0, 0), MOVES, "accepted"),
     ("parked: but the closing move is shut", RING, head(4) + row(1, 1, 2, 2), MOVES, "refused plan 11 0 3"),
     ("parked: then a shut move", NO_LANES, pair(4, 3, 0, 0, 0, 1, 1), MOVES, "refused plan 11 0 1"),
     ("parked: the first cart; the second is shut", NO_LANES, head(2, 1) + row(0, 0) + row(0, 1), MOVES, "refused plan 11 1 0"),

@@ -1,7 +1,7 @@
 #!/usr/bin/env python3
 """Runs the program cartcheck on folders of files at the limits of its buffers, absent files and each file's refusal, and compares the line
 that it prints, also where standard input is closed, so that the first file has descriptor 0. The lines are written by hand from
-document 01. Then sees that the lines due of the program cases name each refusal, 1 to 19. Run from the repository's root after
+documents 01 and 02. Then sees that the lines due of the program cases name each refusal, 1 to 19. Run from the repository's root after
 `rt check cartcheck`."""
 import pathlib
 import re

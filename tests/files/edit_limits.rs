@@ -210,7 +210,7 @@ fn replacing_order() -> Vec<Limit> {
 
 /// New rows for a cart of class 2, h 3 and l 1.
 fn replacing_moves() -> Vec<Limit> {
-    let lanes = [[0, 1, 4], [1, 2, 5], [2, 1, 255], [2, 2, 251], [2, 3, 4], [3, 2, 251]];
+    let lanes = [[0, 1, 4], [1, 2, 5], [2, 1, 255], [1, 1, 251], [2, 3, 4], [3, 2, 251]];
     let floor = floor(4, &lanes, &[[2, 0]]);
     let old = plan(1, 16, &[&[0, 1, 2]]);
     let case = |name: &'static str, row: &[u8], due: Result<&[u8], Verdict>| {
@@ -226,7 +226,7 @@ fn replacing_moves() -> Vec<Limit> {
         case("no lane at step 1", &[0, 1, 3], Err([2, 11, 0, 1])),
         case("parked, no lane at step 1", &[0, 0, 2], Err([2, 11, 0, 1])),
         case("parked elsewhere", &[2, 2, 2], Err([2, 10, 0, 0])),
-        case("no lane back to l", &[0, 1, 0], Err([2, 11, 0, 1])),
+        case("no lane back to 0", &[0, 1, 0], Err([2, 11, 0, 1])),
     ]
 }
 

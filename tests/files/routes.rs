@@ -42,6 +42,19 @@ fn step(random: &mut Random, h: usize) -> usize {
     random.pick(&[0, h - 1, h - 1, any, any])
 }
 
+/// A step of the row's that is left for another place, if one is soon found: parking needs no lane.
+fn departing_step(random: &mut Random, moves: &[Move]) -> usize {
+    let mut found = step(random, moves.len());
+    for _ in 0..8 {
+        let (from, to, _) = moves[found];
+        if from != to {
+            break;
+        }
+        found = step(random, moves.len());
+    }
+    found
+}
+
 /// A row from `start` over places of the pool; parking is frequent.
 fn row(random: &mut Random, start: u8, h: u16, pool: &[u8]) -> Vec<u8> {
     let mut row = vec![start];
@@ -190,7 +203,8 @@ pub fn route(random: &mut Random, open: Open) -> Route {
         Open::NotRow => Some(carts),
     };
     if let Some(row) = left_out {
-        moves.remove(row * h + step(random, h));
+        let from = row * h;
+        moves.remove(from + departing_step(random, &moves[from..from + h]));
     }
     floor.lanes = lanes(random, &moves, places, &pool);
     Route {

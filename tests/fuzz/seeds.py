@@ -83,8 +83,9 @@ def seeds_of(floor, plan, rules):
 
 def special_seeds():
     """A clause that fails at a step. Moves on by less than the run-in, by just it and by a whole lap more. Carts that park on a floor
-    without lanes, one that leaves its place there, and a row for it that does. Sheets past level 32 and 128 nodes. Buffers past the limits by repetition: a floor of 65,550 bytes, a plan of 65,542, a sheet of 16,649, 116 clauses,
-    261 places, 521 carts, 33 rows and a half. A cart too many, a verdict of 14 bytes. Empty buffers as null pointers."""
+    without lanes, one that leaves its place there, and a row for it that does. Sheets past level 32 and 128 nodes. Buffers past the
+    limits by repetition: a floor of 65,550 bytes, a plan of 65,542, a sheet of 16,649, 116 clauses, 261 places, 521 carts, 33 rows and
+    a half. A cart too many, a verdict of 14 bytes. Empty buffers as null pointers."""
     line, (floor, plan, _), two_carts = b"G [m0,1]\n", full(), folder("examples/two-carts")
     parked, away = (record(4, little(3, 2, 0)) + record(5, row) for row in ([0, 0, 0], [0, 0, 1]))
     return {

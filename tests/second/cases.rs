@@ -144,7 +144,7 @@ fn compare(floor: &[u8], plan: &[u8], rules: &[u8], wanted: Verdict) -> Result<(
     ))
 }
 
-/// Lanes, a cart's class, the rows of one cart from place 0 and its lap's first step, refusal of its moves: two places.
+/// Lanes, a cart's class, the row of that cart from place 0 and its lap's first step, refusal of its moves: two places.
 type Moves = (&'static [[u8; 3]], u8, &'static [u8], u8, Refusal);
 
 /// Parked carts, and carts that leave their place without a lane.

@@ -1,4 +1,4 @@
-//! A second checker of plans, written from documents 01 and 002 alone, beside the verified one.
+//! A second checker of plans, written from documents 01, 02 and 002 alone, beside the verified one.
 //!
 //!     second CASES SEED         both checkers on random triples
 //!     second soak CASES SEED    the same for long runs, told in parts

@@ -86,7 +86,7 @@ pub replaced-moves : (floor before : List ℕ) (cart : ℕ) (row after : List �
     → MovesCheckedCode floor after c′ → c′ .number ≡ 0
 replaced-moves floor before cart row after c c′ w z m = ap (λ (x : Code). x .number) (m .coded .code) ∙ ap (λ (v : Verdict). codeOf v .number) (w .replaces z .moves)
 
----- 11: the cart leaves the step for another place, so that no parked cart is refused by it.
+---- 11: the cart leaves the step for another place, so that it is never given for a step on which a cart is parked.
 module _ (floor plan : List ℕ) (f : Floor) (p : PlanNumbers) (files : ReadAs floor plan f p) (c : Code) (e : c .number ≡ 11) where
   pub moves-departs : MovesCheckedCode floor plan c → CartDeparts p (c .first) (c .second)
   moves-departs w = w .shut-11 f p files e .departs
@@ -96,7 +96,7 @@ module _ (floor plan : List ℕ) (f : Floor) (p : PlanNumbers) (files : ReadAs f
 
   pub replace-departs : (cart : ℕ) (row after : List ℕ) → RowReplacedCode floor plan cart row c after
       → CartDeparts p (c .first) (c .second) ⊎ CartDeparts (replaced cart row p) (c .first) (c .second)
-  replace-departs cart row after w = ⊎-elim (λ l. inl (l .departs)) (λ l. inr (l .departs)) (w .shut-11 f p files e)
+  replace-departs cart row after w = ⊎-elim (λ l. inl (l .departs)) (λ l. inr (l .2 .departs)) (w .shut-11 f p files e)
 
 ---- The check.
 module _ (floor plan rules : List ℕ) (c : Code) (w : PlanCheckedCode floor plan rules c) where

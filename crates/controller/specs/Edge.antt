@@ -102,7 +102,7 @@ pub record MovesCheckedCode (floor plan : List ℕ) (c : Code) : Type 0 where
   pub accepted : (c .number ≡ 0) ↔ Moving floor plan
   -- floor and plan read, and refused: the first cart refused, and for 11 its lowest step
   pub first : (f : Floor) (p : PlanNumbers) → ReadAs floor plan f p → (c .number ≡ 0 → ⊥) → FirstRefused floor f p (checkedMoves floor plan)
-  -- 11, by the cart in `first` and the step in `second`: its lowest that is left by a move that is not open, and that for another place
+  -- 11, by the cart in `first` and the step in `second`: the lowest step that it leaves by a move that is not open, and it leaves it for another place
   pub shut-11 : (f : Floor) (p : PlanNumbers) → ReadAs floor plan f p → c .number ≡ 11 → LowestLeft floor p (c .first) (c .second)
 
 -- cartplan_check
@@ -141,6 +141,7 @@ pub record RowReplacedCode (floor before : List ℕ) (cart : ℕ) (row : List �
   -- a row that fits a cart of the floor, and whose moves go on without end as those of the plan do, is not refused
   pub complete : (f : Floor) (p : PlanNumbers) → ReadAs floor before f p → AllUnending floor f p → cart < f .carts
       → RowFits (p .head .steps) (f .places) row → CartUnending floor (replaced cart row p) cart → c .number ≡ 0
-  -- 11, as for cartplan_check_moves: of the plan as it is, or with the new row
+  -- 11, as for cartplan_check_moves: of the plan as it is or, where its moves go on without end, of this cart with the new row
   pub shut-11 : (f : Floor) (p : PlanNumbers) → ReadAs floor before f p → c .number ≡ 11
-      → LowestLeft floor p (c .first) (c .second) ⊎ LowestLeft floor (replaced cart row p) (c .first) (c .second)
+      → LowestLeft floor p (c .first) (c .second)
+      ⊎ (AllUnending floor f p × (c .first ≡ cart) × LowestLeft floor (replaced cart row p) (c .first) (c .second))

@@ -70,6 +70,6 @@ pub record RowReplaced (floor before : List ℕ) (c : ℕ) (row : List ℕ) (v :
   -- a row that fits a cart of the floor, and whose moves go on without end as those of the plan do, is not refused
   pub complete : (f : Floor) (p : PlanNumbers) → ReadAs floor before f p → AllUnending floor f p → c < f .carts
       → RowFits (p .head .steps) (f .places) row → CartUnending floor (replaced c row p) c → v ≡ Accepted
-  -- 11, of the plan as it is or with the new row: the "lowest step left", and that for another place
+  -- 11, of the plan as it is or, where its moves go on without end, of cart c with the new row: the "lowest step left", left for another place
   pub shut-11 : (f : Floor) (p : PlanNumbers) → ReadAs floor before f p → (n k : ℕ) → v ≡ AboutPlan (refused 11 n k)
-      → LowestLeft floor p n k ⊎ LowestLeft floor (replaced c row p) n k
+      → LowestLeft floor p n k ⊎ (AllUnending floor f p × (n ≡ c) × LowestLeft floor (replaced c row p) n k)

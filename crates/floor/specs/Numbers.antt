@@ -74,7 +74,7 @@ bodyAt size at s = take size (drop (at + 4) s)
 abbrev pub Words : List ℕ → Type 0
 Words l = (i : ℕ) → getD l i 0 < 2 ^ 32
 
--- "FloorNumbers that no file could give are refused as reading their file would be (fields are no wider than the file's), then 18 as below"
+-- "numbers that no file could give are refused as reading their file would be (fields are no wider than the file's), then 18 as below"
 abbrev pub byReading : FloorAnswer → List ℕ → List ℕ → Outcome
 byReading (Refused r) file out = unchanged (AboutFloor r) out
 byReading (Read f) file out = written AboutFloor file out

@@ -22,7 +22,8 @@ classOf floor c = getD (getD (cartsIn floor) c []) 0 0
 abbrev pub startOf : List ℕ → ℕ → ℕ
 startOf floor c = getD (getD (cartsIn floor) c []) 1 0
 
--- document 01's numbers of each answer: "10 first place is not the start (cart, 0), then 11 no open lane (cart, lowest step left)"
+-- document 01's numbers of each answer: "10 first place is not the start (cart, 0), then 11 no open lane (cart, lowest step left)"; document 02, 1):
+-- "11 is then given only between two different places"
 abbrev pub verdictOf : ℕ → MoveAnswer → Verdict
 verdictOf c Open = Accepted
 verdictOf c Elsewhere = AboutPlan (refused 10 c 0)

@@ -33,9 +33,9 @@ plan l i j p q r =
     3 ∷ 0 ∷ 5 ∷ 0 ∷ 0 ∷ i ∷ j ∷
     3 ∷ 0 ∷ 5 ∷ 0 ∷ p ∷ q ∷ r ∷ []
 
--- lanes 0 to 0 and 0 to 1
-abbrev still : List ℕ
-still = floor 0 0 255 0 0
+-- lanes from 0 to 1 alone
+abbrev onward : List ℕ
+onward = floor 0 1 255 0 0
 
 -- the definitions that the check computes with, under one name
 computing : List ℕ → List ℕ → Verdict
@@ -45,23 +45,24 @@ unfolding
 computing floor plan = checkedMoves floor plan
 
 pub worked :
-    (checkedMoves still (plan 0 0 0 0 0 0) ≡ Accepted)
+    (checkedMoves onward (plan 0 0 0 0 0 0) ≡ Accepted)
     -- the move from the last step to the lap's first, from place 1 back to 0
-    × (checkedMoves still (plan 0 0 0 0 0 1) ≡ AboutPlan (refused 11 1 2))
+    × (checkedMoves onward (plan 0 0 0 0 0 1) ≡ AboutPlan (refused 11 1 2))
     × (checkedMoves (floor 1 1 255 0 0) (plan 0 1 1 0 1 1) ≡ AboutPlan (refused 11 0 2))
     -- and to another first step: carts park on place 1, which no lane leaves
-    × (checkedMoves still (plan 1 1 1 0 1 1) ≡ Accepted)
-    × (checkedMoves still (plan 2 0 1 0 0 1) ≡ Accepted)
-    -- every class parks, where its start is
+    × (checkedMoves onward (plan 1 1 1 0 1 1) ≡ Accepted)
+    × (checkedMoves onward (plan 2 0 1 0 0 1) ≡ Accepted)
+    -- class 7 parks: on a place that no lane leaves, and where the lane from the place to itself is for class 0 alone
     × (checkedMoves (floor 0 1 1 7 1) (plan 0 0 0 1 1 1) ≡ Accepted)
     × (checkedMoves (floor 0 0 1 7 0) (plan 0 0 0 0 0 0) ≡ Accepted)
     -- the lowest step, and not the last, nor one that the cart stays on
-    × (checkedMoves still (plan 0 1 0 0 0 0) ≡ AboutPlan (refused 11 0 1))
+    × (checkedMoves onward (plan 0 1 0 0 0 0) ≡ AboutPlan (refused 11 0 1))
     × (checkedMoves (floor 1 0 255 0 1) (plan 0 0 0 1 1 0) ≡ Accepted)
-    × (checkedMoves still (plan 0 0 0 0 1 0) ≡ AboutPlan (refused 11 1 1))
+    × (checkedMoves onward (plan 0 0 0 0 1 0) ≡ AboutPlan (refused 11 1 1))
+    × (checkedMoves onward (plan 0 1 0 0 1 0) ≡ AboutPlan (refused 11 0 1))
     -- 10 before 11 of one cart, but carts in order
-    × (checkedMoves still (plan 0 0 0 1 0 0) ≡ AboutPlan (refused 10 1 0))
-    × (checkedMoves still (plan 0 0 1 1 0 0) ≡ AboutPlan (refused 11 0 2))
+    × (checkedMoves onward (plan 0 0 0 1 0 0) ≡ AboutPlan (refused 10 1 0))
+    × (checkedMoves onward (plan 0 0 1 1 0 0) ≡ AboutPlan (refused 11 0 2))
     -- each cart's own start and class
     × (checkedMoves (floor 0 0 255 0 1) (plan 0 0 0 0 0 0) ≡ AboutPlan (refused 10 1 0))
     × (checkedMoves (floor 1 0 3 1 0) (plan 0 0 1 0 0 1) ≡ Accepted)
@@ -69,9 +70,10 @@ pub worked :
     × (checkedMoves (floor 1 0 2 1 0) (plan 0 0 1 0 0 1) ≡ AboutPlan (refused 11 0 2))
     -- the floor's refusal, then the plan's
     × (checkedMoves [] [] ≡ AboutFloor (refused 7 0 0))
-    × (checkedMoves still [] ≡ AboutPlan (refused 7 0 0))
+    × (checkedMoves onward [] ≡ AboutPlan (refused 7 0 0))
 unfolding computing
 worked = (
+  refl,
   refl,
   refl,
   refl,

@@ -46,7 +46,7 @@ pub record FirstRefused (floor : List ℕ) (f : Floor) (p : PlanNumbers) (v : Ve
   pub before : (c : ℕ) → c < cart → CartUnending floor p c
   -- 10: "first place is not the start"
   pub away : v ≡ verdictOf cart Elsewhere → getD (getD (p .rows) cart []) 0 0 ≡ startOf floor cart → ⊥
-  -- 11 names the "lowest step left", and that for another place
+  -- 11 names the "lowest step left", and it is left for another place
   pub lowest : (k : ℕ) → v ≡ verdictOf cart (Shut k) → LowestLeft floor p cart k
 
 pub record MovesChecked (floor plan : List ℕ) (v : Verdict) : Type 0 where

@@ -1,7 +1,7 @@
 -- Where 11 is given, its step is the lowest that the cart leaves by a move that is not open.
 use Prim.Native.Nat.{ℕ}
 use native.Mathlib.Omega.{arith}
-use mathlib.Core.Path.{_≡_, refl, sym, ap, subst, subst₂, _∙_}
+use mathlib.Core.Path.{_≡_, refl, ap, subst, _∙_}
 use mathlib.Core.List.{List, []}
 use lib.ListN.{getD}
 use Rattle.refusal.specs.Codes.{refused, codeOf}

@@ -52,7 +52,7 @@ abbrev pub judgedNumbers : PlanAnswer → NumbersAnswer
 judgedNumbers (accepted n) = Good
 judgedNumbers (rejected r) = Refused r
 
--- "PlanNumbers that no file could give are refused as reading their file would be (fields are no wider than the file's), then 18 as below"
+-- "numbers that no file could give are refused as reading their file would be (fields are no wider than the file's), then 18 as below"
 abbrev pub byReading : PlanAnswer → List ℕ → List ℕ → Outcome
 byReading (accepted n) file out = written AboutPlan file out
 byReading (rejected r) file out = unchanged (AboutPlan r) out

@@ -98,7 +98,7 @@ parked = (refl, refl, refl, refl, refl, refl, refl, refl, refl, refl, refl, refl
 abbrev astray : List ℕ
 astray = 6 ∷ 0 ∷ 4 ∷ 0 ∷ 1 ∷ 0 ∷ 0 ∷ 0 ∷ 0 ∷ 0 ∷ 1 ∷ 0 ∷ 5 ∷ 0 ∷ 1 ∷ 1 ∷ 0 ∷ 5 ∷ 0 ∷ 0 ∷ []
 
--- the two places, lanes 1→0 and 0→1 for these classes, a cart of class 2 from place 1; and a plan that goes there and back
+-- the two places, lanes 1→0 and 0→1 for these classes, a cart of class 2 from place 1; and a plan that goes to place 0 and back
 abbrev another : ℕ → List ℕ
 another classes =
     4 ∷ 0 ∷ 1 ∷ 0 ∷ 1 ∷ 0 ∷ 0 ∷ 0 ∷
@@ -110,7 +110,7 @@ another classes =
 abbrev away : List ℕ
 away = 6 ∷ 0 ∷ 4 ∷ 0 ∷ 2 ∷ 0 ∷ 0 ∷ 0 ∷ 0 ∷ 0 ∷ 2 ∷ 0 ∷ 5 ∷ 0 ∷ 1 ∷ 0 ∷ []
 
--- and one that parks there
+-- and one that parks on place 1
 abbrev stay : List ℕ
 stay = 6 ∷ 0 ∷ 4 ∷ 0 ∷ 1 ∷ 0 ∷ 0 ∷ 0 ∷ 0 ∷ 0 ∷ 1 ∷ 0 ∷ 5 ∷ 0 ∷ 1 ∷ []
 

@@ -13,8 +13,8 @@ abbrev one-way : List (List ℕ)
 one-way = (0 ∷ 1 ∷ 1 ∷ []) ∷ []
 
 -- one lane, from place 0 to itself for class 0
-abbrev self : List (List ℕ)
-self = (0 ∷ 0 ∷ 1 ∷ []) ∷ []
+abbrev to-itself : List (List ℕ)
+to-itself = (0 ∷ 0 ∷ 1 ∷ []) ∷ []
 
 -- place 0 to 1 for classes 0 and 2, and place 1 to 0 twice, for class 0 and for class 2
 abbrev two-ways : List (List ℕ)
@@ -48,13 +48,13 @@ pub worked :
     × (judged 0 0 ≡ Open)
     -- 10 before 11
     × (judged 1 1 ≡ Elsewhere)
-    -- a cart parks on any place: with no lane on the floor, on a place that none leaves, beside lanes that leave it, for every class
+    -- a cart parks on any place: with no lane on the floor, on a place that none leaves, beside a lane that leaves it, whatever its class
     × (isOpen [] 0 0 0 ≡ true)
     × (isOpen one-way 7 1 1 ≡ true)
     × (isOpen one-way 1 0 0 ≡ true)
-    -- a lane from a place to itself opens that place to no fewer classes, and no other place
-    × (isOpen self 1 0 0 ≡ true)
-    × (isOpen self 0 0 1 ≡ false)
+    -- a lane from a place to itself shuts no class out, and opens no other move
+    × (isOpen to-itself 1 0 0 ≡ true)
+    × (isOpen to-itself 0 0 1 ≡ false)
     -- the closing move too: the lap is the last step alone, or the only one
     × (judged 0 1 ≡ Open)
     × (judgedMoves [] 7 3 (3 ∷ []) 1 0 ≡ Open)
@@ -64,8 +64,11 @@ pub worked :
     × (one-way-row (0 ∷ 0 ∷ 1 ∷ 1 ∷ []) 4 2 ≡ Open)
     × (one-way-row (0 ∷ 0 ∷ 1 ∷ 1 ∷ []) 4 0 ≡ Shut 3)
     × (judgedMoves [] 0 0 (0 ∷ 0 ∷ 1 ∷ 1 ∷ []) 4 2 ≡ Shut 1)
+    -- the lowest of two
+    × (judgedMoves [] 0 0 (0 ∷ 0 ∷ 1 ∷ 0 ∷ []) 4 0 ≡ Shut 1)
 unfolding nextStep stepOf someLaneOpens isOpen lowestShut judgedMoves
 worked = (
+  refl,
   refl,
   refl,
   refl,

@@ -44,6 +44,6 @@ openAt lanes class row h l s = isOpen lanes class (getD row s 0) (getD row (next
 unfoldable pub lowestShut : List (List ℕ) → ℕ → List ℕ → ℕ → ℕ → ℕ → ℕ → MoveAnswer
 lowestShut lanes class row h l n s = firstFailing (openAt lanes class row h l) Shut (λ end. Open) n s
 
--- "10 first place is not the start .., then 11 no open lane"
+-- "10 first place is not the start .., then 11 no open lane", which document 02, 1) gives only between two different places
 unfoldable pub judgedMoves : List (List ℕ) → ℕ → ℕ → List ℕ → ℕ → ℕ → MoveAnswer
 judgedMoves lanes class start row h l = cond (eqb (getD row 0 0) start) (lowestShut lanes class row h l h 0) Elsewhere
