@@ -3,11 +3,11 @@ use Prim.Native.Nat.{ℕ, _+_, _≤_, _<_}
 use native.Mathlib.Omega.{arith}
 use mathlib.Core.Path.{_≡_, refl, sym, ap, subst, _∙_}
 use mathlib.Core.Bool.{true, false}
-use mathlib.Core.Logic.{_↔_}
+use mathlib.Core.Logic.{_⊎_, inl, inr, ⊎-elim, _↔_}
 use mathlib.Core.List.{List, [], _++_}
 use lib.ListN.{length, take, drop, getD}
 use lib.Seq.{getD-set-same}
-use Rattle.refusal.specs.Codes.{codeOf}
+use Rattle.refusal.specs.Codes.{refused, codeOf}
 use Rattle.refusal.specs.Given.{Given, movingOn, replacingRow}
 use Rattle.refusal.specs.Numbered.{zero-accepts, zero-writes}
 use Rattle.refusal.specs.Held.{about-plan, with-room, without-room}
@@ -25,7 +25,7 @@ use Rattle.plan.specs.Valid.{RowFits}
 use Rattle.plan.specs.RoundTrip.{valid}
 use Rattle.plan.specs.Read.{ReadingCases, floor-refused, plan-refused, both-read, reading-cases, read-on}
 use Rattle.row.specs.Round.{pick}
-use Rattle.moves.specs.Promises.{AllUnending, CartUnending, Moving}
+use Rattle.moves.specs.Promises.{AllUnending, CartUnending, CartDeparts, LowestLeft, Moving}
 use Rattle.moves.specs.Unending.{sound}
 use Rattle.moves.specs.Demands.{read-once}
 use Rattle.edit.specs.Moved.{moved, moveOn}
@@ -171,6 +171,15 @@ module _ (floor before : List ℕ) (c : ℕ) (row : List ℕ) (v : Verdict) (aft
           let d = valid f after (replaced c row p) reads-replaced in
           let size : length row ≡ p .head .steps = ap length (sym new-there) ∙ d .steps c cart in
           record { size = size; there = λ t l. subst (λ (x : List ℕ). getD x t 0 < f .places) new-there (d .places c t cart (omega arith)) }
+
+    module _ (n k : ℕ) (e : v ≡ AboutPlan (refused 11 n k)) where
+      -- 11 of another cart is the plan's own
+      pub other-11 : (n ≡ c → ⊥) → LowestLeft floor p n k
+      other-11 other = ⊎-elim (λ w. w) (λ w. absurd (other (w .1))) (w .shut-11 f p r n k e)
+
+      -- and in either case the step is left for another place
+      pub replaced-departs : CartDeparts p n k ⊎ CartDeparts (replaced c row p) n k
+      replaced-departs = ⊎-elim (λ w. inl (w .departs)) (λ w. inr (w .2 .departs)) (w .shut-11 f p r n k e)
 
     -- done exactly if the plan's moves go on without end, the cart is there, and the row fits it and goes on without end
     pub replaced-exactly :
