@@ -210,7 +210,14 @@ fn replacing_order() -> Vec<Limit> {
 
 /// New rows for a cart of class 2, h 3 and l 1.
 fn replacing_moves() -> Vec<Limit> {
-    let lanes = [[0, 1, 4], [1, 2, 5], [2, 1, 255], [1, 1, 251], [2, 3, 4], [3, 2, 251]];
+    let lanes = [
+        [0, 1, 4],
+        [1, 2, 5],
+        [2, 1, 255],
+        [1, 1, 251],
+        [2, 3, 4],
+        [3, 2, 251],
+    ];
     let floor = floor(4, &lanes, &[[2, 0]]);
     let old = plan(1, 16, &[&[0, 1, 2]]);
     let case = |name: &'static str, row: &[u8], due: Result<&[u8], Verdict>| {
@@ -232,7 +239,15 @@ fn replacing_moves() -> Vec<Limit> {
 
 /// Only the closing move is shut to the new row, but where the lap is its last step alone.
 fn replacing_closing() -> Vec<Limit> {
-    let lanes = [[0, 1, 2], [1, 2, 3], [2, 0, 2], [2, 1, 2], [1, 3, 2], [0, 3, 2], [3, 3, 253]];
+    let lanes = [
+        [0, 1, 2],
+        [1, 2, 3],
+        [2, 0, 2],
+        [2, 1, 2],
+        [1, 3, 2],
+        [0, 3, 2],
+        [3, 3, 253],
+    ];
     let floor = floor(4, &lanes, &[[1, 0]]);
     let case = |name: &'static str, l: u8, due: Result<&[u8], Verdict>| {
         let old = plan(l, 0, &[&[0, 1, 2]]);
@@ -241,7 +256,11 @@ fn replacing_closing() -> Vec<Limit> {
     vec![
         case("no closing move to 0", 0, Err([2, 11, 0, 2])),
         case("no closing move to 1", 1, Err([2, 11, 0, 2])),
-        case("parked by the closing move", 2, Ok(&plan(2, 0, &[&[0, 1, 3]]))),
+        case(
+            "parked by the closing move",
+            2,
+            Ok(&plan(2, 0, &[&[0, 1, 3]])),
+        ),
     ]
 }
 

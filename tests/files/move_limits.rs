@@ -134,12 +134,28 @@ fn classes() -> Vec<Limit> {
 fn parked() -> Vec<Limit> {
     let mut cases = Vec::new();
     for class in 0..8 {
-        for (to, classes) in [(0, 0), (0, !(1 << class)), (0, 1 << class), (1, 0), (1, 255)] {
+        for (to, classes) in [
+            (0, 0),
+            (0, !(1 << class)),
+            (0, 1 << class),
+            (1, 0),
+            (1, 255),
+        ] {
             let floor = floor(2, &[[0, to, classes]], &[[class, 0]]);
-            cases.push(check("parked beside a lane", &floor, &plan(0, 0, &[&[0, 0]]), DONE));
+            cases.push(check(
+                "parked beside a lane",
+                &floor,
+                &plan(0, 0, &[&[0, 0]]),
+                DONE,
+            ));
         }
         let floor = floor(256, &[[0, 1, 255]], &[[class, 255]]);
-        cases.push(check("parked off every lane", &floor, &plan(0, 16, &[&[255]]), DONE));
+        cases.push(check(
+            "parked off every lane",
+            &floor,
+            &plan(0, 16, &[&[255]]),
+            DONE,
+        ));
     }
     cases
 }

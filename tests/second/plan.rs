@@ -85,7 +85,9 @@ impl Plan {
 fn adjacency(floor: &Floor) -> Vec<u8> {
     let places = floor.places.len();
     let mut open = vec![0; places * places];
-    open.iter_mut().step_by(places + 1).for_each(|classes| *classes = 255);
+    open.iter_mut()
+        .step_by(places + 1)
+        .for_each(|classes| *classes = 255);
     for lane in &floor.lanes {
         open[lane.from * places + lane.to] |= lane.classes;
     }

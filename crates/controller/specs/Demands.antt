@@ -96,7 +96,7 @@ module _ (floor plan : List ℕ) (f : Floor) (p : PlanNumbers) (files : ReadAs f
 
   pub replace-departs : (cart : ℕ) (row after : List ℕ) → RowReplacedCode floor plan cart row c after
       → CartDeparts p (c .first) (c .second) ⊎ CartDeparts (replaced cart row p) (c .first) (c .second)
-  replace-departs cart row after w = ⊎-elim (λ l. inl (l .departs)) (λ l. inr (l .2 .departs)) (w .shut-11 f p files e)
+  replace-departs cart row after w = ⊎-elim (λ of-plan. inl (of-plan .departs)) (λ of-row. inr (of-row .2 .departs)) (w .shut-11 f p files e)
 
 ---- The check.
 module _ (floor plan rules : List ℕ) (c : Code) (w : PlanCheckedCode floor plan rules c) where

@@ -175,11 +175,11 @@ module _ (floor before : List ℕ) (c : ℕ) (row : List ℕ) (v : Verdict) (aft
     module _ (n k : ℕ) (e : v ≡ AboutPlan (refused 11 n k)) where
       -- 11 of another cart is the plan's own
       pub other-11 : (n ≡ c → ⊥) → LowestLeft floor p n k
-      other-11 other = ⊎-elim (λ w. w) (λ w. absurd (other (w .1))) (w .shut-11 f p r n k e)
+      other-11 other = ⊎-elim (λ of-plan. of-plan) (λ of-row. absurd (other (of-row .1))) (w .shut-11 f p r n k e)
 
       -- and in either case the step is left for another place
       pub replaced-departs : CartDeparts p n k ⊎ CartDeparts (replaced c row p) n k
-      replaced-departs = ⊎-elim (λ w. inl (w .departs)) (λ w. inr (w .2 .departs)) (w .shut-11 f p r n k e)
+      replaced-departs = ⊎-elim (λ of-plan. inl (of-plan .departs)) (λ of-row. inr (of-row .2 .departs)) (w .shut-11 f p r n k e)
 
     -- done exactly if the plan's moves go on without end, the cart is there, and the row fits it and goes on without end
     pub replaced-exactly :

@@ -30,8 +30,11 @@ verdictOf c Elsewhere = AboutPlan (refused 10 c 0)
 verdictOf c (Shut s) = AboutPlan (refused 11 c s)
 
 -- a row as cart c's, by an h and l
+abbrev pub cartAnswer : List ℕ → ℕ → List ℕ → ℕ → ℕ → MoveAnswer
+cartAnswer floor c row h l = judgedMoves (lanesIn floor) (classOf floor c) (startOf floor c) row h l
+
 abbrev pub cartVerdict : List ℕ → ℕ → List ℕ → ℕ → ℕ → Verdict
-cartVerdict floor c row h l = verdictOf c (judgedMoves (lanesIn floor) (classOf floor c) (startOf floor c) row h l)
+cartVerdict floor c row h l = verdictOf c (cartAnswer floor c row h l)
 
 abbrev pub rowVerdict : List ℕ → PlanNumbers → ℕ → Verdict
 rowVerdict floor p c = cartVerdict floor c (getD (p .rows) c []) (p .head .steps) (p .head .stem)

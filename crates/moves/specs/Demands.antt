@@ -18,10 +18,9 @@ use Rattle.floor.specs.declared.FloorAnswer.{FloorAnswer}
 use Rattle.floor.specs.declared.FloorAnswer.the-variants.{Read as FloorAccepted, Refused as FloorRefused}
 use Rattle.plan.specs.Plan.{PlanNumbers, PlanAnswer, accepted, rejected, readPlan, afterPlan, afterFloor}
 use Rattle.plan.specs.After.{afterReading, ReadAs}
-use Rattle.row.specs.Moves.{lanesIn, judgedMoves}
 use Rattle.row.specs.declared.MoveAnswer.{MoveAnswer}
-use Rattle.row.specs.declared.MoveAnswer.the-variants.{Open, Elsewhere, Shut}
-use Rattle.moves.specs.Carts.{classOf, startOf, verdictOf, movesVerdict, checkedMoves}
+use Rattle.moves.specs.Carts.{startOf, cartAnswer, movesVerdict, checkedMoves}
+use Rattle.moves.specs.Unending.{same-cart}
 use Rattle.moves.specs.Promises.{CartUnending, AllUnending, CartDeparts, LowestLeft, FirstRefused, MovesChecked}
 
 -- floor and plan are read in one way
@@ -33,15 +32,9 @@ read-once floor plan f g n m a b =
     let numbers : n ≡ m = cc in
     (same, numbers)
 
--- the moves of cart c's row judged
+-- the moves of cart c's row in a plan, judged
 abbrev answerOf : List ℕ → PlanNumbers → ℕ → MoveAnswer
-answerOf floor p c = judgedMoves (lanesIn floor) (classOf floor c) (startOf floor c) (getD (p .rows) c []) (p .head .steps) (p .head .stem)
-
--- a refusal names its own cart
-same-cart : (c d n k : ℕ) (a : MoveAnswer) → verdictOf c a ≡ AboutPlan (refused n d k) → c ≡ d
-same-cart c d n k Open e = let z : _≡_ {A = ℕ} 0 1 = cc in absurd (omega arith)
-same-cart c d n k Elsewhere e = ap (λ (v : Verdict). codeOf v .first) e
-same-cart c d n k (Shut s) e = ap (λ (v : Verdict). codeOf v .first) e
+answerOf floor p c = cartAnswer floor c (getD (p .rows) c []) (p .head .steps) (p .head .stem)
 
 -- 11: the step is the lowest that its cart leaves by a move that is not open
 pub first-11 : (floor : List ℕ) (f : Floor) (p : PlanNumbers) (c k : ℕ) → FirstRefused floor f p (AboutPlan (refused 11 c k)) → LowestLeft floor p c k

@@ -12,10 +12,9 @@ use Rattle.refusal.specs.declared.Verdict.the-variants.{Accepted}
 use Rattle.plan.specs.Plan.{PlanNumbers}
 use Rattle.plan.specs.Refusing.{given-after}
 use Rattle.row.specs.Firsts.{each-answer}
-use Rattle.row.specs.Moves.{lanesIn, judgedMoves}
 use Rattle.row.specs.declared.MoveAnswer.{MoveAnswer}
 use Rattle.row.specs.declared.MoveAnswer.the-variants.{Open, Elsewhere, Shut}
-use Rattle.moves.specs.Carts.{classOf, startOf, verdictOf, cartVerdict, rowVerdict, rowAccepted, judgedCarts, movesVerdict, checkedMoves}
+use Rattle.moves.specs.Carts.{verdictOf, cartAnswer, cartVerdict, rowVerdict, rowAccepted, judgedCarts, movesVerdict, checkedMoves}
 
 -- of any operation that refuses with 10 and 11 and says no more than accepted
 module _ (t : Refusals) (done : t .done ≡ accepts) (numbers : allAmong (t .plan) (10 ∷ 11 ∷ []) ≡ true) where
@@ -25,7 +24,7 @@ module _ (t : Refusals) (done : t .done ≡ accepts) (numbers : allAmong (t .pla
   answer-given c (Shut s) = one-of-more (10 ∷ 11 ∷ []) (t .plan) 11 numbers (inr (inl refl))
 
   pub row-given : (floor : List ℕ) (c : ℕ) (row : List ℕ) (h l : ℕ) → Given t (cartVerdict floor c row h l)
-  row-given floor c row h l = answer-given c (judgedMoves (lanesIn floor) (classOf floor c) (startOf floor c) row h l)
+  row-given floor c row h l = answer-given c (cartAnswer floor c row h l)
 
   pub carts-given : (floor : List ℕ) (p : PlanNumbers) (n c : ℕ) → Given t (judgedCarts floor p n c)
   unfolding judgedCarts

@@ -1,7 +1,7 @@
 -- Where 11 is given, its step is the lowest that the cart leaves by a move that is not open.
 use Prim.Native.Nat.{ℕ}
 use native.Mathlib.Omega.{arith}
-use mathlib.Core.Path.{_≡_, refl, ap, subst, _∙_}
+use mathlib.Core.Path.{_≡_, sym, ap, subst, _∙_}
 use mathlib.Core.List.{List, []}
 use lib.ListN.{getD}
 use Rattle.refusal.specs.Codes.{refused, codeOf}
@@ -10,27 +10,20 @@ use Rattle.refusal.specs.declared.Verdict.the-variants.{Accepted, Plan as About
 use Rattle.plan.specs.Plan.{PlanNumbers}
 use Rattle.row.specs.Firsts.{each-answer}
 use Rattle.row.specs.Meaning.{Lowest}
-use Rattle.row.specs.Moves.{lanesIn, judgedMoves}
+use Rattle.row.specs.Moves.{lanesIn}
 use Rattle.row.specs.Unending.{refused-step}
-use Rattle.row.specs.declared.MoveAnswer.{MoveAnswer}
-use Rattle.row.specs.declared.MoveAnswer.the-variants.{Open, Elsewhere, Shut}
-use Rattle.moves.specs.Carts.{classOf, startOf, verdictOf, cartVerdict, rowVerdict, rowAccepted, judgedCarts}
+use Rattle.moves.specs.Carts.{classOf, startOf, cartAnswer, cartVerdict, rowVerdict, rowAccepted, judgedCarts}
+use Rattle.moves.specs.Unending.{only-shut, same-cart}
 use Rattle.moves.specs.Promises.{LowestLeft}
 
 module _ (floor : List ℕ) (n k : ℕ) where
   -- of a row as cart c's
   pub row-11 : (c : ℕ) (row : List ℕ) (h l : ℕ) → cartVerdict floor c row h l ≡ AboutPlan (refused 11 n k)
       → (c ≡ n) × Lowest (lanesIn floor) (classOf floor c) row h l k
-  row-11 c row h l = go (judgedMoves (lanesIn floor) (classOf floor c) (startOf floor c) row h l) refl
-    where
-      go : (a : MoveAnswer) → judgedMoves (lanesIn floor) (classOf floor c) (startOf floor c) row h l ≡ a → verdictOf c a ≡ AboutPlan (refused 11 n k)
-          → (c ≡ n) × Lowest (lanesIn floor) (classOf floor c) row h l k
-      go Open q e = let z = ap (λ (v : Verdict). codeOf v .number) e in absurd (omega arith)
-      go Elsewhere q e = let z = ap (λ (v : Verdict). codeOf v .number) e in absurd (omega arith)
-      go (Shut s) q e = (
-        ap (λ (v : Verdict). codeOf v .first) e,
-        refused-step _ _ _ _ _ (startOf floor c) k (q ∙ ap Shut (ap (λ (v : Verdict). codeOf v .second) e)) .1,
-      )
+  row-11 c row h l e =
+      let q = same-cart c n 11 k (cartAnswer floor c row h l) e in
+      let shut = only-shut c k (cartAnswer floor c row h l) (e ∙ ap (λ (i : ℕ). AboutPlan (refused 11 i k)) (sym q)) in
+      (q, refused-step _ _ _ _ _ (startOf floor c) k shut .1)
 
   -- of the carts in order
   pub carts-11 : (p : PlanNumbers) (m c : ℕ) → judgedCarts floor p m c ≡ AboutPlan (refused 11 n k) → LowestLeft floor p n k

@@ -6,10 +6,10 @@ use mathlib.Core.Bool.{true, false}
 use mathlib.Core.List.{List}
 use Rattle.refusal.specs.Stages.{isAccepted}
 use Rattle.refusal.specs.Accepting.{accepted-is}
-use Rattle.refusal.specs.Codes.{codeOf}
+use Rattle.refusal.specs.Codes.{refused, codeOf}
 use Rattle.refusal.specs.Given.{Given, checkingMoves}
 use Rattle.refusal.specs.declared.Verdict.{Verdict}
-use Rattle.refusal.specs.declared.Verdict.the-variants.{Accepted}
+use Rattle.refusal.specs.declared.Verdict.the-variants.{Accepted, Plan as AboutPlan}
 use Rattle.floor.specs.declared.Floor.{Floor}
 use Rattle.plan.specs.Plan.{PlanNumbers, accepted, readPlan}
 use Rattle.plan.specs.After.{ReadAs}
@@ -28,7 +28,7 @@ only-open c Open e = refl
 only-open c Elsewhere e = let z : _≡_ {A = ℕ} 0 1 = cc in absurd (omega arith)
 only-open c (Shut s) e = let z : _≡_ {A = ℕ} 0 1 = cc in absurd (omega arith)
 
-only-shut : (c k : ℕ) (a : MoveAnswer) → verdictOf c a ≡ verdictOf c (Shut k) → a ≡ Shut k
+pub only-shut : (c k : ℕ) (a : MoveAnswer) → verdictOf c a ≡ verdictOf c (Shut k) → a ≡ Shut k
 only-shut c k Open e = let z = ap (λ (v : Verdict). codeOf v .number) e in absurd (omega arith)
 only-shut c k Elsewhere e = let z = ap (λ (v : Verdict). codeOf v .number) e in absurd (omega arith)
 only-shut c k (Shut s) e = ap Shut (ap (λ (v : Verdict). codeOf v .second) e)
@@ -37,6 +37,12 @@ only-elsewhere : (c : ℕ) (a : MoveAnswer) → verdictOf c a ≡ verdictOf c El
 only-elsewhere c Open e = let z = ap (λ (v : Verdict). codeOf v .number) e in absurd (omega arith)
 only-elsewhere c Elsewhere e = refl
 only-elsewhere c (Shut s) e = let z = ap (λ (v : Verdict). codeOf v .number) e in absurd (omega arith)
+
+-- a refusal names its own cart
+pub same-cart : (c d n k : ℕ) (a : MoveAnswer) → verdictOf c a ≡ AboutPlan (refused n d k) → c ≡ d
+same-cart c d n k Open e = let z : _≡_ {A = ℕ} 0 1 = cc in absurd (omega arith)
+same-cart c d n k Elsewhere e = ap (λ (v : Verdict). codeOf v .first) e
+same-cart c d n k (Shut s) e = ap (λ (v : Verdict). codeOf v .first) e
 
 module _ (floor : List ℕ) (p : PlanNumbers) where
   -- cart c's row is not refused

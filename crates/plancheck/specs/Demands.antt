@@ -18,7 +18,7 @@ use Rattle.floor.specs.declared.FloorAnswer.the-variants.{Read as FloorAccepted
 use Rattle.plan.specs.Plan.{PlanNumbers, rejected, readPlan}
 use Rattle.plan.specs.After.{ReadAs}
 use Rattle.moves.specs.Promises.{LowestLeft, FirstRefused}
-use Rattle.moves.specs.Demands.{first-11}
+use Rattle.moves.specs.Demands.{read-once, first-11}
 use Rattle.grammar.specs.Grammar.{top, Clause}
 use Rattle.cltl.specs.Meaning.{Run, TrueOf, TrueInStep}
 use Rattle.cltl.specs.Rules.{hasNext}
@@ -64,12 +64,6 @@ module _ (floor plan sheet : List ℕ) (yes : Type 0) (w : Means floor plan shee
   no-next e = let a = w .readable e in (a .0, a .1, a .2, a .3 .readable, a .3 .no-16)
 
 ---- Refused by 11, 16 or 17, in the caller's own reading of floor, plan and sheet.
-same-floor : (floor plan : List ℕ) (f g : Floor) (p q : PlanNumbers) → ReadAs floor plan f p → ReadAs floor plan g q → f ≡ g
-same-floor floor plan f g p q a b = let x = a .floor-read in let y = b .floor-read in cc
-
-same-plan : (floor plan : List ℕ) (f g : Floor) (p q : PlanNumbers) → ReadAs floor plan f p → ReadAs floor plan g q → p ≡ q
-same-plan floor plan f g p q a b = let x = a .plan-read in let y = b .plan-read in let e = same-floor floor plan f g p q a b in cc
-
 -- 11: step k is the lowest that cart c leaves by a move that is not open, and the cart is on another place after it
 pub check-11 : (floor plan sheet : List ℕ) (v : Verdict) → PlanChecked floor plan sheet v → (f : Floor) (p : PlanNumbers) → ReadAs floor plan f p
     → (c k : ℕ) → v ≡ AboutPlan (refused 11 c k) → LowestLeft floor p c k
@@ -80,7 +74,8 @@ check-11 floor plan sheet v w f p files c k e = let x = w .plan-refused (refused
         → LowestLeft floor p c k
     go g a (inl u) = let x = files .floor-read in let y = files .plan-read in let z : _≡_ {A = ℕ} 0 1 = cc in absurd (omega arith)
     go g a (inr r) =
-        subst (λ (q : PlanNumbers). LowestLeft floor q c k) (same-plan floor plan g f (r .0) p (r .1) files) (first-11 floor g (r .0) c k (r .2))
+        let same = read-once floor plan g f (r .0) p (r .1) files in
+        subst (λ (q : PlanNumbers). LowestLeft floor q c k) (same .1) (first-11 floor g (r .0) c k (r .2))
 
 module _ (floor plan sheet : List ℕ) (v : Verdict) (w : PlanChecked floor plan sheet v) (f : Floor) (p : PlanNumbers) (cs : List Clause)
     (r : ReadAndOpen floor plan sheet f p cs) (k s : ℕ) where
@@ -98,9 +93,9 @@ module _ (floor plan sheet : List ℕ) (v : Verdict) (w : PlanChecked floor plan
   clause-17 e =
       let x = w .fails-17 k s e in
       let a = x .ahead .readable in
+      let same = read-once floor plan (x .floor-is) f (x .numbers) p (a .files) (r .files) in
       subst₃
       (λ (g : Floor) (q : PlanNumbers) (ds : List Clause). (k < length ds)
       × (Kept (planRows floor g q) (q .head .drift) (getD ds k top) → ⊥) × FailingStep (planRows floor g q) (q .head .drift) (getD ds k top) s)
-      (same-floor floor plan (x .floor-is) f (x .numbers) p (a .files) (r .files))
-      (same-plan floor plan (x .floor-is) f (x .numbers) p (a .files) (r .files)) (same-clauses sheet (x .clauses) cs (a .clauses) (r .clauses))
+      (same .0) (same .1) (same-clauses sheet (x .clauses) cs (a .clauses) (r .clauses))
       (x .there, x .not-kept, x .step)

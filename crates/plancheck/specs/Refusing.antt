@@ -29,8 +29,7 @@ use Rattle.plan.specs.RoundTrip.{valid}
 use Rattle.plan.specs.Refusing.{refused-number as plan-number}
 use Rattle.row.specs.declared.MoveAnswer.{MoveAnswer}
 use Rattle.row.specs.declared.MoveAnswer.the-variants.{Open, Elsewhere, Shut}
-use Rattle.row.specs.Moves.{lanesIn, judgedMoves}
-use Rattle.moves.specs.Carts.{classOf, startOf, verdictOf, movesVerdict}
+use Rattle.moves.specs.Carts.{verdictOf, cartAnswer, movesVerdict}
 use Rattle.moves.specs.Refusing.{row-given}
 use Rattle.moves.specs.Promises.{AllUnending, Moving, FirstRefused}
 use Rattle.moves.specs.Unending.{all-unending, moves-read, promise}
@@ -254,7 +253,7 @@ module _ (floor plan sheet : List ℕ) where
             let q = moves-read floor plan f p files in
             let w = promise floor plan (movesVerdict floor f p) (sym q) .first f p files e in
             let c = w .cart in
-            let a : MoveAnswer = judgedMoves (lanesIn floor) (classOf floor c) (startOf floor c) (getD (p .rows) c []) (p .head .steps) (p .head .stem) in
+            let a = cartAnswer floor c (getD (p .rows) c []) (p .head .steps) (p .head .stem) in
             subst Meant (w .refused)
             (row-refused c a (subst (FirstRefused floor f p) (sym (w .refused)) w) (ap isAccepted (w .refused) ∙ e))
 
