@@ -12,7 +12,7 @@ use Rattle.record.specs.Record.{recordsIn}
 use Rattle.record.specs.Found.{foundAt}
 use Rattle.record.specs.Opened.{opened, found-end, found-cut}
 use Rattle.record.specs.declared.Found.the-variants.{End, Cut, Whole}
-use Rattle.floor.specs.Floor.{kindOf, judged, onward, walk, atEnd, readOn, emptyFloor, readFloor}
+use Rattle.floor.specs.Floor.{judged, onward, walk, atEnd, readOn, emptyFloor, readFloor}
 use Rattle.floor.specs.declared.Floor.{Floor}
 use Rattle.floor.specs.declared.RecordAnswer.{RecordAnswer}
 use Rattle.floor.specs.declared.RecordAnswer.the-variants.{Good, Fault}
@@ -41,7 +41,7 @@ module _ (s : List ℕ) (f : Floor) (at : ℕ) where
     body = take (e - a) (drop a s)
 
     -- by how the record is judged
-    by : (j : RecordAnswer) → judged f (kindOf k) body ≡ j
+    by : (j : RecordAnswer) → judged f k body ≡ j
         → readOn f at (recordsIn (drop at s)) ≡ atEnd (onward j at (λ g. walk g (at + 4 + length body) (recordsIn (drop e s) .records)))
         (recordsIn (drop e s) .cut)
     unfolding walk
@@ -49,10 +49,10 @@ module _ (s : List ℕ) (f : Floor) (at : ℕ) where
         ap (readOn f at) (opened s at k a e found .rest)
         ∙ ap (λ (j : RecordAnswer). atEnd (onward j at (λ g. walk g (at + 4 + length body) (recordsIn (drop e s) .records))) (recordsIn (drop e s) .cut)) q
 
-    pub at-fault : (n : ℕ) → judged f (kindOf k) body ≡ Fault n → readOn f at (recordsIn (drop at s)) ≡ Refused (atOffset n at)
+    pub at-fault : (n : ℕ) → judged f k body ≡ Fault n → readOn f at (recordsIn (drop at s)) ≡ Refused (atOffset n at)
     at-fault n q = by (Fault n) q
 
-    pub at-good : (g : Floor) → judged f (kindOf k) body ≡ Good g → readOn f at (recordsIn (drop at s)) ≡ readOn g e (recordsIn (drop e s))
+    pub at-good : (g : Floor) → judged f k body ≡ Good g → readOn f at (recordsIn (drop at s)) ≡ readOn g e (recordsIn (drop e s))
     at-good g q =
         let o = opened s at k a e found in
         let n : length body ≡ e - a = length-take-le (e - a) (drop a s) (omega (arith, length-drop a s, o .within)) in

@@ -1,7 +1,7 @@
 -- Reading a floor: "For each record, offset at its start: 2 .. 6. At the end 7."
 use Prim.Native.Nat.{ℕ, _+_}
 use mathlib.Core.Bool.{Bool, true, false, cond, not, _||_}
-use mathlib.Core.List.{List, [], _∷_}
+use mathlib.Core.List.{List, [], _∷_, _++_}
 use lib.Dec.{eqb, leb, ltb}
 use lib.ListN.{length, getD}
 use Rattle.refusal.specs.Codes.{atOffset, firstFault, unlessFault}
@@ -16,59 +16,65 @@ use Rattle.floor.specs.declared.Walked.the-variants.{At, Stopped}
 use Rattle.floor.specs.declared.FloorAnswer.{FloorAnswer}
 use Rattle.floor.specs.declared.FloorAnswer.the-variants.{Read, Refused}
 
--- "A floor holds kinds 1, 2, 3 in that order": places, lanes, carts.
-pub data Kind : Type 0 where
-  place lane cart unknown : Kind
+-- A kind of record: its number, the bytes of its body, how many are taken, and its field test, by how many records there are of each kind before it in
+-- the table.
+pub record Kind : Type 0 where
+  pub number : ℕ
+  pub size : ℕ
+  pub most : ℕ
+  pub bad : List ℕ → List ℕ → Bool
 
--- 1 place, 2 lane, 3 cart
-abbrev pub kindOf : ℕ → Kind
-kindOf n = cond (eqb n 1) place (cond (eqb n 2) lane (cond (eqb n 3) cart unknown))
+-- 6: "absent place"; "places and carts are numbered from 0 in file order", and places are the first kind of the table
+abbrev pub absent : List ℕ → ℕ → Bool
+absent before q = leb (getD before 0 0) q
 
--- 3: "kind unknown or out of place", that is, below one already seen
-abbrev pub outOfPlace : Floor → Kind → Bool
-outOfPlace f place = ltb 0 (f .lanes) || ltb 0 (f .carts)
-outOfPlace f lane = ltb 0 (f .carts)
-outOfPlace f cart = false
-outOfPlace f unknown = true
+-- 1 place: "4 bytes: one bit for each mark", "1 to 256"
+abbrev pub place : Kind
+place = record { number = 1; size = 4; most = 256; bad = λ before body. false }
 
--- 4: "wrong body length". A place is "4 bytes: one bit for each mark", a lane "from, to, classes (a byte each)", a cart "class 0 to 7, start place".
-abbrev pub sizeOf : Kind → ℕ
-sizeOf place = 4
-sizeOf lane = 3
-sizeOf cart = 2
-sizeOf unknown = 0
+-- 2 lane: "from, to, classes (a byte each)", "0 to 1,024"
+abbrev pub lane : Kind
+lane = record { number = 2; size = 3; most = 1024; bad = λ before body. absent before (getD body 0 0) || absent before (getD body 1 0) }
 
--- 5: "one too many": 256 places, 1,024 lanes, 32 carts
-abbrev pub full : Floor → Kind → Bool
-full f place = leb 256 (f .places)
-full f lane = leb 1024 (f .lanes)
-full f cart = leb 32 (f .carts)
-full f unknown = false
+-- 3 cart: "class 0 to 7, start place", "1 to 32"; 6: "class over 7"
+abbrev pub cart : Kind
+cart = record { number = 3; size = 2; most = 32; bad = λ before body. ltb 7 (getD body 0 0) || absent before (getD body 1 0) }
 
--- 6: "absent place or class over 7"; "places and carts are numbered from 0 in file order"
-abbrev pub badField : Floor → Kind → List ℕ → Bool
-badField f place body = false
-badField f lane body = leb (f .places) (getD body 0 0) || leb (f .places) (getD body 1 0)
-badField f cart body = ltb 7 (getD body 0 0) || leb (f .places) (getD body 1 0)
-badField f unknown body = false
+-- "A floor holds kinds 1, 2, 3 in that order": the table
+abbrev pub kinds : List Kind
+kinds = place ∷ lane ∷ cart ∷ []
 
--- a record's refusal by these tests in order, 0 for none
-abbrev pub faultOf : Floor → Kind → List ℕ → ℕ
-faultOf f k body = firstFault ((outOfPlace f k, 3) ∷ (not (eqb (length body) (sizeOf k)), 4) ∷ (full f k, 5) ∷ (badField f k body, 6) ∷ [])
+-- how many records of each kind a floor has, in the table's order, and the floor that has so many
+abbrev pub counts : Floor → List ℕ
+counts f = f .places ∷ f .lanes ∷ f .carts ∷ []
 
--- one place, lane or cart more
-abbrev pub counted : Floor → Kind → Floor
-counted f place = record { places = f .places + 1; lanes = f .lanes; carts = f .carts }
-counted f lane = record { places = f .places; lanes = f .lanes + 1; carts = f .carts }
-counted f cart = record { places = f .places; lanes = f .lanes; carts = f .carts + 1 }
-counted f unknown = f
+abbrev pub floorOf : List ℕ → Floor
+floorOf ns = record { places = getD ns 0 0; lanes = getD ns 1 0; carts = getD ns 2 0 }
 
--- a record refused, or counted in
-abbrev pub judgedBy : ℕ → Floor → RecordAnswer
-judgedBy n g = unlessFault n (Good g) Fault
+-- some record of these kinds is counted
+abbrev pub seen : List ℕ → Bool
+seen [] = false
+seen (n ∷ ns) = ltb 0 n || seen ns
 
-unfoldable pub judged : Floor → Kind → List ℕ → RecordAnswer
-judged f k body = judgedBy (faultOf f k body) (counted f k)
+-- A record of kind k behind n of its kind: the refusal by these tests in order, 0 for none. 3 "out of place", that is, behind one of a later kind;
+-- 4 "wrong body length"; 5 "one too many"; 6.
+abbrev pub faultOf : Kind → List ℕ → ℕ → List ℕ → List ℕ → ℕ
+faultOf k before n after body =
+    firstFault ((seen after, 3) ∷ (not (eqb (length body) (k .size)), 4) ∷ (leb (k .most) n, 5) ∷ (k .bad before body, 6) ∷ [])
+
+-- refused, or counted in
+abbrev pub judgedAs : Kind → List ℕ → ℕ → List ℕ → List ℕ → RecordAnswer
+judgedAs k before n after body = unlessFault (faultOf k before n after body) (Good (floorOf (before ++ ((n + 1) ∷ after)))) Fault
+
+-- by its kind's number in the table, from some kind on; 3 "kind unknown" behind the last
+abbrev pub judgedBy : List Kind → List ℕ → List ℕ → ℕ → List ℕ → RecordAnswer
+judgedBy [] before ns number body = Fault 3
+judgedBy (k ∷ ks) before [] number body = Fault 3
+judgedBy (k ∷ ks) before (n ∷ ns) number body =
+    cond (eqb number (k .number)) (judgedAs k before n ns body) (judgedBy ks (before ++ (n ∷ [])) ns number body)
+
+unfoldable pub judged : Floor → ℕ → List ℕ → RecordAnswer
+judged f number body = judgedBy kinds [] (counts f) number body
 
 -- on with the floor that a record gives, or a stop at its offset
 abbrev pub onward : RecordAnswer → ℕ → (Floor → Walked) → Walked
@@ -78,7 +84,7 @@ onward (Fault n) at next = Stopped (atOffset n at)
 -- "The lowest offset wins": records in order, with what is counted and the offset so far, up to the first refusal
 unfoldable pub walk : Floor → ℕ → List Record → Walked
 walk f at [] = At f at
-walk f at (r ∷ rs) = onward (judged f (kindOf (r .kind)) (r .body)) at (λ g. walk g (at + 4 + length (r .body)) rs)
+walk f at (r ∷ rs) = onward (judged f (r .kind) (r .body)) at (λ g. walk g (at + 4 + length (r .body)) rs)
 
 -- behind the last whole record: 2 "cut short", or "at the end 7: no place or no cart (offset is the file's length)"
 abbrev pub atEnd : Walked → Bool → FloorAnswer
@@ -92,7 +98,7 @@ readOn f at s = atEnd (walk f at (s .records)) (s .cut)
 
 -- nothing counted yet
 abbrev pub emptyFloor : Floor
-emptyFloor = record { places = 0; lanes = 0; carts = 0 }
+emptyFloor = floorOf []
 
 -- 1: "too long (offset 0, before all else)"; "a file holds at most 65,536 bytes"
 unfoldable pub readFloor : List ℕ → FloorAnswer

@@ -6,10 +6,13 @@ pub mod Valid
 -- promises
 pub mod Promises
 -- laws
+pub mod Kinds
 pub mod Sorted
+pub mod InOrder
 pub mod RoundTrip
 pub mod Walk
 pub mod Located
+pub mod Fitting
 pub mod Complete
 pub mod Refusing
 pub mod Demands

@@ -1,43 +1,29 @@
 -- Where the numbers of an accepted floor lie in its bytes.
-use Prim.Native.Nat.{ℕ, zero, suc, _+_, _*_, _<_}
+use Prim.Native.Nat.{ℕ, zero, suc, _+_, _*_, _≤_, _<_}
 use native.Mathlib.Nat.{mul-zero, mul-suc, zero-add, add-zero}
 use native.Mathlib.Omega.{arith}
 use mathlib.Core.Path.{_≡_, sym, ap, ap₂, subst, _∙_}
-use mathlib.Core.List.{List, [], _∷_, _++_, map, flatten, append-assoc, append-nil}
-use lib.ListN.{length, take, drop, getD, length-append, length-map, List·getD-map}
+use mathlib.Core.Bool.{false}
+use mathlib.Core.List.{List, [], _∷_, _++_, flatten}
+use lib.Dec.{leb, ltb}
+use lib.ListN.{length, take, drop, getD, length-map, List·getD-map}
 use lib.Seq.{take-at, drop-append-add}
-use Rattle.endian.specs.Little.{bytes, value, Bytes}
-use Rattle.record.specs.Record.{encoded, layout, recordsIn}
-use Rattle.record.specs.Parts.{ofKind}
+use borrow.Author.Tests.{ltb-false, leb-false}
+use Rattle.refusal.specs.Faults.{either-false}
+use Rattle.endian.specs.Little.{value, Bytes}
+use Rattle.record.specs.Record.{layout, recordsIn}
 use Rattle.record.specs.All.{AllOf, each}
-use Rattle.record.specs.Laid.{layout-append, length-bodies, length-flatten, field-of}
-use Rattle.record.specs.RoundTrip.{length-encoded, layout-records}
-use Rattle.floor.specs.Floor.{readFloor}
-use Rattle.floor.specs.Numbers.{bodiesOf, numbersOf, placeAt, laneAt, cartAt, bodyAt}
-use Rattle.floor.specs.Sorted.{Sorted, LaneOk, CartOk}
+use Rattle.record.specs.Laid.{length-flatten, field-of}
+use Rattle.record.specs.RoundTrip.{layout-records}
+use Rattle.floor.specs.Floor.{place, lane, cart, kinds, counts, emptyFloor, readFloor}
+use Rattle.floor.specs.Numbers.{inOrder, bodiesOf, numbersOf, placeAt, laneAt, cartAt, bodyAt}
+use Rattle.floor.specs.Sorted.{Group, Sorted, groupsOf}
+use Rattle.floor.specs.InOrder.{startOf, sizeAt, located}
 use Rattle.floor.specs.Valid.{ValidFloor}
 use Rattle.floor.specs.RoundTrip.{whole, accepted-sorted, accepted-within, bytes-back, written-again}
 use Rattle.floor.specs.Promises.{AcceptedFloor}
 use Rattle.floor.specs.declared.Floor.{Floor}
 use Rattle.floor.specs.declared.FloorAnswer.the-variants.{Read}
-
--- records of one kind and size in a row, whatever stands behind them
-module _ (k size : ℕ) where
-  row-at : (xs : List (List ℕ)) (t : List ℕ) (i : ℕ) → AllOf size xs → i < length xs
-      → bodyAt size ((4 + size) * i) (layout (map (ofKind k) xs) ++ t) ≡ getD xs i []
-  unfolding layout encoded bytes
-  row-at [] t i h l = absurd (omega arith)
-  row-at (x ∷ xs) t zero h l =
-      let rest : List ℕ = layout (map (ofKind k) xs) in
-      let n : (4 + size) * 0 + 4 ≡ 4 = omega (arith, mul-zero (4 + size)) in
-      ap (λ (m : ℕ). take size (drop m ((encoded (ofKind k x) ++ rest) ++ t))) n
-      ∙ ap (take size) (append-assoc x rest t) ∙ take-at x (rest ++ t) size (h .0)
-  row-at (x ∷ xs) t (suc i) h l =
-      let rest : List ℕ = layout (map (ofKind k) xs) in
-      let n : (4 + size) * suc i + 4 ≡ length (encoded (ofKind k x)) + ((4 + size) * i + 4) =
-      omega (arith, mul-suc (4 + size) i, length-encoded (ofKind k x), h .0) in
-      ap (take size) (ap₂ drop n (append-assoc (encoded (ofKind k x)) rest t) ∙ drop-append-add (encoded (ofKind k x)) (rest ++ t) ((4 + size) * i + 4))
-      ∙ row-at xs t i (h .1) (omega arith)
 
 -- numbers in a row
 flat-at : (size : ℕ) (xs : List (List ℕ)) (i : ℕ) → AllOf size xs → i < length xs → take size (drop (size * i) (flatten xs)) ≡ getD xs i []
@@ -50,6 +36,11 @@ flat-at size (x ∷ xs) (suc i) h l =
     ap (λ (m : ℕ). take size (drop m (x ++ flatten xs))) n
     ∙ ap (take size) (drop-append-add x (flatten xs) (size * i)) ∙ flat-at size xs i (h .1) (omega arith)
 
+-- one number of a body
+one-of : (size : ℕ) (xs : List (List ℕ)) (i k : ℕ) → AllOf size xs → i < length xs → k < size
+    → getD (flatten xs) (size * i + k) 0 ≡ getD (getD xs i []) k 0
+one-of size xs i k h l m = sym (field-of size (flatten xs) i k m) ∙ ap (λ (x : List ℕ). getD x k 0) (flat-at size xs i h l)
+
 -- of an accepted floor
 module _ (s : List ℕ) (f : Floor) (b : Bytes s) (e : readFloor s ≡ Read f) where
   abbrev places : List (List ℕ)
@@ -61,75 +52,68 @@ module _ (s : List ℕ) (f : Floor) (b : Bytes s) (e : readFloor s ≡ Read f) w
   abbrev carts : List (List ℕ)
   carts = bodiesOf 3 (recordsIn s .records)
 
-  abbrev behind : List ℕ
-  behind = layout (map (ofKind 2) lanes) ++ layout (map (ofKind 3) carts)
-
-  ordered : Sorted (record { places = 0; lanes = 0; carts = 0 }) f (recordsIn s .records)
+  ordered : Sorted emptyFloor f (recordsIn s .records)
   ordered = accepted-sorted s f e
 
-  file : s ≡ layout (map (ofKind 1) places) ++ behind
-  file =
-      sym (layout-records s b (whole s f e .uncut)) ∙ ap layout (ordered .in-order)
-      ∙ layout-append (map (ofKind 1) places) (map (ofKind 2) lanes ++ map (ofKind 3) carts)
-      ∙ ap (λ (x : List ℕ). layout (map (ofKind 1) places) ++ x) (layout-append (map (ofKind 2) lanes) (map (ofKind 3) carts))
+  -- the places', lanes' and carts' records
+  abbrev P : Group place [] 0 (f .places) (0 ∷ 0 ∷ []) places
+  P = ordered .0 .0
 
-  -- what stands so far behind the places
-  past-places : (m : ℕ) → drop (8 * f .places + m) s ≡ drop m behind
-  past-places m =
-      let n : 8 * f .places + m ≡ length (layout (map (ofKind 1) places)) + m = omega (arith, length-bodies 1 4 places (ordered .place-sizes), ordered .places) in
-      ap₂ drop n file ∙ drop-append-add (layout (map (ofKind 1) places)) behind m
+  abbrev L : Group lane (f .places ∷ []) 0 (f .lanes) (0 ∷ []) lanes
+  L = ordered .0 .1 .0
+
+  abbrev C : Group cart (f .places ∷ f .lanes ∷ []) 0 (f .carts) [] carts
+  C = ordered .0 .1 .1 .0
+
+  file : s ≡ layout (inOrder kinds (groupsOf kinds (recordsIn s .records)))
+  file = sym (layout-records s b (whole s f e .uncut)) ∙ ap layout (ordered .1)
+
+  -- the j-th body of the i-th kind, wherever its offset is worked out
+  body-at : (i j at : ℕ) → i < length kinds → j < length (getD (groupsOf kinds (recordsIn s .records)) i [])
+      → at ≡ startOf kinds (counts f) i + (4 + sizeAt kinds i) * j → bodyAt (sizeAt kinds i) at s ≡ getD (getD (groupsOf kinds (recordsIn s .records)) i []) j []
+  body-at i j at k l q = ap₂ (bodyAt (sizeAt kinds i)) q file ∙ located kinds [] (counts f) (groupsOf kinds (recordsIn s .records)) (ordered .0) i j k l
 
   place-located : (i : ℕ) → i < f .places → value (bodyAt 4 (placeAt i) s) ≡ getD (numbersOf s .places) i 0
   unfolding value
-  place-located i l =
-      ap (λ (x : List ℕ). value (bodyAt 4 (placeAt i) x)) file
-      ∙ ap value (row-at 1 4 places behind i (ordered .place-sizes) (omega (arith, ordered .places)))
-      ∙ sym (List·getD-map value places i [])
+  place-located i l = ap value (body-at 0 i (placeAt i) (omega arith) (omega (arith, P .count)) (omega arith)) ∙ sym (List·getD-map value places i [])
 
   lane-located : (j : ℕ) → j < f .lanes → bodyAt 3 (laneAt f j) s ≡ take 3 (drop (3 * j) (numbersOf s .lanes))
   lane-located j l =
-      let n : laneAt f j + 4 ≡ 8 * f .places + (7 * j + 4) = omega arith in
-      let m : j < length lanes = omega (arith, ordered .lanes) in
-      ap (λ (k : ℕ). take 3 (drop k s)) n ∙ ap (take 3) (past-places (7 * j + 4))
-      ∙ row-at 2 3 lanes (layout (map (ofKind 3) carts)) j (ordered .lane-sizes) m ∙ sym (flat-at 3 lanes j (ordered .lane-sizes) m)
+      let m : j < length lanes = omega (arith, L .count) in
+      body-at 1 j (laneAt f j) (omega arith) m (omega arith) ∙ sym (flat-at 3 lanes j (L .sizes) m)
 
   cart-located : (n : ℕ) → n < f .carts → bodyAt 2 (cartAt f n) s ≡ take 2 (drop (2 * n) (numbersOf s .carts))
   cart-located n l =
-      let k : cartAt f n + 4 ≡ 8 * f .places + (7 * f .lanes + (6 * n + 4)) = omega arith in
-      let m : n < length carts = omega (arith, ordered .carts) in
-      let far : 7 * f .lanes + (6 * n + 4) ≡ length (layout (map (ofKind 2) lanes)) + (6 * n + 4) =
-      omega (arith, length-bodies 2 3 lanes (ordered .lane-sizes), ordered .lanes) in
-      ap (λ (x : ℕ). take 2 (drop x s)) k ∙ ap (take 2) (past-places (7 * f .lanes + (6 * n + 4))
-      ∙ ap (λ (x : ℕ). drop x behind) far ∙ drop-append-add (layout (map (ofKind 2) lanes)) (layout (map (ofKind 3) carts)) (6 * n + 4)
-      ∙ ap (drop (6 * n + 4)) (sym (append-nil (layout (map (ofKind 3) carts)))))
-      ∙ row-at 3 2 carts [] n (ordered .cart-sizes) m ∙ sym (flat-at 2 carts n (ordered .cart-sizes) m)
-
-  -- one number of a body
-  one-of : (size : ℕ) (xs : List (List ℕ)) (i k : ℕ) → AllOf size xs → i < length xs → k < size
-      → getD (flatten xs) (size * i + k) 0 ≡ getD (getD xs i []) k 0
-  one-of size xs i k h l m =
-      sym (field-of size (flatten xs) i k m) ∙ ap (λ (x : List ℕ). getD x k 0) (flat-at size xs i h l)
+      let m : n < length carts = omega (arith, C .count) in
+      body-at 2 n (cartAt f n) (omega arith) m (omega arith) ∙ sym (flat-at 2 carts n (C .sizes) m)
 
   lane-is : (j k : ℕ) → j < f .lanes → k < 3 → getD (numbersOf s .lanes) (3 * j + k) 0 ≡ getD (getD lanes j []) k 0
-  lane-is j k l m = one-of 3 lanes j k (ordered .lane-sizes) (omega (arith, ordered .lanes)) m
+  lane-is j k l m = one-of 3 lanes j k (L .sizes) (omega (arith, L .count)) m
 
   cart-is : (n k : ℕ) → n < f .carts → k < 2 → getD (numbersOf s .carts) (2 * n + k) 0 ≡ getD (getD carts n []) k 0
-  cart-is n k l m = one-of 2 carts n k (ordered .cart-sizes) (omega (arith, ordered .carts)) m
+  cart-is n k l m = one-of 2 carts n k (C .sizes) (omega (arith, C .count)) m
 
-  lane-ok : (j : ℕ) → j < f .lanes → LaneOk (f .places) (getD lanes j [])
-  lane-ok j l = each (LaneOk (f .places)) [] lanes j (ordered .lanes-ok) (omega (arith, ordered .lanes))
+  lane-ok : (j : ℕ) → j < f .lanes → (getD (getD lanes j []) 0 0 < f .places) × (getD (getD lanes j []) 1 0 < f .places)
+  lane-ok j l =
+      let r = either-false (leb (f .places) (getD (getD lanes j []) 0 0)) (leb (f .places) (getD (getD lanes j []) 1 0))
+      (each (λ (x : List ℕ). lane .bad (f .places ∷ []) x ≡ false) [] lanes j (L .fields) (omega (arith, L .count))) in
+      (leb-false _ _ (r .0), leb-false _ _ (r .1))
 
-  cart-ok : (n : ℕ) → n < f .carts → CartOk (f .places) (getD carts n [])
-  cart-ok n l = each (CartOk (f .places)) [] carts n (ordered .carts-ok) (omega (arith, ordered .carts))
+  cart-ok : (n : ℕ) → n < f .carts → (getD (getD carts n []) 0 0 < 8) × (getD (getD carts n []) 1 0 < f .places)
+  cart-ok n l =
+      let r = either-false (ltb 7 (getD (getD carts n []) 0 0)) (leb (f .places) (getD (getD carts n []) 1 0))
+      (each (λ (x : List ℕ). cart .bad (f .places ∷ f .lanes ∷ []) x ≡ false) [] carts n (C .fields) (omega (arith, C .count))) in
+      let class : getD (getD carts n []) 0 0 ≤ 7 = ltb-false _ _ (r .0) in
+      (omega arith, leb-false _ _ (r .1))
 
   valid : ValidFloor (numbersOf s) f
   valid =
       let w = whole s f e in
       let m = accepted-within s f e in
       record {
-        places = length-map places value ∙ sym (ordered .places ∙ zero-add (length places));
-        lanes = length-flatten 3 lanes (ordered .lane-sizes) ∙ ap (λ (k : ℕ). 3 * k) (sym (ordered .lanes ∙ zero-add (length lanes)));
-        carts = length-flatten 2 carts (ordered .cart-sizes) ∙ ap (λ (k : ℕ). 2 * k) (sym (ordered .carts ∙ zero-add (length carts)));
+        places = length-map places value ∙ sym (P .count ∙ zero-add (length places));
+        lanes = length-flatten 3 lanes (L .sizes) ∙ ap (λ (k : ℕ). 3 * k) (sym (L .count ∙ zero-add (length lanes)));
+        carts = length-flatten 2 carts (C .sizes) ∙ ap (λ (k : ℕ). 2 * k) (sym (C .count ∙ zero-add (length carts)));
         some-place = w .some-place;
         some-cart = w .some-cart;
         few-places = m .places;

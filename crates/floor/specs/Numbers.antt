@@ -9,7 +9,7 @@ use Rattle.refusal.specs.Outcome.{Outcome, unchanged, written}
 use Rattle.refusal.specs.declared.Verdict.the-variants.{Floor as AboutFloor}
 use Rattle.record.specs.Record.{Record, layout, recordsIn}
 use Rattle.record.specs.Parts.{parts, ofKind}
-use Rattle.floor.specs.Floor.{readFloor}
+use Rattle.floor.specs.Floor.{Kind, kinds, readFloor}
 use Rattle.floor.specs.declared.Floor.{Floor}
 use Rattle.floor.specs.declared.FloorAnswer.{FloorAnswer}
 use Rattle.floor.specs.declared.FloorAnswer.the-variants.{Read, Refused}
@@ -24,22 +24,23 @@ pub record FloorNumbers : Type 0 where
 abbrev pub numbers : List ℕ → List ℕ → List ℕ → FloorNumbers
 numbers places lanes carts = record { places = places; lanes = lanes; carts = carts }
 
--- "4 bytes: one bit for each mark m0 (lowest) to m31"
-abbrev pub placeRecord : ℕ → Record
-placeRecord marks = ofKind 1 (bytes 4 marks)
+-- bodies of each kind in turn, as records in the table's order
+abbrev pub inOrder : List Kind → List (List (List ℕ)) → List Record
+inOrder [] groups = []
+inOrder (k ∷ ks) [] = []
+inOrder (k ∷ ks) (bodies ∷ groups) = map (ofKind (k .number)) bodies ++ inOrder ks groups
 
--- the numbers laid out as records: a lane to each three bytes, a cart to each two; bytes left over are a record of wrong length
-abbrev pub placeRecords : FloorNumbers → List Record
-placeRecords n = map placeRecord (n .places)
+-- numbers of 32 bits as records of one kind, four bytes to a body
+abbrev pub wordRecords : ℕ → List ℕ → List Record
+wordRecords k ms = map (ofKind k) (map (bytes 4) ms)
 
-abbrev pub laneRecords : FloorNumbers → List Record
-laneRecords n = map (ofKind 2) (parts 3 (n .lanes))
-
-abbrev pub cartRecords : FloorNumbers → List Record
-cartRecords n = map (ofKind 3) (parts 2 (n .carts))
+-- the bodies that the numbers make, in the table's order: four bytes to a place, a lane to each three bytes, a cart to each two; bytes left over are a
+-- body of wrong length
+abbrev pub bodies : FloorNumbers → List (List (List ℕ))
+bodies n = map (bytes 4) (n .places) ∷ parts 3 (n .lanes) ∷ parts 2 (n .carts) ∷ []
 
 abbrev pub floorRecords : FloorNumbers → List Record
-floorRecords n = placeRecords n ++ (laneRecords n ++ cartRecords n)
+floorRecords n = inOrder kinds (bodies n)
 
 abbrev pub floorBytes : FloorNumbers → List ℕ
 floorBytes n = layout (floorRecords n)

@@ -4,8 +4,8 @@ use native.Mathlib.Omega.{arith}
 use mathlib.Core.Path.{_≡_, refl, ap, subst, _∙_}
 use mathlib.Core.Bool.{Bool, true, false, cond, not, _||_}
 use mathlib.Core.Logic.{_⊎_, inl, inr}
-use mathlib.Core.List.{List, [], _∷_}
-use lib.Dec.{eqb, ltb}
+use mathlib.Core.List.{List, [], _∷_, _++_}
+use lib.Dec.{eqb, leb, ltb}
 use lib.ListN.{length}
 use Rattle.refusal.specs.Codes.{atOffset}
 use Rattle.refusal.specs.Given.{OneOf, Given, floorNumbers, readingFloor, writingFloor}
@@ -16,7 +16,7 @@ use Rattle.refusal.specs.declared.Refusal.{Refusal}
 use Rattle.refusal.specs.declared.Verdict.{Verdict}
 use Rattle.refusal.specs.declared.Verdict.the-variants.{Floor as AboutFloor}
 use Rattle.record.specs.Record.{Record, recordsIn}
-use Rattle.floor.specs.Floor.{Kind, kindOf, outOfPlace, sizeOf, full, badField, counted, judged, onward, walk, atEnd, emptyFloor, readOn, readFloor, floorVerdict}
+use Rattle.floor.specs.Floor.{Kind, kinds, counts, floorOf, seen, judgedAs, judgedBy, judged, onward, walk, atEnd, emptyFloor, readOn, readFloor, floorVerdict}
 use Rattle.floor.specs.Numbers.{FloorNumbers, floorBytes, byReading, writeFloor}
 use Rattle.floor.specs.declared.Floor.{Floor}
 use Rattle.floor.specs.declared.RecordAnswer.{RecordAnswer}
@@ -31,11 +31,23 @@ abbrev FaultListed : RecordAnswer → Type 0
 FaultListed (Good g) = Unit {0}
 FaultListed (Fault n) = OneOf floorNumbers n
 
-fault-listed : (f : Floor) (k : Kind) (body : List ℕ) → FaultListed (judged f k body)
+by-kind : (ks : List Kind) (before ns : List ℕ) (number : ℕ) (body : List ℕ) → FaultListed (judgedBy ks before ns number body)
+by-kind [] before ns number body = one-among floorNumbers 3 refl
+by-kind (k ∷ ks) before [] number body = one-among floorNumbers 3 refl
+by-kind (k ∷ ks) before (n ∷ ns) number body = go (eqb number (k .number)) (by-kind ks (before ++ (n ∷ [])) ns number body)
+  where
+    tests : List (Bool × ℕ)
+    tests = (seen ns, 3) ∷ (not (eqb (length body) (k .size)), 4) ∷ (leb (k .most) n, 5) ∷ (k .bad before body, 6) ∷ []
+
+    go : (b : Bool) → FaultListed (judgedBy ks (before ++ (n ∷ [])) ns number body)
+        → FaultListed (cond b (judgedAs k before n ns body) (judgedBy ks (before ++ (n ∷ [])) ns number body))
+    go false h = h
+    go true h = by-number FaultListed tests (Good (floorOf (before ++ ((n + 1) ∷ ns)))) Fault tt
+        (λ m l. one-of-more (3 ∷ 4 ∷ 5 ∷ 6 ∷ []) floorNumbers m refl l)
+
+fault-listed : (f : Floor) (number : ℕ) (body : List ℕ) → FaultListed (judged f number body)
 unfolding judged
-fault-listed f k body =
-    let tests : List (Bool × ℕ) = (outOfPlace f k, 3) ∷ (not (eqb (length body) (sizeOf k)), 4) ∷ (full f k, 5) ∷ (badField f k body, 6) ∷ [] in
-    by-number FaultListed tests (Good (counted f k)) Fault tt (λ n h. one-of-more (3 ∷ 4 ∷ 5 ∷ 6 ∷ []) floorNumbers n refl h)
+fault-listed f number body = by-kind kinds [] (counts f) number body
 
 -- records in order: that of the first refused
 abbrev StopListed : Walked → Type 0
@@ -46,7 +58,7 @@ stop-listed : (rs : List Record) (f : Floor) (at : ℕ) → StopListed (walk f a
 unfolding walk
 stop-listed [] f at = tt
 stop-listed (r ∷ rs) f at =
-    go (judged f (kindOf (r .kind)) (r .body)) (fault-listed f (kindOf (r .kind)) (r .body)) (λ g. stop-listed rs g (at + 4 + length (r .body)))
+    go (judged f (r .kind) (r .body)) (fault-listed f (r .kind) (r .body)) (λ g. stop-listed rs g (at + 4 + length (r .body)))
   where
     go : (a : RecordAnswer) → FaultListed a → ((g : Floor) → StopListed (walk g (at + 4 + length (r .body)) rs))
         → StopListed (onward a at (λ g. walk g (at + 4 + length (r .body)) rs))

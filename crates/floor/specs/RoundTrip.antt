@@ -3,26 +3,28 @@ use Prim.Native.Nat.{ℕ, suc, _≤_, _<_}
 use native.Mathlib.Omega.{arith}
 use mathlib.Core.Path.{_≡_, refl, sym, ap, ap₂, subst, _∙_}
 use mathlib.Core.Bool.{Bool, true, false, cond, _||_}
-use mathlib.Core.List.{List, [], _∷_, _++_, map, flatten, append-nil}
+use mathlib.Core.List.{List, [], _∷_, _++_, map, flatten}
 use lib.Dec.{eqb, ltb}
-use lib.ListN.{length, take}
-use borrow.Author.Tests.{eq-eqb, eqb-false, ltb-false}
+use lib.ListN.{length, take, getD}
+use borrow.Author.Tests.{eqb-false, ltb-false}
 use Rattle.endian.specs.Little.{bytes, value, Bytes}
 use Rattle.endian.specs.RoundTrip.{length-bytes, value-bytes, bytes-value}
 use Rattle.record.specs.Record.{Record, Split, layout, recordsIn}
 use Rattle.record.specs.Parts.{parts, ofKind}
 use Rattle.record.specs.All.{AllOf}
 use Rattle.record.specs.Laid.{parts-encodable, flatten-parts, parts-flatten}
-use Rattle.record.specs.RoundTrip.{AllEncodable, encodable-append, records-layout, layout-records, AllBytes, records-bytes}
+use Rattle.record.specs.RoundTrip.{AllEncodable, records-layout, layout-records, AllBytes, records-bytes}
 use Rattle.refusal.specs.Codes.{atOffset}
 use Rattle.refusal.specs.Outcome.{Gives, written}
 use Rattle.refusal.specs.Held.{about-floor, written-front}
 use Rattle.refusal.specs.declared.Refusal.{Refusal}
 use Rattle.refusal.specs.declared.Verdict.{Verdict}
 use Rattle.refusal.specs.declared.Verdict.the-variants.{Written, Floor as AboutFloor}
-use Rattle.floor.specs.Floor.{walk, atEnd, emptyFloor, readOn, readFloor}
-use Rattle.floor.specs.Numbers.{FloorNumbers, Words, placeRecord, floorRecords, floorBytes, bodiesOf, numbersIn, numbersOf, byReading, writeFloor}
-use Rattle.floor.specs.Sorted.{Sorted, Within, sorted}
+use Rattle.floor.specs.Floor.{kinds, walk, atEnd, emptyFloor, readOn, readFloor}
+use Rattle.floor.specs.Numbers.{FloorNumbers, Words, wordRecords, inOrder, bodies, floorRecords, floorBytes, bodiesOf, numbersIn, numbersOf, byReading, writeFloor}
+use Rattle.floor.specs.Kinds.{kinds-distinct}
+use Rattle.floor.specs.InOrder.{groups-back, all-encodable}
+use Rattle.floor.specs.Sorted.{Sorted, groupsOf, sorted}
 use Rattle.floor.specs.declared.Floor.{Floor}
 use Rattle.floor.specs.declared.Walked.{Walked}
 use Rattle.floor.specs.declared.Walked.the-variants.{At, Stopped}
@@ -30,69 +32,16 @@ use Rattle.floor.specs.declared.FloorAnswer.{FloorAnswer}
 use Rattle.floor.specs.declared.FloorAnswer.the-variants.{Read, Refused}
 
 -- laid out, a floor's numbers are whole records
-places-encodable : (ms : List ℕ) → AllEncodable (map placeRecord ms)
-places-encodable [] = tt
-places-encodable (m ∷ ms) = (record { kind = omega arith; size = omega (arith, length-bytes 4 m) }, places-encodable ms)
+words-encodable : (k : ℕ) (ms : List ℕ) → k < 65536 → AllEncodable (wordRecords k ms)
+words-encodable k [] h = tt
+words-encodable k (m ∷ ms) h = (record { kind = h; size = omega (arith, length-bytes 4 m) }, words-encodable k ms h)
 
 pub floor-encodable : (n : FloorNumbers) → AllEncodable (floorRecords n)
 floor-encodable n =
-    encodable-append (map placeRecord (n .places)) _ (places-encodable (n .places))
-    (encodable-append (map (ofKind 2) (parts 3 (n .lanes))) _ (parts-encodable 2 3 (n .lanes) (omega arith) (omega arith) (omega arith))
-    (parts-encodable 3 2 (n .carts) (omega arith) (omega arith) (omega arith)))
-
--- the bodies of one kind among records in a row
-bodies-append : (k : ℕ) (rs ts : List Record) → bodiesOf k (rs ++ ts) ≡ bodiesOf k rs ++ bodiesOf k ts
-unfolding bodiesOf
-bodies-append k [] ts = refl
-bodies-append k (r ∷ rs) ts = go (eqb (r .kind) k) (bodies-append k rs ts)
-  where
-    go : (b : Bool) → bodiesOf k (rs ++ ts) ≡ bodiesOf k rs ++ bodiesOf k ts
-        → cond b (r .body ∷ bodiesOf k (rs ++ ts)) (bodiesOf k (rs ++ ts)) ≡ cond b (r .body ∷ bodiesOf k rs) (bodiesOf k rs) ++ bodiesOf k ts
-    go true e = ap (λ (x : List (List ℕ)). r .body ∷ x) e
-    go false e = e
-
-bodies-own : (k : ℕ) (xs : List (List ℕ)) → bodiesOf k (map (ofKind k) xs) ≡ xs
-unfolding bodiesOf
-bodies-own k [] = refl
-bodies-own k (x ∷ xs) =
-    ap (λ (b : Bool). cond b (x ∷ bodiesOf k (map (ofKind k) xs)) (bodiesOf k (map (ofKind k) xs))) (eq-eqb k k refl)
-    ∙ ap (λ (t : List (List ℕ)). x ∷ t) (bodies-own k xs)
-
-bodies-other : (k j : ℕ) (xs : List (List ℕ)) → eqb j k ≡ false → bodiesOf k (map (ofKind j) xs) ≡ []
-unfolding bodiesOf
-bodies-other k j [] e = refl
-bodies-other k j (x ∷ xs) e =
-    ap (λ (b : Bool). cond b (x ∷ bodiesOf k (map (ofKind j) xs)) (bodiesOf k (map (ofKind j) xs))) e ∙ bodies-other k j xs e
-
--- of three groups in a row
-abbrev three : List (List ℕ) → List (List ℕ) → List (List ℕ) → List Record
-three a b c = map (ofKind 1) a ++ (map (ofKind 2) b ++ map (ofKind 3) c)
-
-module _ (a b c : List (List ℕ)) where
-  of-three : (k : ℕ) (x y z : List (List ℕ)) → bodiesOf k (map (ofKind 1) a) ≡ x → bodiesOf k (map (ofKind 2) b) ≡ y
-      → bodiesOf k (map (ofKind 3) c) ≡ z
-      → bodiesOf k (three a b c) ≡ x ++ (y ++ z)
-  of-three k x y z p q r =
-      bodies-append k (map (ofKind 1) a) (map (ofKind 2) b ++ map (ofKind 3) c)
-      ∙ ap₂ _++_ p (bodies-append k (map (ofKind 2) b) (map (ofKind 3) c) ∙ ap₂ _++_ q r)
-
-  first : bodiesOf 1 (three a b c) ≡ a
-  first = of-three 1 a [] [] (bodies-own 1 a) (bodies-other 1 2 b refl) (bodies-other 1 3 c refl) ∙ append-nil a
-
-  second : bodiesOf 2 (three a b c) ≡ b
-  second = of-three 2 [] b [] (bodies-other 2 1 a refl) (bodies-own 2 b) (bodies-other 2 3 c refl) ∙ append-nil b
-
-  third : bodiesOf 3 (three a b c) ≡ c
-  third = of-three 3 [] [] c (bodies-other 3 1 a refl) (bodies-other 3 2 b refl) (bodies-own 3 c)
-
-same : {a b c x y z : List ℕ} → a ≡ x → b ≡ y → c ≡ z
-    → _≡_ {A = FloorNumbers} (record { places = a; lanes = b; carts = c }) (record { places = x; lanes = y; carts = z })
-same {c = c} {x = x} {y = y} p q r =
-    ap₂ (λ (a b : List ℕ). record { places = a; lanes = b; carts = c }) p q ∙ ap (λ (c : List ℕ). record { places = x; lanes = y; carts = c }) r
-
-place-records : (ms : List ℕ) → map placeRecord ms ≡ map (ofKind 1) (map (bytes 4) ms)
-place-records [] = refl
-place-records (m ∷ ms) = ap (λ (x : List Record). placeRecord m ∷ x) (place-records ms)
+    let places = words-encodable 1 (n .places) (omega arith) in
+    let lanes = parts-encodable 2 3 (n .lanes) (omega arith) (omega arith) (omega arith) in
+    let carts = parts-encodable 3 2 (n .carts) (omega arith) (omega arith) (omega arith) in
+    all-encodable kinds (bodies n) (places, (lanes, (carts, tt)))
 
 values-back : (ms : List ℕ) → Words ms → map value (map (bytes 4) ms) ≡ ms
 values-back [] w = refl
@@ -101,14 +50,12 @@ values-back (m ∷ ms) w = ap₂ _∷_ (value-bytes 4 m (w 0)) (values-back ms (
 -- the numbers are found again among their records, and so in their bytes
 numbers-back : (n : FloorNumbers) → Words (n .places) → numbersIn (floorRecords n) ≡ n
 numbers-back n w =
-    let a = map (bytes 4) (n .places) in
-    let b = parts 3 (n .lanes) in
-    let c = parts 2 (n .carts) in
-    ap (λ (x : List Record). numbersIn (x ++ (map (ofKind 2) b ++ map (ofKind 3) c))) (place-records (n .places))
-    ∙ same
-    (ap (map value) (first a b c) ∙ values-back (n .places) w)
-    (ap flatten (second a b c) ∙ flatten-parts 3 (n .lanes) (omega arith))
-    (ap flatten (third a b c) ∙ flatten-parts 2 (n .carts) (omega arith))
+    let found = groups-back kinds (bodies n) kinds-distinct refl in
+    let group : (i : ℕ) → getD (groupsOf kinds (floorRecords n)) i [] ≡ getD (bodies n) i [] = λ i. ap (λ (x : List (List (List ℕ))). getD x i []) found in
+    let places : map value (bodiesOf 1 (floorRecords n)) ≡ n .places = ap (map value) (group 0) ∙ values-back (n .places) w in
+    let lanes : flatten (bodiesOf 2 (floorRecords n)) ≡ n .lanes = ap flatten (group 1) ∙ flatten-parts 3 (n .lanes) (omega arith) in
+    let carts : flatten (bodiesOf 3 (floorRecords n)) ≡ n .carts = ap flatten (group 2) ∙ flatten-parts 2 (n .carts) (omega arith) in
+    rw (places, lanes, carts) refl
 
 pub numbers-written : (n : FloorNumbers) → Words (n .places) → numbersOf (floorBytes n) ≡ n
 numbers-written n w = ap (λ (x : Split). numbersIn (x .records)) (records-layout (floorRecords n) (floor-encodable n)) ∙ numbers-back n w
@@ -150,36 +97,43 @@ whole s f e = go (ltb 65536 (length s)) refl e
 pub accepted-sorted : (s : List ℕ) (f : Floor) → readFloor s ≡ Read f → Sorted emptyFloor f (recordsIn s .records)
 accepted-sorted s f e = let w = whole s f e in sorted (recordsIn s .records) emptyFloor 0 f (w .end) (w .walked)
 
+-- 1 to 256 places, 0 to 1,024 lanes, 1 to 32 carts: never more
+pub record Within (f : Floor) : Type 0 where
+  pub places : f .places ≤ 256
+  pub lanes : f .lanes ≤ 1024
+  pub carts : f .carts ≤ 32
+
 -- an accepted floor is within the limits
 pub accepted-within : (s : List ℕ) (f : Floor) → readFloor s ≡ Read f → Within f
-accepted-within s f e = accepted-sorted s f e .within (record { places = omega arith; lanes = omega arith; carts = omega arith })
+accepted-within s f e =
+    let g = accepted-sorted s f e .0 in
+    record { places = g .0 .few (omega arith); lanes = g .1 .0 .few (omega arith); carts = g .1 .1 .0 .few (omega arith) }
 
--- the places' marks, written as bytes again
+-- numbers of four bytes, written as bytes again
 bytes-left : (rs ts : List Record) → AllBytes (rs ++ ts) → AllBytes rs
 bytes-left [] ts h = tt
 bytes-left (r ∷ rs) ts h = (h .0, bytes-left rs ts (h .1))
 
-places-again : (a : List (List ℕ)) → AllOf 4 a → AllBytes (map (ofKind 1) a) → map placeRecord (map value a) ≡ map (ofKind 1) a
-places-again [] h b = refl
-places-again (x ∷ a) h b =
-    ap₂ (λ (y : List ℕ) (t : List Record). ofKind 1 y ∷ t) (ap (λ (n : ℕ). bytes n (value x)) (sym (h .0)) ∙ bytes-value x (b .0))
-    (places-again a (h .1) (b .1))
+words-again : (k : ℕ) (a : List (List ℕ)) → AllOf 4 a → AllBytes (map (ofKind k) a) → map (bytes 4) (map value a) ≡ a
+words-again k [] h b = refl
+words-again k (x ∷ a) h b =
+    ap₂ _∷_ (ap (λ (n : ℕ). bytes n (value x)) (sym (h .0)) ∙ bytes-value x (b .0)) (words-again k a (h .1) (b .1))
 
 -- what was read writes back as the same bytes
 pub bytes-back : (s : List ℕ) (f : Floor) → Bytes s → readFloor s ≡ Read f → floorBytes (numbersOf s) ≡ s
 bytes-back s f b e =
     let rs = recordsIn s .records in
     let o = accepted-sorted s f e in
+    let g = o .0 in
     let p = bodiesOf 1 rs in
     let l = bodiesOf 2 rs in
     let c = bodiesOf 3 rs in
-    let places : AllBytes (map (ofKind 1) p) =
-    bytes-left (map (ofKind 1) p) (map (ofKind 2) l ++ map (ofKind 3) c) (subst AllBytes (o .in-order) (records-bytes s b)) in
-    ap layout (ap₂ _++_ (places-again p (o .place-sizes) places)
-    (ap₂ (λ (x y : List (List ℕ)). map (ofKind 2) x ++ map (ofKind 3) y) (parts-flatten 3 l (omega arith) (o .lane-sizes))
-    (parts-flatten 2 c (omega arith) (o .cart-sizes)))
-    ∙ sym (o .in-order))
-    ∙ layout-records s b (whole s f e .uncut)
+    let marks : AllBytes (map (ofKind 1) p) = bytes-left (map (ofKind 1) p) _ (subst AllBytes (o .1) (records-bytes s b)) in
+    let places : map (bytes 4) (map value p) ≡ p = words-again 1 p (g .0 .sizes) marks in
+    let lanes : parts 3 (flatten l) ≡ l = parts-flatten 3 l (omega arith) (g .1 .0 .sizes) in
+    let carts : parts 2 (flatten c) ≡ c = parts-flatten 2 c (omega arith) (g .1 .1 .0 .sizes) in
+    let same : bodies (numbersIn rs) ≡ groupsOf kinds rs = rw (places, lanes, carts) refl in
+    ap (λ (x : List (List (List ℕ))). layout (inOrder kinds x)) same ∙ ap layout (sym (o .1)) ∙ layout-records s b (whole s f e .uncut)
 
 -- read, then written: the same bytes
 pub written-again : (s : List ℕ) (f : Floor) → Bytes s → readFloor s ≡ Read f → (before : List ℕ)

@@ -1,211 +1,133 @@
--- The records of an accepted floor: places, then lanes, then carts, each body of its kind's length, and as many as are counted.
+-- The records of an accepted floor: kind after kind in the table's order, each body of its kind's length, and as many as are counted.
 use Prim.Native.Nat.{ℕ, zero, suc, _+_, _≤_, _<_}
 use native.Mathlib.Omega.{arith}
 use mathlib.Core.Path.{_≡_, refl, sym, ap, ap₂, subst, _∙_}
-use mathlib.Core.Bool.{Bool, true, false, not}
+use mathlib.Core.Bool.{Bool, true, false, cond, not, _&&_}
+use mathlib.Core.Logic.{_⊎_, inl, inr}
 use mathlib.Core.List.{List, [], _∷_, _++_, map}
-use lib.Dec.{eqb, leb, ltb}
-use lib.ListN.{length, getD}
-use borrow.Author.Tests.{eqb-true, ltb-false, leb-false}
-use Rattle.refusal.specs.Faults.{none-holds, no-fault, not-not, either-false}
+use lib.Dec.{eqb}
+use lib.ListN.{length}
+use borrow.Author.Tests.{eq-eqb}
 use Rattle.record.specs.Record.{Record}
 use Rattle.record.specs.Parts.{ofKind}
 use Rattle.record.specs.All.{All, AllOf}
-use Rattle.floor.specs.Floor.{Kind, place, lane, cart, unknown, kindOf, outOfPlace, sizeOf, full, badField, faultOf, counted, judged, onward, walk}
-use Rattle.floor.specs.Numbers.{bodiesOf}
+use Rattle.floor.specs.Floor.{Kind, kinds, counts, floorOf, seen, judged, onward, walk}
+use Rattle.floor.specs.Numbers.{inOrder, bodiesOf}
+use Rattle.floor.specs.Kinds.{apart, distinct, kinds-distinct, both-true, not-true, Counted, counts-of, counted-in, counted-length, counted-seen}
 use Rattle.floor.specs.declared.Floor.{Floor}
 use Rattle.floor.specs.declared.RecordAnswer.{RecordAnswer}
 use Rattle.floor.specs.declared.RecordAnswer.the-variants.{Good, Fault}
 use Rattle.floor.specs.declared.Walked.the-variants.{At}
 
--- a record that is counted in passed every test
-pub record Passed (f : Floor) (k : Kind) (body : List ℕ) (g : Floor) : Type 0 where
-  pub order : outOfPlace f k ≡ false
-  pub size : length body ≡ sizeOf k
-  pub room : full f k ≡ false
-  pub there : badField f k body ≡ false
-  pub count : g ≡ counted f k
+-- the bodies of one kind, judged from n up to m of them, behind these counts of the kinds before it and ahead of those behind it
+pub record Group (k : Kind) (before : List ℕ) (n m : ℕ) (after : List ℕ) (bodies : List (List ℕ)) : Type 0 where
+  pub sizes : AllOf (k .size) bodies
+  pub count : m ≡ n + length bodies
+  pub few : n ≤ k .most → m ≤ k .most
+  pub fields : All (λ (x : List ℕ). k .bad before x ≡ false) bodies
+  pub none : seen after ≡ true → bodies ≡ []
 
-fault-apart : (g : Floor) (n : ℕ) → Fault n ≡ Good g → ⊥
-fault-apart g n e = let z : _≡_ {A = ℕ} 0 1 = cc in omega arith
+-- and of each kind of a table
+abbrev pub Groups : List Kind → List ℕ → List ℕ → List ℕ → List (List (List ℕ)) → Type 0
+Groups [] before ns [] groups = Unit {0}
+Groups [] before ns (m ∷ ms) groups = ⊥
+Groups (k ∷ ks) before [] ms groups = ⊥
+Groups (k ∷ ks) before (n ∷ ns) [] groups = ⊥
+Groups (k ∷ ks) before (n ∷ ns) (m ∷ ms) [] = ⊥
+Groups (k ∷ ks) before (n ∷ ns) (m ∷ ms) (bodies ∷ groups) = Group k before n m ns bodies × Groups ks (before ++ (m ∷ [])) ns ms groups
 
-pub passed : (f : Floor) (k : Kind) (body : List ℕ) (g : Floor) → judged f k body ≡ Good g → Passed f k body g
-unfolding judged
-passed f k body g e =
-    let j = no-fault (faultOf f k body) (Good (counted f k)) Fault (Good g) (fault-apart g) e in
-    let is : Good (counted f k) ≡ Good g = j .1 in
-    let count : g ≡ counted f k = cc in
-    let a = none-holds (outOfPlace f k) 2 _ (j .0) in
-    let b = none-holds (not (eqb (length body) (sizeOf k))) 3 _ (a .1) in
-    let c = none-holds (full f k) 4 _ (b .1) in
-    let d = none-holds (badField f k body) 5 _ (c .1) in
-    record { order = a .0; size = eqb-true _ _ (not-not _ (b .0)); room = c .0; there = d .0; count = count }
+-- the bodies of each kind among records
+abbrev pub groupsOf : List Kind → List Record → List (List (List ℕ))
+groupsOf ks rs = map (λ (k : Kind). bodiesOf (k .number) rs) ks
 
--- the bodies by kind, and the records that they make up in file order
-abbrev pub grouped : List Record → List Record
-grouped rs = map (ofKind 1) (bodiesOf 1 rs) ++ (map (ofKind 2) (bodiesOf 2 rs) ++ map (ofKind 3) (bodiesOf 3 rs))
+-- a record of another kind
+module _ (r : Record) (rs : List Record) where
+  pub other-kind : (n : ℕ) → eqb (r .kind) n ≡ false → bodiesOf n (r ∷ rs) ≡ bodiesOf n rs
+  unfolding bodiesOf
+  other-kind n e = ap (λ (b : Bool). cond b (r .body ∷ bodiesOf n rs) (bodiesOf n rs)) e
 
--- 1 to 256 places, 0 to 1,024 lanes, 1 to 32 carts: never more
-pub record Within (f : Floor) : Type 0 where
-  pub places : f .places ≤ 256
-  pub lanes : f .lanes ≤ 1024
-  pub carts : f .carts ≤ 32
+  own-kind : (n : ℕ) → r .kind ≡ n → bodiesOf n (r ∷ rs) ≡ r .body ∷ bodiesOf n rs
+  unfolding bodiesOf
+  own-kind n e = ap (λ (b : Bool). cond b (r .body ∷ bodiesOf n rs) (bodiesOf n rs)) (eq-eqb _ _ e)
 
--- bodies whose fields are in range on a floor of so many places
-abbrev pub LaneOk : ℕ → List ℕ → Type 0
-LaneOk places body = (getD body 0 0 < places) × (getD body 1 0 < places)
+  pub other-kinds : (ks : List Kind) → apart (r .kind) ks ≡ true → groupsOf ks (r ∷ rs) ≡ groupsOf ks rs
+  other-kinds [] e = refl
+  other-kinds (k ∷ ks) e =
+      let t = both-true (not (eqb (r .kind) (k .number))) (apart (r .kind) ks) e in
+      ap₂ _∷_ (other-kind (k .number) (not-true _ (t .0))) (other-kinds ks (t .1))
 
-abbrev pub CartOk : ℕ → List ℕ → Type 0
-CartOk places body = (getD body 0 0 < 8) × (getD body 1 0 < places)
-
--- records judged from f on without a refusal, up to g
-pub record Sorted (f g : Floor) (rs : List Record) : Type 0 where
-  pub in-order : rs ≡ grouped rs
-  pub no-places : 0 < f .lanes + f .carts → bodiesOf 1 rs ≡ []
-  pub no-lanes : 0 < f .carts → bodiesOf 2 rs ≡ []
-  pub place-sizes : AllOf 4 (bodiesOf 1 rs)
-  pub lane-sizes : AllOf 3 (bodiesOf 2 rs)
-  pub cart-sizes : AllOf 2 (bodiesOf 3 rs)
-  pub places : g .places ≡ f .places + length (bodiesOf 1 rs)
-  pub lanes : g .lanes ≡ f .lanes + length (bodiesOf 2 rs)
-  pub carts : g .carts ≡ f .carts + length (bodiesOf 3 rs)
-  pub within : Within f → Within g
-  pub lanes-ok : All (LaneOk (g .places)) (bodiesOf 2 rs)
-  pub carts-ok : All (CartOk (g .places)) (bodiesOf 3 rs)
+-- nothing judged
+none-judged : (ks : List Kind) (before ns : List ℕ) → length ns ≡ length ks → Groups ks before ns ns (groupsOf ks [])
+unfolding bodiesOf
+none-judged [] before [] e = tt
+none-judged [] before (n ∷ ns) e = absurd (omega arith)
+none-judged (k ∷ ks) before [] e = absurd (omega arith)
+none-judged (k ∷ ks) before (n ∷ ns) e = (
+  record { sizes = tt; count = omega arith; few = λ l. l; fields = tt; none = λ s. refl },
+  none-judged ks (before ++ (n ∷ [])) ns (omega arith),
+)
 
 -- one record more in front
-module _ (body : List ℕ) (rs : List Record) (f h g : Floor) (s : Sorted h g rs) where
-  at-place : Passed f place body h → Sorted f g (ofKind 1 body ∷ rs)
-  unfolding bodiesOf
-  at-place p =
-      let o = either-false (ltb 0 (f .lanes)) (ltb 0 (f .carts)) (p .order) in
-      let l : f .lanes ≤ 0 = ltb-false _ _ (o .0) in
-      let c : f .carts ≤ 0 = ltb-false _ _ (o .1) in
-      let a : h .places ≡ f .places + 1 = ap (λ (x : Floor). x .places) (p .count) in
-      let b : h .lanes ≡ f .lanes = ap (λ (x : Floor). x .lanes) (p .count) in
-      let d : h .carts ≡ f .carts = ap (λ (x : Floor). x .carts) (p .count) in
-      let m : f .places < 256 = leb-false _ _ (p .room) in
-      record {
-        in-order = ap (λ (x : List Record). ofKind 1 body ∷ x) (s .in-order);
-        no-places = λ q. absurd (omega arith);
-        no-lanes = λ q. absurd (omega arith);
-        place-sizes = (p .size, s .place-sizes);
-        lane-sizes = s .lane-sizes;
-        cart-sizes = s .cart-sizes;
-        places = omega (arith, s .places);
-        lanes = omega (arith, s .lanes);
-        carts = omega (arith, s .carts);
-        within = λ q. s .within (record { places = omega (arith, q .places); lanes = omega (arith, q .lanes); carts = omega (arith, q .carts) });
-        lanes-ok = s .lanes-ok;
-        carts-ok = s .carts-ok;
-      }
+abbrev Judged : List Kind → List ℕ → List ℕ → List ℕ → List Record → Type 0
+Judged ks before ns ms rs = Groups ks before ns ms (groupsOf ks rs) × (rs ≡ inOrder ks (groupsOf ks rs))
 
-  at-lane : Passed f lane body h → Sorted f g (ofKind 2 body ∷ rs)
-  unfolding bodiesOf
-  at-lane p =
-      let c : f .carts ≤ 0 = ltb-false _ _ (p .order) in
-      let a : h .places ≡ f .places = ap (λ (x : Floor). x .places) (p .count) in
-      let b : h .lanes ≡ f .lanes + 1 = ap (λ (x : Floor). x .lanes) (p .count) in
-      let d : h .carts ≡ f .carts = ap (λ (x : Floor). x .carts) (p .count) in
-      let none : bodiesOf 1 rs ≡ [] = s .no-places (omega arith) in
-      let rest : List Record = map (ofKind 2) (bodiesOf 2 rs) ++ map (ofKind 3) (bodiesOf 3 rs) in
-      let m : f .lanes < 1024 = leb-false _ _ (p .room) in
-      let r = either-false (leb (f .places) (getD body 0 0)) (leb (f .places) (getD body 1 0)) (p .there) in
-      let from : getD body 0 0 < f .places = leb-false _ _ (r .0) in
-      let to : getD body 1 0 < f .places = leb-false _ _ (r .1) in
-      record {
-        in-order = ap (λ (x : List Record). ofKind 2 body ∷ x) (s .in-order ∙ ap (λ (x : List (List ℕ)). map (ofKind 1) x ++ rest) none)
-            ∙ sym (ap (λ (x : List (List ℕ)). map (ofKind 1) x ++ (ofKind 2 body ∷ rest)) none);
-        no-places = λ q. none;
-        no-lanes = λ q. absurd (omega arith);
-        place-sizes = s .place-sizes;
-        lane-sizes = (p .size, s .lane-sizes);
-        cart-sizes = s .cart-sizes;
-        places = omega (arith, s .places);
-        lanes = omega (arith, s .lanes);
-        carts = omega (arith, s .carts);
-        within = λ q. s .within (record { places = omega (arith, q .places); lanes = omega (arith, q .lanes); carts = omega (arith, q .carts) });
-        lanes-ok = ((omega (arith, s .places), omega (arith, s .places)), s .lanes-ok);
-        carts-ok = s .carts-ok;
-      }
+module _ (r : Record) (rs : List Record) where
+  step : (ks : List Kind) (before ns hs ms : List ℕ) → distinct ks ≡ true → Counted ks before ns (r .kind) (r .body) hs → Judged ks before hs ms rs
+      → Judged ks before ns ms (r ∷ rs)
+  step [] before ns hs ms d c j = absurd c
+  step (k ∷ ks) before [] hs ms d c j = absurd c
+  step (k ∷ ks) before (n ∷ ns) [] ms d c j = absurd c
+  step (k ∷ ks) before (n ∷ ns) (h ∷ hs) [] d c j = absurd (j .0)
+  step (k ∷ ks) before (n ∷ ns) (h ∷ hs) (m ∷ ms) d (inl c) j =
+      let g = j .0 .0 in
+      let p = c .1 in
+      let t = both-true (apart (k .number) ks) (distinct ks) d in
+      let own = own-kind r rs (k .number) (c .0) in
+      let rest : groupsOf ks (r ∷ rs) ≡ groupsOf ks rs = other-kinds r rs ks (ap (λ (x : ℕ). apart x ks) (c .0) ∙ t .0) in
+      let is : r ≡ ofKind (k .number) (r .body) = ap (λ (x : ℕ). ofKind x (r .body)) (c .0) in
+      let group : Group k before n m ns (r .body ∷ bodiesOf (k .number) rs) = record {
+        sizes = (p .size, g .sizes);
+        count = omega (arith, g .count, c .2);
+        few = λ l. g .few (omega (arith, p .room, c .2));
+        fields = (p .fields, g .fields);
+        none = λ s. absurd (clash ns s (p .order));
+      } in
+      rw (own, rest) (
+        (group, subst (λ (x : List ℕ). Groups ks (before ++ (m ∷ [])) x ms (groupsOf ks rs)) (c .3) (j .0 .1)),
+        ap₂ _∷_ is (j .1),
+      )
+    where
+      clash : (ns : List ℕ) → seen ns ≡ true → seen ns ≡ false → ⊥
+      clash ns a b = let z : true ≡ false = sym a ∙ b in let y : _≡_ {A = ℕ} 0 1 = cc in omega arith
+  step (k ∷ ks) before (n ∷ ns) (h ∷ hs) (m ∷ ms) d (inr c) j =
+      let g = j .0 .0 in
+      let t = both-true (apart (k .number) ks) (distinct ks) d in
+      let other = other-kind r rs (k .number) (c .0) in
+      let none : bodiesOf (k .number) rs ≡ [] = g .none (counted-seen ks (before ++ (n ∷ [])) ns (r .kind) (r .body) hs (c .2)) in
+      let same : m ≡ n = omega (arith, g .count, c .1, ap length none) in
+      let rest : rs ≡ inOrder ks (groupsOf ks rs) = j .1 ∙ ap (λ (x : List (List ℕ)). map (ofKind (k .number)) x ++ inOrder ks (groupsOf ks rs)) none in
+      let more = step ks (before ++ (m ∷ [])) ns hs ms (t .1)
+      (subst (λ (x : ℕ). Counted ks (before ++ (x ∷ [])) ns (r .kind) (r .body) hs) (sym same) (c .2)) (j .0 .1, rest) in
+      let group : Group k before n m ns [] = record { sizes = tt; count = omega (arith, same); few = λ l. omega (arith, same); fields = tt; none = λ s. refl } in
+      rw (other ∙ none) ((group, more .0), more .1)
 
-  at-cart : Passed f cart body h → Sorted f g (ofKind 3 body ∷ rs)
-  unfolding bodiesOf
-  at-cart p =
-      let a : h .places ≡ f .places = ap (λ (x : Floor). x .places) (p .count) in
-      let b : h .lanes ≡ f .lanes = ap (λ (x : Floor). x .lanes) (p .count) in
-      let d : h .carts ≡ f .carts + 1 = ap (λ (x : Floor). x .carts) (p .count) in
-      let none : bodiesOf 1 rs ≡ [] = s .no-places (omega arith) in
-      let none′ : bodiesOf 2 rs ≡ [] = s .no-lanes (omega arith) in
-      let rest : List Record = map (ofKind 3) (bodiesOf 3 rs) in
-      let m : f .carts < 32 = leb-false _ _ (p .room) in
-      let r = either-false (ltb 7 (getD body 0 0)) (leb (f .places) (getD body 1 0)) (p .there) in
-      let class : getD body 0 0 ≤ 7 = ltb-false _ _ (r .0) in
-      let start : getD body 1 0 < f .places = leb-false _ _ (r .1) in
-      record {
-        in-order =
-            ap (λ (x : List Record). ofKind 3 body ∷ x) (s .in-order ∙ ap₂ (λ (x y : List (List ℕ)). map (ofKind 1) x ++ (map (ofKind 2) y ++ rest)) none none′)
-            ∙ sym (ap₂ (λ (x y : List (List ℕ)). map (ofKind 1) x ++ (map (ofKind 2) y ++ (ofKind 3 body ∷ rest))) none none′);
-        no-places = λ q. none;
-        no-lanes = λ q. none′;
-        place-sizes = s .place-sizes;
-        lane-sizes = s .lane-sizes;
-        cart-sizes = (p .size, s .cart-sizes);
-        places = omega (arith, s .places);
-        lanes = omega (arith, s .lanes);
-        carts = omega (arith, s .carts);
-        within = λ q. s .within (record { places = omega (arith, q .places); lanes = omega (arith, q .lanes); carts = omega (arith, q .carts) });
-        lanes-ok = s .lanes-ok;
-        carts-ok = ((omega arith, omega (arith, s .places)), s .carts-ok);
-      }
-
--- a record that is judged good is of one of the three kinds
-module _ (r : Record) (rs : List Record) (f h g : Floor) (e : judged f (kindOf (r .kind)) (r .body) ≡ Good h) (s : Sorted h g rs) where
-  as-kind : (n : ℕ) → r .kind ≡ n → r ≡ ofKind n (r .body)
-  as-kind n q = ap (λ (x : ℕ). ofKind x (r .body)) q
-
-  by-kind : (a b c : Bool) → eqb (r .kind) 1 ≡ a → eqb (r .kind) 2 ≡ b → eqb (r .kind) 3 ≡ c → Sorted f g (r ∷ rs)
-  unfolding judged
-  by-kind true b c p q t =
-      let k : r .kind ≡ 1 = eqb-true _ _ p in
-      rw (as-kind 1 k) (at-place (r .body) rs f h g s (passed f place (r .body) h (sym (ap (λ (n : ℕ). judged f (kindOf n) (r .body)) k) ∙ e)))
-  by-kind false true c p q t =
-      let k : r .kind ≡ 2 = eqb-true _ _ q in
-      rw (as-kind 2 k) (at-lane (r .body) rs f h g s (passed f lane (r .body) h (sym (ap (λ (n : ℕ). judged f (kindOf n) (r .body)) k) ∙ e)))
-  by-kind false false true p q t =
-      let k : r .kind ≡ 3 = eqb-true _ _ t in
-      rw (as-kind 3 k) (at-cart (r .body) rs f h g s (passed f cart (r .body) h (sym (ap (λ (n : ℕ). judged f (kindOf n) (r .body)) k) ∙ e)))
-  by-kind false false false p q t =
-      let k : kindOf (r .kind) ≡ unknown = simp (p, q, t) in
-      let z : Fault 3 ≡ Good h = sym (ap (λ (x : Kind). judged f x (r .body)) k) ∙ e in
-      let y : _≡_ {A = ℕ} 0 1 = cc in
-      absurd (omega arith)
+-- records judged from f on without a refusal, up to g
+abbrev pub Sorted : Floor → Floor → List Record → Type 0
+Sorted f g rs = Judged kinds [] (counts f) (counts g) rs
 
 pub sorted : (rs : List Record) (f : Floor) (at : ℕ) (g : Floor) (n : ℕ) → walk f at rs ≡ At g n → Sorted f g rs
-unfolding walk bodiesOf
+unfolding walk judged bodiesOf
 sorted [] f at g n e =
     let q : f ≡ g = cc in
-    let a : f .places ≡ g .places = ap (λ (x : Floor). x .places) q in
-    let b : f .lanes ≡ g .lanes = ap (λ (x : Floor). x .lanes) q in
-    let d : f .carts ≡ g .carts = ap (λ (x : Floor). x .carts) q in
-    record {
-      in-order = refl;
-      no-places = λ q. refl;
-      no-lanes = λ q. refl;
-      place-sizes = tt;
-      lane-sizes = tt;
-      cart-sizes = tt;
-      places = omega arith;
-      lanes = omega arith;
-      carts = omega arith;
-      within = λ w. subst Within q w;
-      lanes-ok = tt;
-      carts-ok = tt;
-    }
-sorted (r ∷ rs) f at g n e = go (judged f (kindOf (r .kind)) (r .body)) refl (λ h. sorted rs h (at + 4 + length (r .body)) g n) e
+    subst (λ (x : Floor). Sorted f x []) q (none-judged kinds [] (counts f) refl, refl)
+sorted (r ∷ rs) f at g n e = go (judged f (r .kind) (r .body)) refl (λ h. sorted rs h (at + 4 + length (r .body)) g n) e
   where
-    go : (j : RecordAnswer) → judged f (kindOf (r .kind)) (r .body) ≡ j
+    go : (j : RecordAnswer) → judged f (r .kind) (r .body) ≡ j
         → ((h : Floor) → walk h (at + 4 + length (r .body)) rs ≡ At g n → Sorted h g rs)
         → onward j at (λ h. walk h (at + 4 + length (r .body)) rs) ≡ At g n → Sorted f g (r ∷ rs)
-    go (Good h) q ih e = by-kind r rs f h g q (ih h e) _ _ _ refl refl refl
+    go (Good h) q ih e =
+        let c = counted-in kinds [] (counts f) (r .kind) (r .body) h q in
+        let cs : counts h ≡ c .0 = ap counts (sym (c .1)) ∙ counts-of (c .0) (counted-length kinds [] (counts f) (r .kind) (r .body) (c .0) (c .2)) in
+        step r rs kinds [] (counts f) (counts h) (counts g) kinds-distinct
+        (subst (Counted kinds [] (counts f) (r .kind) (r .body)) (sym cs) (c .2)) (ih h e)
     go (Fault m) q ih e = let z : _≡_ {A = ℕ} 0 1 = cc in absurd (omega arith)

@@ -2,10 +2,10 @@
 use crate::Floor;
 use crate::RecordAnswer;
 ghost use mathlib.Core.Path.{_≡_};
-ghost use Rattle.floor.specs.Floor.{place, lane, cart, kindOf, judged};
+ghost use Rattle.floor.specs.Floor.{judged};
 
 fn judge_place(f: Floor, body: &[u8]) -> RecordAnswer
-    ensures { λ r. ⌜ r ≡ judged f place (now (body .entry)) ⌝ }
+    ensures { λ r. ⌜ r ≡ judged f 1 (now (body .entry)) ⌝ }
 {
     if 0 < f.lanes {
         return RecordAnswer::Fault(3);
@@ -27,7 +27,7 @@ fn judge_place(f: Floor, body: &[u8]) -> RecordAnswer
 }
 
 fn judge_lane(f: Floor, body: &[u8]) -> RecordAnswer
-    ensures { λ r. ⌜ r ≡ judged f lane (now (body .entry)) ⌝ }
+    ensures { λ r. ⌜ r ≡ judged f 2 (now (body .entry)) ⌝ }
 {
     if 0 < f.carts {
         return RecordAnswer::Fault(3);
@@ -52,7 +52,7 @@ fn judge_lane(f: Floor, body: &[u8]) -> RecordAnswer
 }
 
 fn judge_cart(f: Floor, body: &[u8]) -> RecordAnswer
-    ensures { λ r. ⌜ r ≡ judged f cart (now (body .entry)) ⌝ }
+    ensures { λ r. ⌜ r ≡ judged f 3 (now (body .entry)) ⌝ }
 {
     if body.len() != 2 {
         return RecordAnswer::Fault(4);
@@ -75,7 +75,7 @@ fn judge_cart(f: Floor, body: &[u8]) -> RecordAnswer
 
 // Judges a record by its kind and body, behind those already counted.
 pub(crate) fn judge(f: Floor, kind: u16, body: &[u8]) -> RecordAnswer
-    ensures { λ r. ⌜ r ≡ judged f (kindOf kind) (now (body .entry)) ⌝ }
+    ensures { λ r. ⌜ r ≡ judged f kind (now (body .entry)) ⌝ }
 {
     if kind == 1 {
         return judge_place(f, body);

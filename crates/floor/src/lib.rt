@@ -2,6 +2,7 @@
 mod judging;
 mod offsets;
 mod reading;
+mod words;
 mod writing;
 
 pub use offsets::cart_at;

@@ -5,6 +5,8 @@ use crate::RecordAnswer;
 use crate::Walked;
 use crate::judging::judge;
 use crate::reading::at_end;
+use crate::words::put_words;
+use crate::words::walk_words;
 use refusal::Verdict;
 ghost use mathlib.Core.Path.{_≡_};
 ghost use mathlib.Core.Bool.{false};
@@ -13,14 +15,12 @@ ghost use Prim.Native.Nat.{_+_, _*_, _≤_, _<_, min};
 ghost use lib.ListN.{length};
 ghost use Rattle.refusal.specs.Outcome.{written, Gives};
 ghost use Rattle.refusal.specs.declared.Verdict.the-variants.{Floor as AboutFloor};
-ghost use Rattle.record.specs.Record.{layout};
-ghost use Rattle.record.specs.Buffer.{stored};
 ghost use Rattle.record.specs.Parts.{parts, ofKind, laid};
 ghost use Rattle.record.specs.Parts.{partCount};
-ghost use Rattle.floor.specs.Floor.{walk, atEnd, emptyFloor, readFloor};
+ghost use Rattle.floor.specs.Floor.{walk, atEnd, readFloor};
 ghost use Rattle.floor.specs.Promises.{FloorWritten};
 ghost use Rattle.floor.specs.Walked.{walkOn, UpTo};
-ghost use Rattle.floor.specs.Numbers.{placeRecord, floorBytes, numbers};
+ghost use Rattle.floor.specs.Numbers.{floorBytes, numbers};
 
 // Judges records of one kind, so many bytes of the bodies to each, that are laid out from an offset on.
 fn walk_parts(f: Floor, at: usize, kind: u16, size: usize, bodies: &[u8]) -> Walked
@@ -44,24 +44,6 @@ fn walk_parts(f: Floor, at: usize, kind: u16, size: usize, bodies: &[u8]) -> Wal
         }
     }
     Walked::At(g, next)
-}
-
-// Judges place records laid out from the start on: nothing but their number can be wrong.
-fn walk_places(places: &[u32]) -> Walked
-    ensures { λ r. ⌜ r ≡ walk emptyFloor 0 (map placeRecord (now (places .entry))) ⌝ }
-{
-    let n = places.len();
-    if 256 < n {
-        return Walked::Stopped(refusal::at_offset(5, 2048));
-    }
-    Walked::At(
-        Floor {
-            places: n,
-            lanes: 0,
-            carts: 0,
-        },
-        n * 8,
-    )
 }
 
 // The length of a floor laid out, or 65,537 if it is longer than a file may be.
@@ -110,24 +92,15 @@ fn judge_numbers(places: &[u32], lanes: &[u8], carts: &[u8]) -> FloorAnswer
     if 65536 < laid_size(places.len(), lanes.len(), carts.len()) {
         return FloorAnswer::Refused(refusal::at_offset(1, 0));
     }
-    let p = walk_places(places);
+    let empty = Floor {
+        places: 0,
+        lanes: 0,
+        carts: 0,
+    };
+    let p = walk_words(empty, 0, 1, places);
     let l = walk_on(p, 2, 3, lanes);
     let c = walk_on(l, 3, 2, carts);
     answer(c)
-}
-
-// Writes places from the start of a buffer on, and returns where they end. Every other byte stays.
-fn put_places(out: &mut [u8], places: &[u32]) -> usize
-    requires { ⌜ length (layout (map placeRecord (now places))) ≤ length (now out) ⌝ }
-    ensures { λ r. ⌜ r ≡ length (layout (map placeRecord (now (places .entry)))) ⌝ }
-    ensures { λ _. ⌜ now (out .exit) ≡ stored (now (out .entry)) 0 (layout (map placeRecord (now (places .entry)))) ⌝ }
-{
-    let mut i: usize = 0;
-    while i < places.len() {
-        record::put(out, i * 8, 1, &endian::bytes32(places[i]));
-        i += 1;
-    }
-    i * 8
 }
 
 // Writes a floor's numbers as a file, or refuses them as reading that file would.
@@ -149,7 +122,7 @@ fn put_numbers(places: &[u32], lanes: &[u8], carts: &[u8], out: &mut [u8]) -> Ve
     if out.len() < n {
         return Verdict::Floor(refusal::refuse(18, n as u32, 0));
     }
-    let lanes_at = put_places(out, places);
+    let lanes_at = put_words(out, 0, 1, places);
     let carts_at = record::put_parts(out, lanes_at, 2, 3, lanes);
     record::put_parts(out, carts_at, 3, 2, carts);
     Verdict::Written(n as u32)

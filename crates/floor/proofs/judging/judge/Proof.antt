@@ -1,6 +1,5 @@
-use borrow.Author.Tests.{eq-eqb, ne-eqb}
+use borrow.Author.Tests.{ne-eqb}
 use Rattle.floor.specs.Floor.{judged}
-use mathlib.Core.Path.{_∙_}
 use borrow.Author.Needs.{needs}
 use Rattle.floor.proofs.judging.judge.Statement.{statement}
 use Rattle.floor.proofs.judging.judge.Tie as tie
@@ -9,21 +8,19 @@ judge-place-requires : tie.Need-judge-place-requires
 judge-place-requires c κs = search needs
 
 returns : tie.Need-returns
-returns c = c .judge-place .ensures ∙ simp (eq-eqb _ _ (c .before .if1 .taken))
+returns c = rw (c .before .if1 .taken) (c .judge-place .ensures)
 
 judge-lane-requires : tie.Need-judge-lane-requires
 judge-lane-requires c κs = search needs
 
 returns-2 : tie.Need-returns-2
-returns-2 c = c .judge-lane .ensures ∙ simp (ne-eqb _ _ (c .before .before .if1 .left), eq-eqb _ _ (c .before .if2 .taken))
+returns-2 c = rw (c .before .if2 .taken) (c .judge-lane .ensures)
 
 judge-cart-requires : tie.Need-judge-cart-requires
 judge-cart-requires c κs = search needs
 
 returns-3 : tie.Need-returns-3
-returns-3 c =
-    c .judge-cart .ensures
-    ∙ simp (ne-eqb _ _ (c .before .before .before .if1 .left), ne-eqb _ _ (c .before .before .if2 .left), eq-eqb _ _ (c .before .if3 .taken))
+returns-3 c = rw (c .before .if3 .taken) (c .judge-cart .ensures)
 
 returns-4 : tie.Need-returns-4
 unfolding judged

@@ -1,14 +1,16 @@
-use Prim.Native.Nat.{_≤_}
+use Prim.Native.Nat.{_+_, _≤_}
 use native.Mathlib.Omega.{arith}
-use mathlib.Core.Path.{sym, ap, subst, _∙_}
+use mathlib.Core.Path.{_≡_, sym, ap, subst, _∙_}
 use mathlib.Core.Bool.{false}
+use mathlib.Core.List.{map}
 use lib.ListN.{length}
-use Rattle.record.specs.Parts.{laid}
-use Rattle.floor.specs.Floor.{atEnd}
-use Rattle.floor.specs.Numbers.{FloorNumbers, numbers, laneRecords, cartRecords, floorBytes}
+use Rattle.record.specs.Parts.{parts, ofKind, laid}
+use Rattle.floor.specs.Floor.{atEnd, emptyFloor}
+use Rattle.floor.specs.Numbers.{FloorNumbers, numbers, wordRecords, floorBytes}
 use Rattle.floor.specs.Walked.{walkOn, UpTo}
-use Rattle.floor.specs.Walk.{length-floor, read-numbers, up-to-lanes, up-to-carts, up-to-end}
+use Rattle.floor.specs.Walk.{on-up-to, up-to-less, length-kinds, length-floor, read-numbers}
 use Rattle.floor.specs.declared.Walked.{Walked}
+use Rattle.floor.specs.declared.Walked.the-variants.{At}
 use Rattle.floor.specs.declared.FloorAnswer.the-variants.{Refused}
 use Rattle.floor.proofs.Steps.{too-long}
 use borrow.Author.Needs.{needs}
@@ -36,36 +38,64 @@ returns c =
     let n = numbers (a .places .now) (a .lanes .now) (a .carts .now) in
     ap Refused (c .at-offset .ensures) ∙ too-long (floorBytes n) (omega (arith, length-floor n))
 
-walk-places-requires : tie.Need-walk-places-requires
-walk-places-requires c κs = search needs
+-- what is judged after each kind, and that it stays within a file's length
+abbrev after1 : (n : FloorNumbers) → Walked
+after1 n = walkOn (At emptyFloor 0) (wordRecords 1 (n .places))
+
+abbrev after2 : (n : FloorNumbers) → Walked
+after2 n = walkOn (after1 n) (map (ofKind 2) (parts 3 (n .lanes)))
+
+abbrev after3 : (n : FloorNumbers) → Walked
+after3 n = walkOn (after2 n) (map (ofKind 3) (parts 2 (n .carts)))
+
+module _ (n : FloorNumbers) (h : length (floorBytes n) ≤ 65536) where
+  up-to1 : UpTo 65536 (after1 n) (length (laid 2 3 (n .lanes)) + (length (laid 3 2 (n .carts)) + 0))
+  up-to1 = on-up-to 65536 (At emptyFloor 0) (wordRecords 1 (n .places)) _ (omega (arith, length-kinds n))
+
+  up-to2 : UpTo 65536 (after2 n) (length (laid 3 2 (n .carts)) + 0)
+  up-to2 = on-up-to 65536 (after1 n) (map (ofKind 2) (parts 3 (n .lanes))) _ up-to1
+
+  up-to3 : UpTo 65536 (after3 n) 0
+  up-to3 = on-up-to 65536 (after2 n) (map (ofKind 3) (parts 2 (n .carts))) _ up-to2
+
+walk-words-requires : tie.Need-walk-words-requires
+walk-words-requires c κs =
+    let n = held c in
+    omega (arith, length-kinds n, short c)
 
 walk-on-requires : tie.Need-walk-on-requires
 walk-on-requires c κs =
-    let n = held (c .before) in
-    (omega arith, subst (λ (w : Walked). UpTo 65536 w (length (laid 2 3 (n .lanes)))) (sym (c .walk-places .ensures)) (up-to-lanes n (short (c .before))))
+    let n = held (c .before) in (
+      omega arith,
+      subst (λ (w : Walked). UpTo 65536 w (length (laid 2 3 (n .lanes)))) (sym (c .walk-words .ensures))
+          (up-to-less 65536 (after1 n) _ _ (up-to1 n (short (c .before)))),
+    )
 
 walk-on-requires-2 : tie.Need-walk-on-requires-2
 walk-on-requires-2 c κs =
     let n = held (c .before .before) in
-    let e = c .walk-on .ensures ∙ ap (λ (w : Walked). walkOn w (laneRecords n)) (c .before .walk-places .ensures) in
-    (omega arith, subst (λ (w : Walked). UpTo 65536 w (length (laid 3 2 (n .carts)))) (sym e) (up-to-carts n (short (c .before .before))))
+    let e = c .walk-on .ensures ∙ ap (λ (w : Walked). walkOn w (map (ofKind 2) (parts 3 (n .lanes)))) (c .before .walk-words .ensures) in (
+      omega arith,
+      subst (λ (w : Walked). UpTo 65536 w (length (laid 3 2 (n .carts)))) (sym e)
+          (up-to-less 65536 (after2 n) _ _ (up-to2 n (short (c .before .before)))),
+    )
+
+-- what the calls give is what is judged after the last kind
+judged-all : (c : tie.After-walk-on2) → c .walk-on2 .result ≡ after3 (held (c .before .before .before))
+judged-all c =
+    let n = held (c .before .before .before) in
+    c .walk-on2 .ensures ∙ ap (λ (w : Walked). walkOn w (map (ofKind 3) (parts 2 (n .carts))))
+    (c .before .walk-on .ensures ∙ ap (λ (w : Walked). walkOn w (map (ofKind 2) (parts 3 (n .lanes)))) (c .before .before .walk-words .ensures))
 
 answer-requires : tie.Need-answer-requires
 answer-requires c κs =
     let n = held (c .before .before .before) in
-    subst (λ (w : Walked). UpTo 65536 w 0)
-    (sym (c .walk-on2 .ensures ∙ ap (λ (w : Walked). walkOn w (cartRecords n))
-    (c .before .walk-on .ensures ∙ ap (λ (w : Walked). walkOn w (laneRecords n)) (c .before .before .walk-places .ensures))))
-    (up-to-end n (short (c .before .before .before)))
+    subst (λ (w : Walked). UpTo 65536 w 0) (sym (judged-all c)) (up-to3 n (short (c .before .before .before)))
 
 returns-2 : tie.Need-returns-2
 returns-2 c =
     let n = held (c .before .before .before .before) in
-    c .answer .ensures
-    ∙ ap (λ (w : Walked). atEnd w false)
-    (c .before .walk-on2 .ensures ∙ ap (λ (w : Walked). walkOn w (cartRecords n))
-    (c .before .before .walk-on .ensures ∙ ap (λ (w : Walked). walkOn w (laneRecords n)) (c .before .before .before .walk-places .ensures)))
-    ∙ sym (read-numbers n (short (c .before .before .before .before)))
+    c .answer .ensures ∙ ap (λ (w : Walked). atEnd w false) (judged-all (c .before)) ∙ sym (read-numbers n (short (c .before .before .before .before)))
 
 pub judge-numbers-spec : {M : Type 1} → statement M
 judge-numbers-spec =
@@ -74,7 +104,7 @@ judge-numbers-spec =
     laid-size-requires
     at-offset-requires
     returns
-    walk-places-requires
+    walk-words-requires
     walk-on-requires
     walk-on-requires-2
     answer-requires
