@@ -30,11 +30,12 @@ pub extern "C" fn cartplan_write_floor(
     places: &[u32],
     lanes: &[u8],
     carts: &[u8],
+    narrow: &[u8],
     out: &mut [u8],
 ) -> Code
-    ensures { λ c. ⌜ FloorWrittenCode (numbers (now (places .entry)) (now (lanes .entry)) (now (carts .entry))) (now (out .entry)) c (now (out .exit)) ⌝ }
+    ensures { λ c. ⌜ FloorWrittenCode (numbers (now (places .entry)) (now (lanes .entry)) (now (carts .entry)) (now (narrow .entry))) (now (out .entry)) c (now (out .exit)) ⌝ }
 {
-    refusal::code_of(floor::write(places, lanes, carts, out))
+    refusal::code_of(floor::write(places, lanes, carts, narrow, out))
 }
 
 // Writes a plan for a floor.

@@ -27,6 +27,13 @@ cart = 2 ∷ 0 ∷ 3 ∷ 0 ∷ 0 ∷ 0 ∷ []
 abbrev carts : List ℕ
 carts = flatten (replicate 32 cart)
 
+-- place 0 is narrow, and one more
+abbrev narrow : List ℕ
+narrow = 1 ∷ 0 ∷ 6 ∷ 0 ∷ 0 ∷ []
+
+abbrev narrows : List ℕ
+narrows = flatten (replicate 256 narrow)
+
 abbrev verdict : List ℕ → Verdict
 verdict s = floorVerdict (readFloor s)
 
@@ -34,13 +41,13 @@ verdict s = floorVerdict (readFloor s)
 abbrev blank : ℕ → List ℕ
 blank n = replicate n 9
 
-abbrev writing : List ℕ → List ℕ → List ℕ → ℕ → Outcome
-writing p l c n = writeFloor (numbers p l c) (blank n)
+abbrev writing : List ℕ → List ℕ → List ℕ → List ℕ → ℕ → Outcome
+writing p l c w n = writeFloor (numbers p l c w) (blank n)
 
 -- the definitions that these cases compute with, under one name
-computing : List ℕ → List ℕ → List ℕ → ℕ → Verdict × Outcome
+computing : List ℕ → List ℕ → List ℕ → List ℕ → ℕ → Verdict × Outcome
 unfolding flatten bytes value encoded layout split recordsIn partsIn parts judged walk readFloor bodiesOf writeFloor
-computing p l c n = (verdict p, writing p l c n)
+computing p l c w n = (verdict p, writing p l c w n)
 
 -- the order at one offset, the offset of each, and the end
 pub floors :
@@ -54,12 +61,24 @@ pub floors :
     × (verdict (place ++ (1 ∷ [])) ≡ AboutFloor (refused 2 8 0))
     × (verdict [] ≡ AboutFloor (refused 7 0 0))
     × (verdict (place ++ carts) ≡ Accepted)
-    × (readFloor (place ++ (place ++ (lane ++ cart))) ≡ Read (record { places = 2; lanes = 1; carts = 1 }))
-    × (numbersOf (place ++ (lane ++ cart)) ≡ numbers (1 ∷ []) (0 ∷ 0 ∷ 1 ∷ []) (0 ∷ 0 ∷ []))
+    × (readFloor (place ++ (place ++ (lane ++ cart))) ≡ Read (record { places = 2; lanes = 1; carts = 1; narrow = 0 }))
+    × (numbersOf (place ++ (lane ++ cart)) ≡ numbers (1 ∷ []) (0 ∷ 0 ∷ 1 ∷ []) (0 ∷ 0 ∷ []) [])
+    -- kind 6: behind the carts, of one byte, 256 of them, the same place twice, an absent one, and no cart at the end
+    × (verdict (place ++ (cart ++ (narrow ++ narrow))) ≡ Accepted)
+    × (verdict (place ++ (narrow ++ cart)) ≡ AboutFloor (refused 3 13 0))
+    × (verdict (place ++ (cart ++ (narrow ++ (2 ∷ 0 ∷ 6 ∷ 0 ∷ 0 ∷ 0 ∷ [])))) ≡ AboutFloor (refused 4 19 0))
+    × (verdict (place ++ (cart ++ narrows)) ≡ Accepted)
+    × (verdict (place ++ (cart ++ (narrows ++ (1 ∷ 0 ∷ 6 ∷ 0 ∷ 1 ∷ [])))) ≡ AboutFloor (refused 5 1294 0))
+    × (verdict (place ++ (cart ++ (1 ∷ 0 ∷ 6 ∷ 0 ∷ 1 ∷ []))) ≡ AboutFloor (refused 6 14 0))
+    × (verdict (place ++ narrow) ≡ AboutFloor (refused 7 13 0))
+    × (verdict narrow ≡ AboutFloor (refused 6 0 0))
+    × (numbersOf (place ++ (cart ++ (narrow ++ narrow))) ≡ numbers (1 ∷ []) [] (0 ∷ 0 ∷ []) (0 ∷ 0 ∷ []))
     -- written: a byte too few, a byte more than needed, and numbers that no file could give
-    × (writing (1 ∷ []) [] (0 ∷ 0 ∷ []) 13 ≡ unchanged (AboutFloor (refused 18 14 0)) (blank 13))
-    × (writing (1 ∷ []) [] (0 ∷ 0 ∷ []) 15 ≡ record { answer = Written 14; out = place ++ (cart ++ (9 ∷ [])) })
-    × (writing (1 ∷ []) (0 ∷ 0 ∷ []) (0 ∷ 0 ∷ []) 99 ≡ unchanged (AboutFloor (refused 4 8 0)) (blank 99))
-    × (writing [] [] (0 ∷ 0 ∷ []) 0 ≡ unchanged (AboutFloor (refused 6 0 0)) [])
+    × (writing (1 ∷ []) [] (0 ∷ 0 ∷ []) [] 13 ≡ unchanged (AboutFloor (refused 18 14 0)) (blank 13))
+    × (writing (1 ∷ []) [] (0 ∷ 0 ∷ []) [] 15 ≡ record { answer = Written 14; out = place ++ (cart ++ (9 ∷ [])) })
+    × (writing (1 ∷ []) (0 ∷ 0 ∷ []) (0 ∷ 0 ∷ []) [] 99 ≡ unchanged (AboutFloor (refused 4 8 0)) (blank 99))
+    × (writing [] [] (0 ∷ 0 ∷ []) [] 0 ≡ unchanged (AboutFloor (refused 6 0 0)) [])
+    × (writing (1 ∷ []) [] (0 ∷ 0 ∷ []) (0 ∷ []) 20 ≡ record { answer = Written 19; out = place ++ (cart ++ (narrow ++ (9 ∷ []))) })
+    × (writing (1 ∷ []) [] (0 ∷ 0 ∷ []) (0 ∷ 1 ∷ []) 99 ≡ unchanged (AboutFloor (refused 6 19 0)) (blank 99))
 unfolding computing
-floors = (refl, refl, refl, refl, refl, refl, refl, refl, refl, refl, refl, refl, refl, refl, refl, refl)
+floors = (refl, refl, refl, refl, refl, refl, refl, refl, refl, refl, refl, refl, refl, refl, refl, refl, refl, refl, refl, refl, refl, refl, refl, refl, refl, refl, refl)

@@ -40,16 +40,20 @@ lane = record { number = 2; size = 3; most = 1024; bad = λ before body. absent 
 abbrev pub cart : Kind
 cart = record { number = 3; size = 2; most = 32; bad = λ before body. ltb 7 (getD body 0 0) || absent before (getD body 1 0) }
 
--- "A floor holds kinds 1, 2, 3 in that order": the table
+-- 6 narrow place, document 02, 2): "has a one-byte body naming such a place (absent: 6); at most 256 are taken"
+abbrev pub narrow : Kind
+narrow = record { number = 6; size = 1; most = 256; bad = λ before body. absent before (getD body 0 0) }
+
+-- "A floor holds kinds 1, 2, 3 in that order", and "kind 6, after the carts": the table
 abbrev pub kinds : List Kind
-kinds = place ∷ lane ∷ cart ∷ []
+kinds = place ∷ lane ∷ cart ∷ narrow ∷ []
 
 -- how many records of each kind a floor has, in the table's order, and the floor that has so many
 abbrev pub counts : Floor → List ℕ
-counts f = f .places ∷ f .lanes ∷ f .carts ∷ []
+counts f = f .places ∷ f .lanes ∷ f .carts ∷ f .narrow ∷ []
 
 abbrev pub floorOf : List ℕ → Floor
-floorOf ns = record { places = getD ns 0 0; lanes = getD ns 1 0; carts = getD ns 2 0 }
+floorOf ns = record { places = getD ns 0 0; lanes = getD ns 1 0; carts = getD ns 2 0; narrow = getD ns 3 0 }
 
 -- some record of these kinds is counted
 abbrev pub seen : List ℕ → Bool

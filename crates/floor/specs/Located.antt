@@ -2,7 +2,7 @@
 use Prim.Native.Nat.{ℕ, zero, suc, _+_, _*_, _≤_, _<_}
 use native.Mathlib.Nat.{mul-zero, mul-suc, zero-add, add-zero}
 use native.Mathlib.Omega.{arith}
-use mathlib.Core.Path.{_≡_, sym, ap, ap₂, subst, _∙_}
+use mathlib.Core.Path.{_≡_, refl, sym, ap, ap₂, subst, _∙_}
 use mathlib.Core.Bool.{false}
 use mathlib.Core.List.{List, [], _∷_, _++_, flatten}
 use lib.Dec.{leb, ltb}
@@ -15,8 +15,8 @@ use Rattle.record.specs.Record.{layout, recordsIn}
 use Rattle.record.specs.All.{AllOf, each}
 use Rattle.record.specs.Laid.{length-flatten, field-of}
 use Rattle.record.specs.RoundTrip.{layout-records}
-use Rattle.floor.specs.Floor.{place, lane, cart, kinds, counts, emptyFloor, readFloor}
-use Rattle.floor.specs.Numbers.{inOrder, bodiesOf, numbersOf, placeAt, laneAt, cartAt, bodyAt}
+use Rattle.floor.specs.Floor.{place, lane, cart, narrow, kinds, counts, emptyFloor, readFloor}
+use Rattle.floor.specs.Numbers.{inOrder, bodiesOf, numbersOf, placeAt, laneAt, cartAt, narrowAt, bodyAt}
 use Rattle.floor.specs.Sorted.{Group, Sorted, groupsOf}
 use Rattle.floor.specs.InOrder.{startOf, sizeAt, located}
 use Rattle.floor.specs.Valid.{ValidFloor}
@@ -41,6 +41,12 @@ one-of : (size : ℕ) (xs : List (List ℕ)) (i k : ℕ) → AllOf size xs → i
     → getD (flatten xs) (size * i + k) 0 ≡ getD (getD xs i []) k 0
 one-of size xs i k h l m = sym (field-of size (flatten xs) i k m) ∙ ap (λ (x : List ℕ). getD x k 0) (flat-at size xs i h l)
 
+-- a list of one
+alone : (x : List ℕ) → length x ≡ 1 → x ≡ getD x 0 0 ∷ []
+alone [] e = absurd (omega arith)
+alone (a ∷ []) e = refl
+alone (a ∷ (b ∷ x)) e = absurd (omega arith)
+
 -- of an accepted floor
 module _ (s : List ℕ) (f : Floor) (b : Bytes s) (e : readFloor s ≡ Read f) where
   abbrev places : List (List ℕ)
@@ -52,18 +58,24 @@ module _ (s : List ℕ) (f : Floor) (b : Bytes s) (e : readFloor s ≡ Read f) w
   abbrev carts : List (List ℕ)
   carts = bodiesOf 3 (recordsIn s .records)
 
+  abbrev narrows : List (List ℕ)
+  narrows = bodiesOf 6 (recordsIn s .records)
+
   ordered : Sorted emptyFloor f (recordsIn s .records)
   ordered = accepted-sorted s f e
 
-  -- the places', lanes' and carts' records
-  abbrev P : Group place [] 0 (f .places) (0 ∷ 0 ∷ []) places
+  -- the records of each kind
+  abbrev P : Group place [] 0 (f .places) (0 ∷ 0 ∷ 0 ∷ []) places
   P = ordered .0 .0
 
-  abbrev L : Group lane (f .places ∷ []) 0 (f .lanes) (0 ∷ []) lanes
+  abbrev L : Group lane (f .places ∷ []) 0 (f .lanes) (0 ∷ 0 ∷ []) lanes
   L = ordered .0 .1 .0
 
-  abbrev C : Group cart (f .places ∷ f .lanes ∷ []) 0 (f .carts) [] carts
+  abbrev C : Group cart (f .places ∷ f .lanes ∷ []) 0 (f .carts) (0 ∷ []) carts
   C = ordered .0 .1 .1 .0
+
+  abbrev W : Group narrow (f .places ∷ f .lanes ∷ f .carts ∷ []) 0 (f .narrow) [] narrows
+  W = ordered .0 .1 .1 .1 .0
 
   file : s ≡ layout (inOrder kinds (groupsOf kinds (recordsIn s .records)))
   file = sym (layout-records s b (whole s f e .uncut)) ∙ ap layout (ordered .1)
@@ -87,11 +99,27 @@ module _ (s : List ℕ) (f : Floor) (b : Bytes s) (e : readFloor s ≡ Read f) w
       let m : n < length carts = omega (arith, C .count) in
       body-at 2 n (cartAt f n) (omega arith) m (omega arith) ∙ sym (flat-at 2 carts n (C .sizes) m)
 
+  narrow-is : (i : ℕ) → i < f .narrow → getD (numbersOf s .narrow) i 0 ≡ getD (getD narrows i []) 0 0
+  narrow-is i l =
+      let at : i ≡ 1 * i + 0 = omega arith in
+      ap (λ (k : ℕ). getD (numbersOf s .narrow) k 0) at ∙ one-of 1 narrows i 0 (W .sizes) (omega (arith, W .count)) (omega arith)
+
+  narrow-located : (i : ℕ) → i < f .narrow → bodyAt 1 (narrowAt f i) s ≡ getD (numbersOf s .narrow) i 0 ∷ []
+  narrow-located i l =
+      let m : i < length narrows = omega (arith, W .count) in
+      let one : getD (numbersOf s .narrow) i 0 ≡ getD (getD narrows i []) 0 0 = narrow-is i l in
+      body-at 3 i (narrowAt f i) (omega arith) m (omega arith) ∙ alone (getD narrows i []) (each (λ (x : List ℕ). length x ≡ 1) [] narrows i (W .sizes) m)
+      ∙ ap (λ (x : ℕ). x ∷ []) (sym one)
+
   lane-is : (j k : ℕ) → j < f .lanes → k < 3 → getD (numbersOf s .lanes) (3 * j + k) 0 ≡ getD (getD lanes j []) k 0
   lane-is j k l m = one-of 3 lanes j k (L .sizes) (omega (arith, L .count)) m
 
   cart-is : (n k : ℕ) → n < f .carts → k < 2 → getD (numbersOf s .carts) (2 * n + k) 0 ≡ getD (getD carts n []) k 0
   cart-is n k l m = one-of 2 carts n k (C .sizes) (omega (arith, C .count)) m
+
+  narrow-ok : (i : ℕ) → i < f .narrow → getD (getD narrows i []) 0 0 < f .places
+  narrow-ok i l =
+      leb-false _ _ (each (λ (x : List ℕ). narrow .bad (f .places ∷ f .lanes ∷ f .carts ∷ []) x ≡ false) [] narrows i (W .fields) (omega (arith, W .count)))
 
   lane-ok : (j : ℕ) → j < f .lanes → (getD (getD lanes j []) 0 0 < f .places) × (getD (getD lanes j []) 1 0 < f .places)
   lane-ok j l =
@@ -114,17 +142,20 @@ module _ (s : List ℕ) (f : Floor) (b : Bytes s) (e : readFloor s ≡ Read f) w
         places = length-map places value ∙ sym (P .count ∙ zero-add (length places));
         lanes = length-flatten 3 lanes (L .sizes) ∙ ap (λ (k : ℕ). 3 * k) (sym (L .count ∙ zero-add (length lanes)));
         carts = length-flatten 2 carts (C .sizes) ∙ ap (λ (k : ℕ). 2 * k) (sym (C .count ∙ zero-add (length carts)));
+        narrow = length-flatten 1 narrows (W .sizes) ∙ omega (arith, W .count);
         some-place = w .some-place;
         some-cart = w .some-cart;
         few-places = m .places;
         few-lanes = m .lanes;
         few-carts = m .carts;
+        few-narrow = m .narrow;
         lane-from =
             λ j l. subst (λ (k : ℕ). getD (numbersOf s .lanes) k 0 < f .places) (add-zero (3 * j)) (rw (lane-is j 0 l (omega arith)) (lane-ok j l .0));
         lane-to = λ j l. rw (lane-is j 1 l (omega arith)) (lane-ok j l .1);
         cart-class =
             λ n l. subst (λ (k : ℕ). getD (numbersOf s .carts) k 0 < 8) (add-zero (2 * n)) (rw (cart-is n 0 l (omega arith)) (cart-ok n l .0));
         cart-start = λ n l. rw (cart-is n 1 l (omega arith)) (cart-ok n l .1);
+        narrow-there = λ i l. rw (narrow-is i l) (narrow-ok i l);
       }
 
   pub accepts : AcceptedFloor s f
@@ -135,4 +166,5 @@ module _ (s : List ℕ) (f : Floor) (b : Bytes s) (e : readFloor s ≡ Read f) w
     place = place-located;
     lane = lane-located;
     cart = cart-located;
+    narrow = narrow-located;
   }

@@ -14,15 +14,17 @@ use Rattle.floor.specs.declared.Floor.{Floor}
 use Rattle.floor.specs.declared.FloorAnswer.{FloorAnswer}
 use Rattle.floor.specs.declared.FloorAnswer.the-variants.{Read, Refused}
 
--- "Places and carts are numbered from 0 in file order": the marks of each place; from, to and classes of each lane; class and start of each cart
+-- "Places and carts are numbered from 0 in file order": the marks of each place; from, to and classes of each lane; class and start of each cart; the
+-- narrow places
 pub record FloorNumbers : Type 0 where
   pub places : List ℕ
   pub lanes : List ℕ
   pub carts : List ℕ
+  pub narrow : List ℕ
 
--- the three lists that a caller lends
-abbrev pub numbers : List ℕ → List ℕ → List ℕ → FloorNumbers
-numbers places lanes carts = record { places = places; lanes = lanes; carts = carts }
+-- the four lists that a caller lends
+abbrev pub numbers : List ℕ → List ℕ → List ℕ → List ℕ → FloorNumbers
+numbers places lanes carts narrow = record { places = places; lanes = lanes; carts = carts; narrow = narrow }
 
 -- bodies of each kind in turn, as records in the table's order
 abbrev pub inOrder : List Kind → List (List (List ℕ)) → List Record
@@ -34,10 +36,10 @@ inOrder (k ∷ ks) (bodies ∷ groups) = map (ofKind (k .number)) bodies ++ inOr
 abbrev pub wordRecords : ℕ → List ℕ → List Record
 wordRecords k ms = map (ofKind k) (map (bytes 4) ms)
 
--- the bodies that the numbers make, in the table's order: four bytes to a place, a lane to each three bytes, a cart to each two; bytes left over are a
--- body of wrong length
+-- the bodies that the numbers make, in the table's order: four bytes to a place, a lane to each three bytes, a cart to each two, a
+-- narrow place to each one; bytes left over are a body of wrong length
 abbrev pub bodies : FloorNumbers → List (List (List ℕ))
-bodies n = map (bytes 4) (n .places) ∷ parts 3 (n .lanes) ∷ parts 2 (n .carts) ∷ []
+bodies n = map (bytes 4) (n .places) ∷ parts 3 (n .lanes) ∷ parts 2 (n .carts) ∷ parts 1 (n .narrow) ∷ []
 
 abbrev pub floorRecords : FloorNumbers → List Record
 floorRecords n = inOrder kinds (bodies n)
@@ -52,12 +54,17 @@ bodiesOf k (r ∷ rs) = cond (eqb (r .kind) k) (r .body ∷ bodiesOf k rs) (bodi
 
 -- the numbers that a file holds
 abbrev pub numbersIn : List Record → FloorNumbers
-numbersIn rs = record { places = map value (bodiesOf 1 rs); lanes = flatten (bodiesOf 2 rs); carts = flatten (bodiesOf 3 rs) }
+numbersIn rs = record {
+  places = map value (bodiesOf 1 rs);
+  lanes = flatten (bodiesOf 2 rs);
+  carts = flatten (bodiesOf 3 rs);
+  narrow = flatten (bodiesOf 6 rs);
+}
 
 abbrev pub numbersOf : List ℕ → FloorNumbers
 numbersOf s = numbersIn (recordsIn s .records)
 
--- the offset of a place's, a lane's and a cart's record
+-- the offset of a place's, a lane's, a cart's and a narrow place's record
 abbrev pub placeAt : ℕ → ℕ
 placeAt i = 8 * i
 
@@ -66,6 +73,9 @@ laneAt f j = 8 * f .places + 7 * j
 
 abbrev pub cartAt : Floor → ℕ → ℕ
 cartAt f n = 8 * f .places + (7 * f .lanes + 6 * n)
+
+abbrev pub narrowAt : Floor → ℕ → ℕ
+narrowAt f i = 8 * f .places + (7 * f .lanes + (6 * f .carts + 5 * i))
 
 -- the body of so many bytes in the record at an offset
 abbrev pub bodyAt : ℕ → ℕ → List ℕ → List ℕ

@@ -41,7 +41,8 @@ floor-encodable n =
     let places = words-encodable 1 (n .places) (omega arith) in
     let lanes = parts-encodable 2 3 (n .lanes) (omega arith) (omega arith) (omega arith) in
     let carts = parts-encodable 3 2 (n .carts) (omega arith) (omega arith) (omega arith) in
-    all-encodable kinds (bodies n) (places, (lanes, (carts, tt)))
+    let narrow = parts-encodable 6 1 (n .narrow) (omega arith) (omega arith) (omega arith) in
+    all-encodable kinds (bodies n) (places, (lanes, (carts, (narrow, tt))))
 
 values-back : (ms : List ℕ) → Words ms → map value (map (bytes 4) ms) ≡ ms
 values-back [] w = refl
@@ -55,7 +56,8 @@ numbers-back n w =
     let places : map value (bodiesOf 1 (floorRecords n)) ≡ n .places = ap (map value) (group 0) ∙ values-back (n .places) w in
     let lanes : flatten (bodiesOf 2 (floorRecords n)) ≡ n .lanes = ap flatten (group 1) ∙ flatten-parts 3 (n .lanes) (omega arith) in
     let carts : flatten (bodiesOf 3 (floorRecords n)) ≡ n .carts = ap flatten (group 2) ∙ flatten-parts 2 (n .carts) (omega arith) in
-    rw (places, lanes, carts) refl
+    let narrow : flatten (bodiesOf 6 (floorRecords n)) ≡ n .narrow = ap flatten (group 3) ∙ flatten-parts 1 (n .narrow) (omega arith) in
+    rw (places, lanes, carts, narrow) refl
 
 pub numbers-written : (n : FloorNumbers) → Words (n .places) → numbersOf (floorBytes n) ≡ n
 numbers-written n w = ap (λ (x : Split). numbersIn (x .records)) (records-layout (floorRecords n) (floor-encodable n)) ∙ numbers-back n w
@@ -97,17 +99,23 @@ whole s f e = go (ltb 65536 (length s)) refl e
 pub accepted-sorted : (s : List ℕ) (f : Floor) → readFloor s ≡ Read f → Sorted emptyFloor f (recordsIn s .records)
 accepted-sorted s f e = let w = whole s f e in sorted (recordsIn s .records) emptyFloor 0 f (w .end) (w .walked)
 
--- 1 to 256 places, 0 to 1,024 lanes, 1 to 32 carts: never more
+-- 1 to 256 places, 0 to 1,024 lanes, 1 to 32 carts, 0 to 256 narrow places: never more
 pub record Within (f : Floor) : Type 0 where
   pub places : f .places ≤ 256
   pub lanes : f .lanes ≤ 1024
   pub carts : f .carts ≤ 32
+  pub narrow : f .narrow ≤ 256
 
 -- an accepted floor is within the limits
 pub accepted-within : (s : List ℕ) (f : Floor) → readFloor s ≡ Read f → Within f
 accepted-within s f e =
     let g = accepted-sorted s f e .0 in
-    record { places = g .0 .few (omega arith); lanes = g .1 .0 .few (omega arith); carts = g .1 .1 .0 .few (omega arith) }
+    record {
+      places = g .0 .few (omega arith);
+      lanes = g .1 .0 .few (omega arith);
+      carts = g .1 .1 .0 .few (omega arith);
+      narrow = g .1 .1 .1 .0 .few (omega arith);
+    }
 
 -- numbers of four bytes, written as bytes again
 bytes-left : (rs ts : List Record) → AllBytes (rs ++ ts) → AllBytes rs
@@ -128,11 +136,13 @@ bytes-back s f b e =
     let p = bodiesOf 1 rs in
     let l = bodiesOf 2 rs in
     let c = bodiesOf 3 rs in
+    let w = bodiesOf 6 rs in
     let marks : AllBytes (map (ofKind 1) p) = bytes-left (map (ofKind 1) p) _ (subst AllBytes (o .1) (records-bytes s b)) in
     let places : map (bytes 4) (map value p) ≡ p = words-again 1 p (g .0 .sizes) marks in
     let lanes : parts 3 (flatten l) ≡ l = parts-flatten 3 l (omega arith) (g .1 .0 .sizes) in
     let carts : parts 2 (flatten c) ≡ c = parts-flatten 2 c (omega arith) (g .1 .1 .0 .sizes) in
-    let same : bodies (numbersIn rs) ≡ groupsOf kinds rs = rw (places, lanes, carts) refl in
+    let narrow : parts 1 (flatten w) ≡ w = parts-flatten 1 w (omega arith) (g .1 .1 .1 .0 .sizes) in
+    let same : bodies (numbersIn rs) ≡ groupsOf kinds rs = rw (places, lanes, carts, narrow) refl in
     ap (λ (x : List (List (List ℕ))). layout (inOrder kinds x)) same ∙ ap layout (sym (o .1)) ∙ layout-records s b (whole s f e .uncut)
 
 -- read, then written: the same bytes

@@ -1,5 +1,6 @@
 -- Records judged in order.
-use Prim.Native.Nat.{ℕ, _+_, _*_, _≤_}
+use Prim.Native.Nat.{ℕ, _+_, _*_, _/_, _≤_}
+use native.Mathlib.Nat.{add-zero, div-one}
 use native.Mathlib.Omega.{arith}
 use mathlib.Core.Path.{_≡_, refl, ap, _∙_}
 use mathlib.Core.Bool.{Bool, true, false, cond}
@@ -105,11 +106,13 @@ module _ (n : FloorNumbers) where
   length-kinds = length-order kinds (bodies n)
 
   pub length-floor : length (floorBytes n)
-      ≡ 8 * length (n .places) + (length (n .lanes) + 4 * partCount 3 (length (n .lanes)) + (length (n .carts) + 4 * partCount 2 (length (n .carts))))
+      ≡ 8 * length (n .places) + (length (n .lanes) + 4 * partCount 3 (length (n .lanes)) + (length (n .carts) + 4 * partCount 2 (length (n .carts)) + 5 * length (n .narrow)))
   length-floor =
       let p = length-words 1 (n .places) in
       let l = length-laid 2 3 (n .lanes) (omega arith) in
       let c = length-laid 3 2 (n .carts) (omega arith) in
+      let w = length-laid 6 1 (n .narrow) (omega arith) in
+      let ones : partCount 1 (length (n .narrow)) ≡ length (n .narrow) = ap (λ (k : ℕ). k / 1) (add-zero (length (n .narrow))) ∙ div-one (length (n .narrow)) in
       omega (arith, length-kinds)
 
   -- reading it judges its records, kind after kind

@@ -13,6 +13,9 @@ fn judge_place(f: Floor, body: &[u8]) -> RecordAnswer
     if 0 < f.carts {
         return RecordAnswer::Fault(3);
     }
+    if 0 < f.narrow {
+        return RecordAnswer::Fault(3);
+    }
     if body.len() != 4 {
         return RecordAnswer::Fault(4);
     }
@@ -23,6 +26,7 @@ fn judge_place(f: Floor, body: &[u8]) -> RecordAnswer
         places: f.places + 1,
         lanes: f.lanes,
         carts: f.carts,
+        narrow: f.narrow,
     })
 }
 
@@ -30,6 +34,9 @@ fn judge_lane(f: Floor, body: &[u8]) -> RecordAnswer
     ensures { λ r. ⌜ r ≡ judged f 2 (now (body .entry)) ⌝ }
 {
     if 0 < f.carts {
+        return RecordAnswer::Fault(3);
+    }
+    if 0 < f.narrow {
         return RecordAnswer::Fault(3);
     }
     if body.len() != 3 {
@@ -48,12 +55,16 @@ fn judge_lane(f: Floor, body: &[u8]) -> RecordAnswer
         places: f.places,
         lanes: f.lanes + 1,
         carts: f.carts,
+        narrow: f.narrow,
     })
 }
 
 fn judge_cart(f: Floor, body: &[u8]) -> RecordAnswer
     ensures { λ r. ⌜ r ≡ judged f 3 (now (body .entry)) ⌝ }
 {
+    if 0 < f.narrow {
+        return RecordAnswer::Fault(3);
+    }
     if body.len() != 2 {
         return RecordAnswer::Fault(4);
     }
@@ -70,6 +81,28 @@ fn judge_cart(f: Floor, body: &[u8]) -> RecordAnswer
         places: f.places,
         lanes: f.lanes,
         carts: f.carts + 1,
+        narrow: f.narrow,
+    })
+}
+
+fn judge_narrow(f: Floor, body: &[u8]) -> RecordAnswer
+    ensures { λ r. ⌜ r ≡ judged f 6 (now (body .entry)) ⌝ }
+{
+    if body.len() != 1 {
+        return RecordAnswer::Fault(4);
+    }
+    if 256 <= f.narrow {
+        return RecordAnswer::Fault(5);
+    }
+    let place = endian::wide(body[0]);
+    if f.places <= place {
+        return RecordAnswer::Fault(6);
+    }
+    RecordAnswer::Good(Floor {
+        places: f.places,
+        lanes: f.lanes,
+        carts: f.carts,
+        narrow: f.narrow + 1,
     })
 }
 
@@ -85,6 +118,9 @@ pub(crate) fn judge(f: Floor, kind: u16, body: &[u8]) -> RecordAnswer
     }
     if kind == 3 {
         return judge_cart(f, body);
+    }
+    if kind == 6 {
+        return judge_narrow(f, body);
     }
     RecordAnswer::Fault(3)
 }

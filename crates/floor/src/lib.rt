@@ -1,4 +1,4 @@
-// Floors: places, lanes and carts.
+// Floors: places, lanes, carts and narrow places.
 mod judging;
 mod offsets;
 mod reading;
@@ -7,16 +7,18 @@ mod writing;
 
 pub use offsets::cart_at;
 pub use offsets::lane_at;
+pub use offsets::narrow_at;
 pub use reading::read;
 pub use reading::verdict_of;
 use refusal::Refusal;
 pub use writing::write;
 
-// How many places, lanes and carts a floor has. What they are stays in the file's bytes.
+// How many places, lanes, carts and narrow places a floor has. What they are stays in the file's bytes.
 pub struct Floor {
     pub places: usize,
     pub lanes: usize,
     pub carts: usize,
+    pub narrow: usize,
 }
 
 // A record judged: the floor with it counted in, or the number of its refusal.

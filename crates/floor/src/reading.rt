@@ -37,6 +37,7 @@ pub fn read(s: &[u8]) -> FloorAnswer
         places: 0,
         lanes: 0,
         carts: 0,
+        narrow: 0,
     };
     let mut at: usize = 0;
     loop {

@@ -47,8 +47,8 @@ fn walk_parts(f: Floor, at: usize, kind: u16, size: usize, bodies: &[u8]) -> Wal
 }
 
 // The length of a floor laid out, or 65,537 if it is longer than a file may be.
-fn laid_size(places: usize, lanes: usize, carts: usize) -> usize
-    ensures { λ r. ⌜ r ≡ min 65537 (8 * places + (lanes + 4 * partCount 3 lanes + (carts + 4 * partCount 2 carts))) ⌝ }
+fn laid_size(places: usize, lanes: usize, carts: usize, narrow: usize) -> usize
+    ensures { λ r. ⌜ r ≡ min 65537 (8 * places + (lanes + 4 * partCount 3 lanes + (carts + 4 * partCount 2 carts + 5 * narrow))) ⌝ }
 {
     if 65536 < places {
         return 65537;
@@ -59,7 +59,10 @@ fn laid_size(places: usize, lanes: usize, carts: usize) -> usize
     if 65536 < carts {
         return 65537;
     }
-    let n = places * 8 + (lanes + (lanes + 2) / 3 * 4 + (carts + (carts + 1) / 2 * 4));
+    if 65536 < narrow {
+        return 65537;
+    }
+    let n = places * 8 + (lanes + (lanes + 2) / 3 * 4 + (carts + (carts + 1) / 2 * 4 + narrow * 5));
     if 65536 < n { 65537 } else { n }
 }
 
@@ -86,44 +89,47 @@ fn answer(w: Walked) -> FloorAnswer
 }
 
 // Judges a floor's numbers as reading their records would.
-fn judge_numbers(places: &[u32], lanes: &[u8], carts: &[u8]) -> FloorAnswer
-    ensures { λ r. ⌜ r ≡ readFloor (floorBytes (numbers (now (places .entry)) (now (lanes .entry)) (now (carts .entry)))) ⌝ }
+fn judge_numbers(places: &[u32], lanes: &[u8], carts: &[u8], narrow: &[u8]) -> FloorAnswer
+    ensures { λ r. ⌜ r ≡ readFloor (floorBytes (numbers (now (places .entry)) (now (lanes .entry)) (now (carts .entry)) (now (narrow .entry)))) ⌝ }
 {
-    if 65536 < laid_size(places.len(), lanes.len(), carts.len()) {
+    if 65536 < laid_size(places.len(), lanes.len(), carts.len(), narrow.len()) {
         return FloorAnswer::Refused(refusal::at_offset(1, 0));
     }
     let empty = Floor {
         places: 0,
         lanes: 0,
         carts: 0,
+        narrow: 0,
     };
     let p = walk_words(empty, 0, 1, places);
     let l = walk_on(p, 2, 3, lanes);
     let c = walk_on(l, 3, 2, carts);
-    answer(c)
+    let n = walk_on(c, 6, 1, narrow);
+    answer(n)
 }
 
 // Writes a floor's numbers as a file, or refuses them as reading that file would.
-pub fn write(places: &[u32], lanes: &[u8], carts: &[u8], out: &mut [u8]) -> Verdict
-    ensures { λ v. ⌜ FloorWritten (numbers (now (places .entry)) (now (lanes .entry)) (now (carts .entry))) (now (out .entry)) v (now (out .exit)) ⌝ }
+pub fn write(places: &[u32], lanes: &[u8], carts: &[u8], narrow: &[u8], out: &mut [u8]) -> Verdict
+    ensures { λ v. ⌜ FloorWritten (numbers (now (places .entry)) (now (lanes .entry)) (now (carts .entry)) (now (narrow .entry))) (now (out .entry)) v (now (out .exit)) ⌝ }
 {
-    match judge_numbers(places, lanes, carts) {
+    match judge_numbers(places, lanes, carts, narrow) {
         FloorAnswer::Refused(r) => Verdict::Floor(r),
-        FloorAnswer::Read(_) => put_numbers(places, lanes, carts, out),
+        FloorAnswer::Read(_) => put_numbers(places, lanes, carts, narrow, out),
     }
 }
 
 // Writes a floor's numbers that reading would accept, if there is room.
-fn put_numbers(places: &[u32], lanes: &[u8], carts: &[u8], out: &mut [u8]) -> Verdict
-    requires { ⌜ length (floorBytes (numbers (now places) (now lanes) (now carts))) ≤ 65536 ⌝ }
-    ensures { λ v. ⌜ Gives (written AboutFloor (floorBytes (numbers (now (places .entry)) (now (lanes .entry)) (now (carts .entry)))) (now (out .entry))) v (now (out .exit)) ⌝ }
+fn put_numbers(places: &[u32], lanes: &[u8], carts: &[u8], narrow: &[u8], out: &mut [u8]) -> Verdict
+    requires { ⌜ length (floorBytes (numbers (now places) (now lanes) (now carts) (now narrow))) ≤ 65536 ⌝ }
+    ensures { λ v. ⌜ Gives (written AboutFloor (floorBytes (numbers (now (places .entry)) (now (lanes .entry)) (now (carts .entry)) (now (narrow .entry)))) (now (out .entry))) v (now (out .exit)) ⌝ }
 {
-    let n = laid_size(places.len(), lanes.len(), carts.len());
+    let n = laid_size(places.len(), lanes.len(), carts.len(), narrow.len());
     if out.len() < n {
         return Verdict::Floor(refusal::refuse(18, n as u32, 0));
     }
     let lanes_at = put_words(out, 0, 1, places);
     let carts_at = record::put_parts(out, lanes_at, 2, 3, lanes);
-    record::put_parts(out, carts_at, 3, 2, carts);
+    let narrow_at = record::put_parts(out, carts_at, 3, 2, carts);
+    record::put_parts(out, narrow_at, 6, 1, narrow);
     Verdict::Written(n as u32)
 }

@@ -29,6 +29,7 @@ fn refuse(verdict: Verdict) -> PlanRead
             places: 0,
             lanes: 0,
             carts: 0,
+            narrow: 0,
         },
         plan: Plan {
             head: Head {

@@ -22,9 +22,20 @@ judge-cart-requires c κs = search needs
 returns-3 : tie.Need-returns-3
 returns-3 c = rw (c .before .if3 .taken) (c .judge-cart .ensures)
 
+judge-narrow-requires : tie.Need-judge-narrow-requires
+judge-narrow-requires c κs = search needs
+
 returns-4 : tie.Need-returns-4
+returns-4 c = rw (c .before .if4 .taken) (c .judge-narrow .ensures)
+
+returns-5 : tie.Need-returns-5
 unfolding judged
-returns-4 c = simp (ne-eqb _ _ (c .before .before .if1 .left), ne-eqb _ _ (c .before .if2 .left), ne-eqb _ _ (c .if3 .left))
+returns-5 c = simp (
+  ne-eqb _ _ (c .before .before .before .if1 .left),
+  ne-eqb _ _ (c .before .before .if2 .left),
+  ne-eqb _ _ (c .before .if3 .left),
+  ne-eqb _ _ (c .if4 .left),
+)
 
 pub judge-spec : {M : Type 1} → statement M
 judge-spec =
@@ -36,4 +47,6 @@ judge-spec =
     returns-2
     judge-cart-requires
     returns-3
-    returns-4)
+    judge-narrow-requires
+    returns-4
+    returns-5)

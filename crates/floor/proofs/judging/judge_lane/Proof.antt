@@ -1,22 +1,46 @@
 use native.Mathlib.Omega.{arith}
 use borrow.Author.Tests.{lt-ltb, le-ltb, le-leb, lt-leb, eq-eqb, ne-eqb}
+use lib.ListN.{length, getD}
 use Rattle.floor.specs.Floor.{judged}
-use lib.ListN.{getD}
 use borrow.Author.Needs.{needs}
 use Rattle.floor.proofs.judging.judge_lane.Statement.{statement}
 use Rattle.floor.proofs.judging.judge_lane.Tie as tie
 
 returns : tie.Need-returns
 unfolding judged
-returns c = simp (lt-ltb _ _ (c .if1 .taken))
+returns c =
+    let a = c .before .before .before .args in
+    simp (lt-ltb 0 (a .f .carts) (omega arith))
 
 returns-2 : tie.Need-returns-2
 unfolding judged
-returns-2 c = simp (le-ltb _ _ (c .before .if1 .left), ne-eqb _ _ (c .if2 .taken))
+returns-2 c =
+    let a = c .before .before .before .before .before .args in
+    simp (
+      le-ltb 0 (a .f .carts) (omega arith),
+      lt-ltb 0 (a .f .narrow) (omega arith),
+    )
 
 returns-3 : tie.Need-returns-3
 unfolding judged
-returns-3 c = simp (le-ltb _ _ (c .before .before .before .if1 .left), eq-eqb _ _ (c .before .before .if2 .left), le-leb _ _ (c .if3 .taken))
+returns-3 c =
+    let a = c .before .before .before .before .before .before .args in
+    simp (
+      le-ltb 0 (a .f .carts) (omega arith),
+      le-ltb 0 (a .f .narrow) (omega arith),
+      ne-eqb (length (a .body .now)) 3 (λ e. omega arith),
+    )
+
+returns-4 : tie.Need-returns-4
+unfolding judged
+returns-4 c =
+    let a = c .before .before .before .before .before .before .before .before .args in
+    simp (
+      le-ltb 0 (a .f .carts) (omega arith),
+      le-ltb 0 (a .f .narrow) (omega arith),
+      eq-eqb (length (a .body .now)) 3 (omega arith),
+      le-leb 1024 (a .f .lanes) (omega arith),
+    )
 
 shared-slice-read-wide : tie.Need-shared-slice-read-wide
 shared-slice-read-wide c = search needs
@@ -24,17 +48,16 @@ shared-slice-read-wide c = search needs
 wide-requires : tie.Need-wide-requires
 wide-requires c κs = search needs
 
-returns-4 : tie.Need-returns-4
+returns-5 : tie.Need-returns-5
 unfolding judged
-returns-4 c =
-    let a = c .before .before .before .before .before .before .before .before .before .before .args in
+returns-5 c =
+    let a = c .before .before .before .before .before .before .before .before .before .before .before .before .args in
     simp (
-      le-ltb _ _ (c .before .before .before .before .before .before .before .if1 .left),
-      eq-eqb _ _
-          (c .before .before .before .before .before .before .if2 .left),
-      lt-leb _ _ (c .before .before .before .before .if3 .left),
-      le-leb
-          (a .f .places) (getD (a .body .now) 0 0) (omega arith),
+      le-ltb 0 (a .f .carts) (omega arith),
+      le-ltb 0 (a .f .narrow) (omega arith),
+      eq-eqb (length (a .body .now)) 3 (omega arith),
+      lt-leb 1024 (a .f .lanes) (omega arith),
+      le-leb (a .f .places) (getD (a .body .now) 0 0) (omega arith),
     )
 
 shared-slice-read-wide-2 : tie.Need-shared-slice-read-wide-2
@@ -43,14 +66,15 @@ shared-slice-read-wide-2 c = search needs
 wide-requires-2 : tie.Need-wide-requires-2
 wide-requires-2 c κs = search needs
 
-returns-5 : tie.Need-returns-5
+returns-6 : tie.Need-returns-6
 unfolding judged
-returns-5 c =
-    let a = c .before .before .before .before .before .before .before .before .before .before .before .before .before .before .args in
+returns-6 c =
+    let a = c .before .before .before .before .before .before .before .before .before .before .before .before .before .before .before .before .args in
     simp (
-      le-ltb _ _ (c .before .before .before .before .before .before .before .before .before .before .before .if1 .left),
-      eq-eqb _ _ (c .before .before .before .before .before .before .before .before .before .before .if2 .left),
-      lt-leb _ _ (c .before .before .before .before .before .before .before .before .if3 .left),
+      le-ltb 0 (a .f .carts) (omega arith),
+      le-ltb 0 (a .f .narrow) (omega arith),
+      eq-eqb (length (a .body .now)) 3 (omega arith),
+      lt-leb 1024 (a .f .lanes) (omega arith),
       lt-leb (a .f .places) (getD (a .body .now) 0 0) (omega arith),
       le-leb (a .f .places) (getD (a .body .now) 1 0) (omega arith),
     )
@@ -58,14 +82,15 @@ returns-5 c =
 add-t4 : tie.Need-add-t4
 add-t4 c = search needs
 
-returns-6 : tie.Need-returns-6
+returns-7 : tie.Need-returns-7
 unfolding judged
-returns-6 c =
-    let a = c .before .before .before .before .before .before .before .before .before .before .before .before .before .before .before .args in
+returns-7 c =
+    let a = c .before .before .before .before .before .before .before .before .before .before .before .before .before .before .before .before .before .args in
     simp (
-      le-ltb _ _ (c .before .before .before .before .before .before .before .before .before .before .before .before .if1 .left),
-      eq-eqb _ _ (c .before .before .before .before .before .before .before .before .before .before .before .if2 .left),
-      lt-leb _ _ (c .before .before .before .before .before .before .before .before .before .if3 .left),
+      le-ltb 0 (a .f .carts) (omega arith),
+      le-ltb 0 (a .f .narrow) (omega arith),
+      eq-eqb (length (a .body .now)) 3 (omega arith),
+      lt-leb 1024 (a .f .lanes) (omega arith),
       lt-leb (a .f .places) (getD (a .body .now) 0 0) (omega arith),
       lt-leb (a .f .places) (getD (a .body .now) 1 0) (omega arith),
     )
@@ -77,11 +102,12 @@ judge-lane-spec =
     returns
     returns-2
     returns-3
+    returns-4
     shared-slice-read-wide
     wide-requires
-    returns-4
+    returns-5
     shared-slice-read-wide-2
     wide-requires-2
-    returns-5
+    returns-6
     add-t4
-    returns-6)
+    returns-7)

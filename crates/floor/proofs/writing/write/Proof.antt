@@ -17,7 +17,7 @@ use Rattle.floor.proofs.writing.write.Statement.{statement}
 use Rattle.floor.proofs.writing.write.Tie as tie
 
 abbrev held : tie.Start → FloorNumbers
-held c = numbers (c .args .places .now) (c .args .lanes .now) (c .args .carts .now)
+held c = numbers (c .args .places .now) (c .args .lanes .now) (c .args .carts .now) (c .args .narrow .now)
 
 promise : (n : FloorNumbers) (before : List ℕ) (v : Verdict) (after : List ℕ) → Words (n .places) → (a : FloorAnswer) → readFloor (floorBytes n) ≡ a
     → Gives (byReading a (floorBytes n) before) v after → FloorWritten n before v after
@@ -42,14 +42,14 @@ enum-told c = search needs
 
 put-numbers-requires : tie.Need-put-numbers-requires
 put-numbers-requires c κs =
-    let n = held (c .before .before .before .before .before .before .before .before) in
+    let n = held (c .before .before .before .before .before .before .before .before .before) in
     whole (floorBytes n) _ (sym (c .before .before .before .judge-numbers .ensures) ∙ c .before .enum-told .given .1) .short
 
 returns : tie.Need-returns
 returns c =
-    let n = held (c .before .before .before .before .before .before .before .before) in
-    promise n (c .before .before .before .before .before .before .before .before .args .out .now) _ _
-    (λ i. omega (arith, c .before .before .before .before .before .before .before .shared-slice-known .given i)) _
+    let n = held (c .before .before .before .before .before .before .before .before .before) in
+    promise n (c .before .before .before .before .before .before .before .before .before .args .out .now) _ _
+    (λ i. omega (arith, c .before .before .before .before .before .before .before .before .shared-slice-known .given i)) _
     (sym (c .before .before .before .judge-numbers .ensures) ∙ c .before .r .given .1) (record { answer = refl; out = refl })
 
 same-length : tie.Need-same-length
@@ -57,9 +57,9 @@ same-length c = search needs
 
 returns-2 : tie.Need-returns-2
 returns-2 c =
-    let n = held (c .before .before .before .before .before .before .before .before .before .before .before) in
-    promise n (c .before .before .before .before .before .before .before .before .before .before .before .args .out .now) _ _
-    (λ i. omega (arith, c .before .before .before .before .before .before .before .before .before .before .shared-slice-known .given i)) _
+    let n = held (c .before .before .before .before .before .before .before .before .before .before .before .before) in
+    promise n (c .before .before .before .before .before .before .before .before .before .before .before .before .args .out .now) _ _
+    (λ i. omega (arith, c .before .before .before .before .before .before .before .before .before .before .before .shared-slice-known .given i)) _
     (sym (c .before .before .before .before .before .before .judge-numbers .ensures) ∙ c .before .before .before .before .enum-told .given .1)
     (c .before .before .put-numbers .ensures)
 
