@@ -136,12 +136,20 @@ fn call_write_floor(random: &mut Random, numbers: &Floor, room: usize, written: 
     let mut places = Lent::new(random, &numbers.places, &[]);
     let mut lanes = Lent::new(random, &numbers.lanes, &[]);
     let mut carts = Lent::new(random, &numbers.carts, &[]);
+    let mut narrow = Lent::new(random, &numbers.narrow, &[]);
     let mut out = result(random, room, written);
-    let verdict = library::write_floor(places.lend(), lanes.lend(), carts.lend(), out.lend());
+    let verdict = library::write_floor(
+        places.lend(),
+        lanes.lend(),
+        carts.lend(),
+        narrow.lend(),
+        out.lend(),
+    );
     let complaints = [
         places.complaint("places"),
         lanes.complaint("lanes"),
         carts.complaint("carts"),
+        narrow.complaint("narrow"),
         out.complaint("out"),
     ];
     Outcome {
@@ -279,8 +287,9 @@ impl fmt::Display for Call {
                 let places = numbers.places.iter().flat_map(|p| p.to_le_bytes());
                 let places = hex(&places.collect::<Vec<u8>>());
                 let (lanes, carts) = (hex(&numbers.lanes), hex(&numbers.carts));
+                let narrow = hex(&numbers.narrow);
                 write!(f, "write floor, room {room}\n  places {places}\n")?;
-                write!(f, "  lanes {lanes}\n  carts {carts}")
+                write!(f, "  lanes {lanes}\n  carts {carts}\n  narrow {narrow}")
             }
             Call::WritePlan(floor, Plan { h, l, d, rows }, room) => {
                 let (floor, rows) = (hex(&floor.bytes), hex(rows));

@@ -2,7 +2,7 @@
 
 use crate::call::Input;
 use crate::random::Random;
-use crate::reference::{LONGEST_FILE, MOST_CARTS, MOST_LANES, MOST_PLACES};
+use crate::reference::{LONGEST_FILE, MOST_CARTS, MOST_LANES, MOST_NARROW, MOST_PLACES};
 
 #[derive(Clone)]
 struct Record {
@@ -45,10 +45,10 @@ fn starts_of(file: &[u8]) -> Vec<usize> {
     starts
 }
 
-/// Kinds 6 to 11 are reserved: wherever chance made one, another unknown kind takes its place.
+/// Kinds 7 to 11 are reserved: wherever chance made one, another unknown kind takes its place.
 fn avoid_reserved_kinds(file: &mut [u8]) {
     for start in starts_of(file) {
-        if (6..=11).contains(&file[start + 2]) && file[start + 3] == 0 {
+        if (7..=11).contains(&file[start + 2]) && file[start + 3] == 0 {
             file[start + 2] += 12;
         }
     }
@@ -57,7 +57,7 @@ fn avoid_reserved_kinds(file: &mut [u8]) {
 fn any_kind(random: &mut Random) -> u16 {
     let large = random.between(12, 65_535) as u16;
     let unknown = random.pick(&[0, 12, 13, 255, 256, 257, 258, 259, 260, 261, 65_535, large]);
-    let known = random.between(1, 5) as u16;
+    let known = random.between(1, 6) as u16;
     random.pick(&[known, unknown])
 }
 
@@ -75,6 +75,7 @@ fn any_record(random: &mut Random, places: usize) -> Record {
         2 => 3,
         3 => 2,
         4 => 6,
+        6 => 1,
         _ => random.below(6),
     };
     let odd = random.below(8);
@@ -137,6 +138,7 @@ fn pile_up(random: &mut Random, records: &mut Vec<Record>, places: usize) {
         1 => MOST_PLACES,
         2 => MOST_LANES,
         3 => MOST_CARTS,
+        6 => MOST_NARROW,
         _ => have,
     };
     let want = limit + random.below(2);
@@ -208,7 +210,7 @@ fn extend(random: &mut Random, file: &mut Vec<u8>, places: usize) {
     let more = match random.below(4) {
         0 => vec![0; random.between(1, 8)],
         1 => random
-            .pick(&[[4, 0, 1, 0], [2, 0, 3, 0], [4, 0, 5, 0]])
+            .pick(&[[4, 0, 1, 0], [2, 0, 3, 0], [4, 0, 5, 0], [1, 0, 6, 0]])
             .to_vec(),
         2 => file_of(&[any_record(random, places)]),
         _ => {

@@ -31,6 +31,8 @@ extern "C" {
         lanes_len: usize,
         carts: *const u8,
         carts_len: usize,
+        narrow: *const u8,
+        narrow_len: usize,
         out: *mut u8,
         out_len: usize,
     ) -> CVerdict;
@@ -108,11 +110,13 @@ pub fn write_floor(
     places: Buffer<u32>,
     lanes: Buffer<u8>,
     carts: Buffer<u8>,
+    narrow: Buffer<u8>,
     out: Buffer<u8>,
 ) -> Verdict {
     let (places, place_count) = parts(places);
     let (lanes, lanes_len) = parts(lanes);
     let (carts, carts_len) = parts(carts);
+    let (narrow, narrow_len) = parts(narrow);
     let (out, out_len) = parts(out);
     // SAFETY: as above.
     numbers(unsafe {
@@ -123,6 +127,8 @@ pub fn write_floor(
             lanes_len,
             carts,
             carts_len,
+            narrow,
+            narrow_len,
             out,
             out_len,
         )

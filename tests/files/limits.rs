@@ -39,11 +39,12 @@ pub fn paper_plan() -> Vec<u8> {
     .concat()
 }
 
-fn paper_floor_numbers() -> Floor {
+pub fn paper_floor_numbers() -> Floor {
     Floor {
         places: vec![1, 2],
         lanes: vec![0, 1, 255, 1, 0, 255, 0, 0, 255, 1, 1, 255],
         carts: vec![0, 0, 0, 0],
+        narrow: Vec::new(),
     }
 }
 
@@ -61,22 +62,23 @@ pub fn record(kind: u8, body: &[u8]) -> Vec<u8> {
 }
 
 /// The paper's floor or plan with more bytes behind it.
-fn with(file: Vec<u8>, more: &[u8]) -> Vec<u8> {
+pub fn with(file: Vec<u8>, more: &[u8]) -> Vec<u8> {
     [&file, more].concat()
 }
 
 /// A floor of so many places, lanes from 0 to 0, and carts of class 0 from 0.
-fn counted(places: usize, lanes: usize, carts: usize) -> Vec<u8> {
+pub fn counted(places: usize, lanes: usize, carts: usize) -> Vec<u8> {
     let places = record(1, &[0; 4]).repeat(places);
     let lanes = record(2, &[0, 0, 1]).repeat(lanes);
     [places, lanes, record(3, &[0, 0]).repeat(carts)].concat()
 }
 
-fn counted_numbers(places: usize, lanes: usize, carts: usize) -> Floor {
+pub fn counted_numbers(places: usize, lanes: usize, carts: usize) -> Floor {
     Floor {
         places: vec![0; places],
         lanes: vec![0; 3 * lanes],
         carts: vec![0; 2 * carts],
+        narrow: Vec::new(),
     }
 }
 
@@ -89,17 +91,17 @@ pub fn limit(name: &'static str, call: Call, verdict: Verdict) -> Limit {
     }
 }
 
-fn read_floor(name: &'static str, floor: Vec<u8>, verdict: Verdict) -> Limit {
+pub fn read_floor(name: &'static str, floor: Vec<u8>, verdict: Verdict) -> Limit {
     limit(name, Call::ReadFloor(Input::from(floor)), verdict)
 }
 
 /// Reads a plan for the paper's floor.
-fn read_plan(name: &'static str, plan: Vec<u8>, verdict: Verdict) -> Limit {
+pub fn read_plan(name: &'static str, plan: Vec<u8>, verdict: Verdict) -> Limit {
     let floor = Input::from(paper_floor());
     limit(name, Call::ReadPlan(floor, Input::from(plan)), verdict)
 }
 
-fn write_floor(name: &'static str, numbers: Floor, room: usize, verdict: Verdict) -> Limit {
+pub fn write_floor(name: &'static str, numbers: Floor, room: usize, verdict: Verdict) -> Limit {
     limit(name, Call::WriteFloor(numbers, room), verdict)
 }
 

@@ -14,6 +14,7 @@ mod edits;
 mod library;
 mod limits;
 mod move_limits;
+mod narrow_limits;
 mod numbers;
 mod random;
 mod reference;
@@ -170,7 +171,13 @@ impl Harness {
     }
 
     fn run_limits(&mut self) -> u64 {
-        let limits = [limits::all(), move_limits::all(), edit_limits::all()].concat();
+        let limits = [
+            limits::all(),
+            narrow_limits::all(),
+            move_limits::all(),
+            edit_limits::all(),
+        ]
+        .concat();
         for (case, limit) in (0..).zip(&limits) {
             self.begin(case);
             self.run_limit(limit);

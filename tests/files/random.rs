@@ -1,6 +1,8 @@
 //! A small generator of random numbers, and random floors and plans that are valid.
 
-use crate::reference::{Floor, Plan, MOST_CARTS, MOST_DRIFT, MOST_LANES, MOST_PLACES, MOST_STEPS};
+use crate::reference::{
+    Floor, Plan, MOST_CARTS, MOST_DRIFT, MOST_LANES, MOST_NARROW, MOST_PLACES, MOST_STEPS,
+};
 
 /// splitmix64.
 pub struct Random {
@@ -84,6 +86,11 @@ pub fn floor(random: &mut Random) -> Floor {
         let class = random.below(8) as u8;
         let cart = [class, place(random, places)];
         floor.carts.extend_from_slice(&cart);
+    }
+    // The same place may be named twice.
+    if random.percent(60) {
+        let count = size(random, 0, MOST_NARROW);
+        floor.narrow = (0..count).map(|_| place(random, places)).collect();
     }
     floor
 }

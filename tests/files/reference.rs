@@ -1,22 +1,25 @@
-//! Floors and plans straight from document 01: what a file says, what it is refused for, and what
+//! Floors and plans straight from documents 01 and 02: what a file says, what it is refused for, and what
 //! writing gives. Slow and plain on purpose; it shares nothing with the library.
 
 pub const LONGEST_FILE: usize = 65_536;
 pub const MOST_PLACES: usize = 256;
 pub const MOST_LANES: usize = 1_024;
 pub const MOST_CARTS: usize = 32;
+pub const MOST_NARROW: usize = 256;
 pub const MOST_STEPS: u16 = 64;
 pub const MOST_DRIFT: u16 = 16;
 
 pub const FLOOR: u32 = 1;
 pub const PLAN: u32 = 2;
 
-/// A floor's numbers as the C interface takes them: three bytes a lane, two bytes a cart.
+/// A floor's numbers as the C interface takes them: three bytes a lane, two bytes a cart, one byte a
+/// narrow place.
 #[derive(Clone, Default, PartialEq, Eq, Debug)]
 pub struct Floor {
     pub places: Vec<u32>,
     pub lanes: Vec<u8>,
     pub carts: Vec<u8>,
+    pub narrow: Vec<u8>,
 }
 
 /// A plan's numbers as the C interface takes them: h bytes a row.
@@ -92,7 +95,8 @@ pub fn read_floor(file: &[u8]) -> Result<Floor, Refusal> {
     let mut highest_kind = 1;
     while start < file.len() {
         let record = record_at(file, start)?;
-        let out_of_place = record.kind > 3 || record.kind < highest_kind;
+        let known = [1, 2, 3, 6].contains(&record.kind);
+        let out_of_place = !known || record.kind < highest_kind;
         refuse_if(out_of_place, 3, start)?;
         take_floor_record(&mut floor, &record, start)?;
         highest_kind = record.kind;
@@ -103,7 +107,7 @@ pub fn read_floor(file: &[u8]) -> Result<Floor, Refusal> {
     Ok(floor)
 }
 
-/// Takes one record of kind 1, 2 or 3 after judging 4, 5 and 6 in that order.
+/// Takes one record of kind 1, 2, 3 or 6 after judging 4, 5 and 6 in that order.
 fn take_floor_record(floor: &mut Floor, record: &Record, start: usize) -> Result<(), Refusal> {
     let body = record.body;
     let places = floor.places.len();
@@ -121,11 +125,17 @@ fn take_floor_record(floor: &mut Floor, record: &Record, start: usize) -> Result
             refuse_if(absent(body[0]) || absent(body[1]), 6, start)?;
             floor.lanes.extend_from_slice(body);
         }
-        _ => {
+        3 => {
             refuse_if(body.len() != 2, 4, start)?;
             refuse_if(floor.carts.len() == 2 * MOST_CARTS, 5, start)?;
             refuse_if(body[0] > 7 || absent(body[1]), 6, start)?;
             floor.carts.extend_from_slice(body);
+        }
+        _ => {
+            refuse_if(body.len() != 1, 4, start)?;
+            refuse_if(floor.narrow.len() == MOST_NARROW, 5, start)?;
+            refuse_if(absent(body[0]), 6, start)?;
+            floor.narrow.push(body[0]);
         }
     }
     Ok(())
@@ -201,9 +211,11 @@ pub fn floor_file(floor: &Floor) -> Result<Vec<u8>, Refusal> {
     let place = |marks: &u32| (1, marks.to_le_bytes().to_vec());
     let lane = |group: &[u8]| (2, group.to_vec());
     let cart = |group: &[u8]| (3, group.to_vec());
+    let narrow = |group: &[u8]| (6, group.to_vec());
     let mut records: Vec<(u8, Vec<u8>)> = floor.places.iter().map(place).collect();
     records.extend(groups(&floor.lanes, 3).map(lane));
     records.extend(groups(&floor.carts, 2).map(cart));
+    records.extend(groups(&floor.narrow, 1).map(narrow));
     laid_out(&records)
 }
 

@@ -87,6 +87,7 @@ fn outline(random: &mut Random) -> (Floor, Plan) {
     let least = random.pick(&[1, 2, 4, 9]);
     let places = random::size(random, least, MOST_PLACES);
     floor.places.resize(places, 1);
+    floor.narrow.retain(|place| usize::from(*place) < places);
     let least = random.pick(&[1, 2, 4, 9]);
     let mut h = random::size(random, least, usize::from(MOST_STEPS)) as u16;
     if random.below(400) == 0 {

@@ -110,22 +110,30 @@ impl Wide {
     fn places(&mut self) {
         let places = &mut self.block[..TURN / 8];
         let out = &mut self.out;
-        let verdict = library::write_floor(Some(places), None, Some(&mut [0, 0]), Some(out));
+        let verdict = library::write_floor(Some(places), None, Some(&mut [0, 0]), None, Some(out));
         self.expect("places", verdict, [1, 1, 0, 0]);
     }
 
     fn lanes(&mut self, length: usize) {
         let lanes = Wide::bytes(&mut self.block, &[], length);
         let out = &mut self.out;
-        let verdict =
-            library::write_floor(Some(&mut [1]), Some(lanes), Some(&mut [0, 0]), Some(out));
+        let carts = Some(&mut [0, 0][..]);
+        let verdict = library::write_floor(Some(&mut [1]), Some(lanes), carts, None, Some(out));
         self.expect("lanes", verdict, [1, 1, 0, 0]);
     }
 
     fn carts(&mut self, length: usize) {
         let carts = Wide::bytes(&mut self.block, &[], length);
-        let verdict = library::write_floor(Some(&mut [1]), None, Some(carts), Some(&mut self.out));
+        let out = &mut self.out;
+        let verdict = library::write_floor(Some(&mut [1]), None, Some(carts), None, Some(out));
         self.expect("carts", verdict, [1, 1, 0, 0]);
+    }
+
+    fn narrow(&mut self, length: usize) {
+        let narrow = Wide::bytes(&mut self.block, &[], length);
+        let (carts, out) = (Some(&mut [0, 0][..]), &mut self.out);
+        let verdict = library::write_floor(Some(&mut [1]), None, carts, Some(narrow), Some(out));
+        self.expect("narrow", verdict, [1, 1, 0, 0]);
     }
 
     fn rows(&mut self, h: u16, length: usize) {
@@ -154,6 +162,8 @@ pub fn complaints() -> Vec<String> {
     wide.lanes(3 * 613_566_757);
     wide.carts(TURN + 4);
     wide.carts(2 * 715_827_883);
+    wide.narrow(TURN + 1);
+    wide.narrow(858_993_460);
     wide.rows(4, TURN + 8);
     wide.rows(4, TURN / 2);
     wide.rows(0, TURN);

@@ -4,38 +4,48 @@ use crate::clauses::Clauses;
 use crate::damage::{self, Triple};
 use crate::faults::Records;
 use crate::limits;
+use crate::narrow;
 use crate::random::Random;
 use crate::sheet;
 use crate::sheets::{self, Wish};
 use crate::world::{Size, World};
 
-/// How often each number is aimed at, in 1,000; 18 stands for damaged bytes.
-const AIMS: [usize; 19] = [
-    260, 6, 20, 20, 20, 25, 20, 20, 20, 20, 25, 60, 10, 70, 60, 40, 60, 170, 54,
+/// How often each number is aimed at, in 1,000; 18 stands for damaged bytes, and 19 is no number of the check.
+const AIMS: [usize; 21] = [
+    240, 6, 20, 20, 20, 25, 25, 20, 20, 20, 25, 60, 10, 65, 55, 40, 55, 130, 54, 0, 90,
 ];
 
 pub fn triple(random: &mut Random) -> Triple {
     let aim = random.weighted(&AIMS) as u32;
     let mut triple = match aim {
-        0 => with_clauses(random, Wish::Kept),
-        17 => with_clauses(random, Wish::Broken),
+        0 => accepted(random),
+        17 => with_clauses(random, Wish::Broken, narrow::Wish::Clear),
         1..=11 => with_fault(random, aim),
         12..=16 => with_sheet(random, aim),
+        20 => conflicting(random),
         _ => damaged(random),
     };
     damage::without_later_forms(&mut triple);
     triple
 }
 
-/// A triple whose clauses are all true.
+/// A triple without conflicts whose clauses are all true.
 pub fn accepted(random: &mut Random) -> Triple {
-    with_clauses(random, Wish::Kept)
+    with_clauses(random, Wish::Kept, narrow::Wish::Clear)
 }
 
-/// A triple whose clauses may be true or not.
+/// A triple whose clauses may be true or not, and whose carts may be in conflict.
 pub fn judged(random: &mut Random) -> Triple {
     let wish = random.pick(&[Wish::Kept, Wish::Broken, Wish::Any]);
-    with_clauses(random, wish)
+    with_clauses(random, wish, narrow::Wish::Any)
+}
+
+/// A triple whose carts are in conflict, with a sheet that nobody should look at.
+pub fn conflicting(random: &mut Random) -> Triple {
+    let size = [Size::Small, Size::Middle, Size::Large, Size::Limit];
+    let size = size[random.weighted(&[700, 230, 60, 10])];
+    let world = World::random(random, size, narrow::Wish::Met);
+    with_rules(&world, any_sheet(random, 5))
 }
 
 fn size(random: &mut Random) -> Size {
@@ -47,11 +57,11 @@ fn with_rules(world: &World, rules: Vec<u8>) -> Triple {
     Triple { floor, plan, rules }
 }
 
-fn with_clauses(random: &mut Random, wish: Wish) -> Triple {
+fn with_clauses(random: &mut Random, wish: Wish, traffic: narrow::Wish) -> Triple {
     // Now and then everything is as large as it may be.
     let full = random.below(4000) == 0;
     let size = if full { Size::Limit } else { size(random) };
-    let world = World::random(random, size);
+    let world = World::random(random, size, traffic);
     let collection = world.collection();
     let mut clauses = Clauses::new(random, &world, &collection);
     clauses.next_outside = world.plan.d == 0 && clauses.random.chance(60);
@@ -66,7 +76,7 @@ fn with_clauses(random: &mut Random, wish: Wish) -> Triple {
 
 fn with_fault(random: &mut Random, number: u32) -> Triple {
     let size = [Size::Small, Size::Middle, Size::Large][random.weighted(&[70, 22, 8])];
-    let world = World::random(random, size);
+    let world = World::random(random, size, narrow::Wish::Any);
     let mut records = Records::of(&world);
     if number > 2 {
         records.fault(random, number);
@@ -90,15 +100,19 @@ fn with_fault(random: &mut Random, number: u32) -> Triple {
         2 => damage::cut(random, file),
         _ => {}
     }
-    let sheets: [&[u8]; 5] = [b"true\n", b"[m0,1]|true\n", b"!true\n", b"x", b""];
-    let empty = if number == 7 { 60 } else { 5 };
-    let rules = sheets[random.weighted(&[50, 20, 15, 10, empty])].to_vec();
+    let rules = any_sheet(random, if number == 7 { 60 } else { 5 });
     Triple { floor, plan, rules }
+}
+
+/// A short sheet, kept or broken or refused; how often it is an empty one is said.
+fn any_sheet(random: &mut Random, empty: usize) -> Vec<u8> {
+    let sheets: [&[u8]; 5] = [b"true\n", b"[m0,1]|true\n", b"!true\n", b"x", b""];
+    sheets[random.weighted(&[50, 20, 15, 10, empty])].to_vec()
 }
 
 fn with_sheet(random: &mut Random, number: u32) -> Triple {
     let size = [Size::Small, Size::Middle, Size::Large][random.weighted(&[80, 18, 2])];
-    let world = World::random(random, size);
+    let world = World::random(random, size, narrow::Wish::Clear);
     let collection = world.collection();
     let mut clauses = Clauses::new(random, &world, &collection);
     clauses.next_outside = number == 16 || world.plan.d == 0;
@@ -124,7 +138,8 @@ fn with_sheet(random: &mut Random, number: u32) -> Triple {
 
 /// Any triple, with damaged bytes in one to three of its files.
 fn damaged(random: &mut Random) -> Triple {
-    let world = World::random(random, Size::Small);
+    let wish = random.pick(&[narrow::Wish::Clear, narrow::Wish::Any]);
+    let world = World::random(random, Size::Small, wish);
     let collection = world.collection();
     let mut clauses = Clauses::new(random, &world, &collection);
     let rules = sheets::sheet(&mut clauses, 2, Wish::Kept);

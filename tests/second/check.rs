@@ -1,5 +1,6 @@
 //! The whole check of a plan: its stages in order.
 
+use crate::conflicts;
 use crate::floor::Floor;
 use crate::logic::Collection;
 use crate::plan::Plan;
@@ -18,6 +19,7 @@ fn stages(floor: &[u8], plan: &[u8], rules: &[u8]) -> Result<(), Verdict> {
     let floor = Floor::read(floor).map_err(about(FLOOR))?;
     let plan = Plan::read(plan, &floor).map_err(about(PLAN))?;
     plan.check_moves(&floor).map_err(about(PLAN))?;
+    conflicts::check(&floor, &plan).map_err(about(PLAN))?;
     let clauses = sheet::read(rules).map_err(about(RULES))?;
     let collection = Collection::new(&floor, &plan);
     collection.check(&clauses).map_err(about(RULES))

@@ -61,6 +61,9 @@ fn compare(triple: &Triple, tally: &mut Tally) -> Result<(), String> {
         tally.note_limits(triple);
         tally.smaller += smaller_drifts(triple)?;
     }
+    if verdict.number == 20 {
+        tally.note_conflict(triple);
+    }
     Ok(())
 }
 

@@ -75,7 +75,7 @@ fn damage_at(random: &mut Random, file: &mut Vec<u8>, byte: u8) {
     }
 }
 
-/// Byte `@` and kinds 6 to 11 may get a meaning later: others take their place.
+/// Byte `@` and kinds 7 to 11 may get a meaning later: others take their place.
 pub fn without_later_forms(triple: &mut Triple) {
     let later = |byte: &&mut u8| **byte == b'@';
     triple
@@ -90,7 +90,7 @@ pub fn without_later_forms(triple: &mut Triple) {
 fn without_later_kinds(file: &mut [u8]) {
     let mut at = 0;
     while at + 4 <= file.len() {
-        if (6..=11).contains(&file[at + 2]) && file[at + 3] == 0 {
+        if (7..=11).contains(&file[at + 2]) && file[at + 3] == 0 {
             file[at + 2] += 100;
         }
         at += 4 + u16::from_le_bytes([file[at], file[at + 1]]) as usize;

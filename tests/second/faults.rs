@@ -31,7 +31,7 @@ impl Records {
     }
 
     fn of_kind<'a>(&'a mut self, random: &mut Random, kind: u16) -> Option<&'a mut Written> {
-        let file = if kind <= 3 {
+        let file = if kind <= 3 || kind == 6 {
             &mut self.floor
         } else {
             &mut self.plan
@@ -69,7 +69,7 @@ impl Records {
         let other = random.below(file.len());
         match random.below(4) {
             0 => file[at].0 = random.pick(&[0, 12, 13, 255, 256, 257, 1025, 65535]),
-            1 => file[at].0 = random.range(1, 5) as u16,
+            1 => file[at].0 = random.range(1, 6) as u16,
             2 => file.swap(at, other),
             _ => {
                 let copy = file[at].clone();
@@ -93,8 +93,8 @@ impl Records {
     }
 
     fn one_too_many(&mut self, random: &mut Random) {
-        let kind = random.pick(&[1, 2, 3, 3, 5, 5]);
-        let most = [0, 256, 1024, 32, 0, 0][kind as usize] + random.below(2);
+        let kind = random.pick(&[1, 2, 3, 3, 5, 5, 6, 6]);
+        let most = [0, 256, 1024, 32, 0, 0, 256][kind as usize] + random.below(2);
         let Some(copy) = self.of_kind(random, kind).cloned() else {
             return;
         };
@@ -112,12 +112,12 @@ impl Records {
 
     fn absent_place(&mut self, random: &mut Random) {
         let absent = (self.places() + random.pick(&[0, 0, 1, 7])).min(255) as u8;
-        let kind = random.pick(&[2, 3]);
+        let kind = random.pick(&[2, 3, 6]);
         if random.chance(20) {
             self.floor.remove(0);
             return;
         }
-        let field = random.below(2);
+        let field = if kind == 6 { 0 } else { random.below(2) };
         let class = random.pick(&[8, 9, 255]);
         if let Some((_, body)) = self.of_kind(random, kind) {
             let class_field = kind == 3 && field == 0;

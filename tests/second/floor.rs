@@ -1,4 +1,4 @@
-//! The reader of a floor: places, lanes and carts.
+//! The reader of a floor: places, lanes, carts and narrow places.
 
 use crate::record::{Record, LONGEST_FILE};
 use crate::verdict::Refusal;
@@ -20,6 +20,8 @@ pub struct Floor {
     pub places: Vec<u32>,
     pub lanes: Vec<Lane>,
     pub carts: Vec<Cart>,
+    /// The places that hold one cart, as often as they are named.
+    pub narrow: Vec<u8>,
 }
 
 impl Floor {
@@ -43,9 +45,10 @@ impl Floor {
     /// Kinds may only grow along the file.
     fn in_order(&self, kind: u16) -> bool {
         match kind {
-            1 => self.lanes.is_empty() && self.carts.is_empty(),
-            2 => self.carts.is_empty(),
-            3 => true,
+            1 => self.lanes.is_empty() && self.carts.is_empty() && self.narrow.is_empty(),
+            2 => self.carts.is_empty() && self.narrow.is_empty(),
+            3 => self.narrow.is_empty(),
+            6 => true,
             _ => false,
         }
     }
@@ -55,7 +58,8 @@ impl Floor {
         match record.kind {
             1 => self.take_place(record),
             2 => self.take_lane(record),
-            _ => self.take_cart(record),
+            3 => self.take_cart(record),
+            _ => self.take_narrow(record),
         }
     }
 
@@ -84,6 +88,15 @@ impl Floor {
         let (class, start) = (record.body[0], record.body[1]);
         record.demand(class <= 7 && (start as usize) < self.places.len(), 6)?;
         self.carts.push(Cart { class, start });
+        Ok(())
+    }
+
+    fn take_narrow(&mut self, record: &Record) -> Result<(), Refusal> {
+        record.demand(record.body.len() == 1, 4)?;
+        record.demand(self.narrow.len() < 256, 5)?;
+        let place = record.body[0];
+        record.demand((place as usize) < self.places.len(), 6)?;
+        self.narrow.push(place);
         Ok(())
     }
 }

@@ -1,14 +1,18 @@
 //! Runs that come back to an earlier standing: collective executions (definitions 3 to 5) as a finite
 //! stretch of moments whose end is repeated for ever.
 
+use crate::floor::Floor;
 use crate::plan::Plan;
 use crate::random::Random;
+use crate::traffic::Traffic;
 
 /// The counters of all carts at each moment. After the last moment the standing is that of moment
 /// `back`, each counter grown by the same number of whole laps.
 pub struct Run {
     pub moments: Vec<Vec<usize>>,
     pub back: usize,
+    /// How much each counter has grown then.
+    pub growth: usize,
 }
 
 impl Run {
@@ -18,6 +22,7 @@ impl Run {
         Run {
             moments: (0..plan.h).map(|t| vec![t; carts]).collect(),
             back: plan.l,
+            growth: plan.h - plan.l,
         }
     }
 
@@ -25,6 +30,7 @@ impl Run {
         let mut run = Run {
             moments: vec![vec![0; plan.rows.len()]],
             back: 0,
+            growth: 0,
         };
         let goal = plan.l + random.below(plan.h);
         run.drift(random, plan.d, goal);
@@ -89,7 +95,8 @@ impl Run {
             .zip(&at_back)
             .map(|(now, then)| now - then);
         let laps = behind.max().unwrap().div_ceil(lap).max(1);
-        let target: Vec<usize> = at_back.iter().map(|then| then + laps * lap).collect();
+        self.growth = laps * lap;
+        let target = self.come_back();
         while self.last() != target {
             let open = |n: &usize| self.last()[*n] < target[*n];
             let all = 0..target.len();
@@ -99,6 +106,23 @@ impl Run {
             self.tick(wishes, plan.d);
         }
         self.moments.pop();
+    }
+
+    /// The standing after the last moment.
+    fn come_back(&self) -> Vec<usize> {
+        let then = self.moments[self.back].iter();
+        then.map(|counter| counter + self.growth).collect()
+    }
+
+    /// The lowest cart in conflict on this run, and its earliest counter in one.
+    pub fn lowest_conflict(&self, plan: &Plan, floor: &Floor) -> Option<(usize, usize)> {
+        let mut traffic = Traffic::new(plan, floor);
+        let end = self.come_back();
+        let then = self.moments[1..].iter().chain([&end]);
+        for (now, then) in self.moments.iter().zip(then) {
+            traffic.look(now, then);
+        }
+        traffic.lowest()
     }
 
     /// The greatest distance of two counters.

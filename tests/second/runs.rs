@@ -1,4 +1,4 @@
-//! Verdicts beside runs: accepted plans on random runs, plans at drift 0 in step, small plans on all runs.
+//! Verdicts beside runs: accepted plans and conflicts on random runs, plans at drift 0 in step, small plans on all runs.
 
 use std::time::Instant;
 
@@ -13,7 +13,7 @@ use crate::run::Run;
 use crate::sheet;
 use crate::small;
 use crate::truth::Meaning;
-use crate::verdict::{Refusal, Verdict, RULES};
+use crate::verdict::{Refusal, Verdict, PLAN, RULES};
 
 /// A triple that can be read.
 pub struct Read {
@@ -30,6 +30,12 @@ impl Read {
             clauses: sheet::read(&triple.rules).expect("a sheet"),
             floor,
         }
+    }
+
+    /// Whether a cart comes to a narrow place.
+    fn visits_narrow(&self) -> bool {
+        let mut places = self.plan.rows.iter().flatten();
+        places.any(|place| self.floor.narrow.contains(place))
     }
 
     pub fn meaning<'a>(&'a self, clause: &'a Clause) -> Meaning<'a> {
@@ -53,13 +59,25 @@ pub struct Tally {
     pub globally: usize,
     pub globally_refused: usize,
     pub smaller: usize,
+    pub narrow: usize,
+    pub met: usize,
+    pub shown: usize,
+    pub clear: usize,
+    pub conflicts: usize,
 }
 
 pub type Outcome = Result<(), String>;
 
 type Part = fn(&mut Random, &mut Tally) -> (Triple, Outcome);
 
-const PARTS: [Part; 4] = [on_runs, in_step, small::searched, small::globally_one_count];
+const PARTS: [Part; 6] = [
+    on_runs,
+    met_on_runs,
+    in_step,
+    small::searched,
+    small::globally_one_count,
+    small::conflicts,
+];
 
 /// All parts for so many cases; false once a difference was told.
 pub fn run(cases: u64, seed: u64) -> bool {
@@ -68,7 +86,7 @@ pub fn run(cases: u64, seed: u64) -> bool {
     for case in 0..cases {
         let _within = Within { seed, case };
         for (number, part) in PARTS.iter().enumerate() {
-            let mut random = Random::new(seed, 4 * case + number as u64);
+            let mut random = Random::new(seed, PARTS.len() as u64 * case + number as u64);
             let (triple, outcome) = part(&mut random, &mut tally);
             if let Err(text) = outcome {
                 tell(&triple, seed, case, &text);
@@ -98,6 +116,14 @@ impl Tally {
             self.globally, self.globally_refused
         );
         println!(
+            "narrow places: {} accepted plans with carts there, free of conflicts on drifting runs; {} refused, shown by {} runs, none with lower numbers",
+            self.narrow, self.met, self.shown
+        );
+        println!(
+            "narrow places on all runs: {} plans clear of conflicts, {} with the lowest cart and its earliest counter",
+            self.clear, self.conflicts
+        );
+        println!(
             "smaller drifts of small accepted plans, all accepted: {}",
             self.smaller
         );
@@ -121,14 +147,53 @@ fn hold_on_runs(random: &mut Random, triple: &Triple, tally: &mut Tally) -> Outc
     let clauses = read.clauses.iter().filter(next_inside);
     let meanings: Vec<Meaning> = clauses.map(|clause| read.meaning(clause)).collect();
     tally.plans += 1;
+    tally.narrow += read.visits_narrow() as usize;
     for _ in 0..4 {
         let run = Run::random(random, &read.plan);
         for meaning in &meanings {
             hold_on(meaning, &run)?;
         }
+        if let Some(conflict) = run.lowest_conflict(&read.plan, &read.floor) {
+            return Err(format!("accepted, but {}", shown(&run, conflict)));
+        }
         tally.runs += 1;
         tally.full_spread += (run.spread() == read.plan.d) as usize;
         tally.clauses += meanings.len();
+    }
+    Ok(())
+}
+
+fn shown(run: &Run, (cart, counter): (usize, usize)) -> String {
+    let moments = &run.moments;
+    format!("cart {cart} is in conflict at counter {counter} on the run {moments:?}")
+}
+
+/// A plan refused for a conflict: no run shows one of a lower cart, or an earlier one of that cart.
+fn met_on_runs(random: &mut Random, tally: &mut Tally) -> (Triple, Outcome) {
+    let triple = aims::conflicting(random);
+    let outcome = no_lower_on_runs(random, &triple, tally);
+    (triple, outcome)
+}
+
+fn no_lower_on_runs(random: &mut Random, triple: &Triple, tally: &mut Tally) -> Outcome {
+    let verdict = both(triple)?;
+    if verdict.number != 20 {
+        return Ok(());
+    }
+    let floor = Floor::read(&triple.floor).expect("a floor");
+    let plan = Plan::read(&triple.plan, &floor).expect("a plan");
+    let told = (verdict.first as usize, verdict.second as usize);
+    tally.met += 1;
+    for _ in 0..4 {
+        let run = Run::random(random, &plan);
+        let Some((cart, counter)) = run.lowest_conflict(&plan, &floor) else {
+            continue;
+        };
+        // A counter is never below its step.
+        if (cart, counter) < told {
+            return Err(format!("{verdict}, but {}", shown(&run, (cart, counter))));
+        }
+        tally.shown += ((cart, plan.step(counter)) == told) as usize;
     }
     Ok(())
 }
@@ -144,7 +209,7 @@ pub fn hold_on(meaning: &Meaning, run: &Run) -> Outcome {
     ))
 }
 
-/// A plan at drift 0 is judged exactly as its clauses are in step.
+/// A plan at drift 0 is judged exactly as its conflicts and clauses are in step.
 fn in_step(random: &mut Random, tally: &mut Tally) -> (Triple, Outcome) {
     let mut triple = aims::judged(random);
     triple.plan[8] = 0;
@@ -162,6 +227,9 @@ fn as_in_step(triple: &Triple) -> Outcome {
         if let Some(step) = breaks_in_step(&read.meaning(clause), &run) {
             wanted = Verdict::refused(RULES, Refusal(17, i, step));
         }
+    }
+    if let Some((cart, counter)) = run.lowest_conflict(&read.plan, &read.floor) {
+        wanted = Verdict::refused(PLAN, Refusal(20, cart, read.plan.step(counter)));
     }
     if verdict == wanted {
         return Ok(());

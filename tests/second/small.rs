@@ -5,6 +5,7 @@ use crate::compare::{both, smaller_drifts};
 use crate::damage::Triple;
 use crate::faults::Records;
 use crate::formula::{Clause, Op};
+use crate::narrow::Wish;
 use crate::plan::Plan;
 use crate::print::Printer;
 use crate::random::Random;
@@ -12,13 +13,14 @@ use crate::run::Run;
 use crate::runs::{hold_on, Outcome, Read, Tally};
 use crate::search::{some_run_breaks, temporal_nodes};
 use crate::standings::Standings;
-use crate::verdict::{Refusal, Verdict, RULES};
+use crate::unrolled;
+use crate::verdict::{Refusal, Verdict, PLAN, RULES};
 use crate::world::World;
 
-fn small_world(random: &mut Random) -> World {
+fn small_world(random: &mut Random, wish: Wish) -> World {
     let carts = random.range(2, 4);
     let (h, d, places) = (random.range(1, 6), random.below(4), random.range(1, 4));
-    World::build(random, [carts, h, d, places])
+    World::build(random, [carts, h, d, places], wish)
 }
 
 fn triple_of(random: &mut Random, world: &World, clause: &Clause) -> Triple {
@@ -29,7 +31,7 @@ fn triple_of(random: &mut Random, world: &World, clause: &Clause) -> Triple {
 
 /// A clause of a few temporal operators over counts: accepted only if no run breaks it.
 pub fn searched(random: &mut Random, tally: &mut Tally) -> (Triple, Outcome) {
-    let world = small_world(random);
+    let world = small_world(random, Wish::Clear);
     let nodes = random.range(3, 14);
     let clause = Clauses::new(random, &world, &world.collection()).clause(nodes);
     let triple = triple_of(random, &world, &clause);
@@ -69,7 +71,7 @@ fn search(random: &mut Random, triple: &Triple, tally: &mut Tally) -> Outcome {
 
 /// G over one count, negated or not: refused exactly if some run breaks it, at the lowest step.
 pub fn globally_one_count(random: &mut Random, tally: &mut Tally) -> (Triple, Outcome) {
-    let world = small_world(random);
+    let world = small_world(random, Wish::Clear);
     let (nodes, negated) = (random.range(1, 6), random.chance(50));
     let mut clause = Clause::default();
     let mut body = Clauses::new(random, &world, &world.collection()).count(&mut clause, nodes);
@@ -105,6 +107,36 @@ fn exactly(triple: &Triple, negated: bool, tally: &mut Tally) -> Outcome {
     }
     if !refused {
         tally.smaller += smaller_drifts(triple)?;
+    }
+    Ok(())
+}
+
+/// Narrow places: refused exactly if some run has a conflict, with the lowest cart and the step of its earliest counter.
+pub fn conflicts(random: &mut Random, tally: &mut Tally) -> (Triple, Outcome) {
+    let wish = random.pick(&[Wish::Met, Wish::Met, Wish::Any, Wish::Clear]);
+    let world = small_world(random, wish);
+    let (floor, plan) = Records::of(&world).files();
+    let rules = b"true\n".to_vec();
+    let triple = Triple { floor, plan, rules };
+    let outcome = exactly_those(&triple, tally);
+    (triple, outcome)
+}
+
+fn exactly_those(triple: &Triple, tally: &mut Tally) -> Outcome {
+    let verdict = both(triple)?;
+    let Read { floor, plan, .. } = Read::of(triple);
+    let wanted = match unrolled::lowest_conflict(&plan, &floor) {
+        Some((cart, counter)) => Verdict::refused(PLAN, Refusal(20, cart, plan.step(counter))),
+        None => Verdict::ACCEPTED,
+    };
+    if verdict != wanted {
+        return Err(format!("{verdict}, but by all runs {wanted}"));
+    }
+    if wanted == Verdict::ACCEPTED {
+        tally.clear += !floor.narrow.is_empty() as usize;
+        tally.smaller += smaller_drifts(triple)?;
+    } else {
+        tally.conflicts += 1;
     }
     Ok(())
 }

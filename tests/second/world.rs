@@ -4,6 +4,7 @@ use std::collections::BTreeMap;
 
 use crate::floor::{Cart, Floor, Lane};
 use crate::logic::Collection;
+use crate::narrow;
 use crate::plan::Plan;
 use crate::random::Random;
 
@@ -46,7 +47,7 @@ fn ends(size: Size) -> [usize; 4] {
 }
 
 impl World {
-    pub fn random(random: &mut Random, size: Size) -> World {
+    pub fn random(random: &mut Random, size: Size, wish: narrow::Wish) -> World {
         let [carts, steps, drift, places] = ends(size);
         let low = |end: usize| if size == Size::Limit { end } else { 1 };
         let carts = random.range(low(carts), carts);
@@ -58,11 +59,15 @@ impl World {
             _ if random.chance(60) => random.range(1, 2),
             _ => random.range(1, drift),
         };
-        World::build(random, [carts, h, d, places])
+        World::build(random, [carts, h, d, places], wish)
     }
 
     /// A world with so many carts, steps, drift and places.
-    pub fn build(random: &mut Random, [carts, h, d, places]: [usize; 4]) -> World {
+    pub fn build(
+        random: &mut Random,
+        [carts, h, d, places]: [usize; 4],
+        wish: narrow::Wish,
+    ) -> World {
         let l = match random.below(6) {
             0 => 0,
             1 => h - 1,
@@ -75,17 +80,20 @@ impl World {
         let places: Vec<u32> = (0..places)
             .map(|_| marked_place(random, often, &marks))
             .collect();
-        let mut rows = random_rows(random, carts, h, places.len());
+        let spare = narrow::spare(random, wish, places.len());
+        let mut rows = random_rows(random, carts, h, places.len() - spare);
         if random.chance(30) {
             meet(random, &mut rows, &places, &marks);
         }
-        let plan = Plan { h, l, d, rows };
+        let mut plan = Plan { h, l, d, rows };
+        let narrow = narrow::places(random, &mut plan, places.len(), wish);
         let carts = random_carts(random, &plan);
         let lanes = random_lanes(random, &plan, &carts, places.len());
         let floor = Floor {
             places,
             lanes,
             carts,
+            narrow,
         };
         World { floor, plan, marks }
     }
@@ -101,6 +109,7 @@ impl World {
         let mut records: Vec<Written> = self.floor.places.iter().map(place).collect();
         records.extend(self.floor.lanes.iter().map(lane));
         records.extend(self.floor.carts.iter().map(cart));
+        records.extend(self.floor.narrow.iter().map(|place| (6, vec![*place])));
         records
     }
 
@@ -131,12 +140,20 @@ fn marked_place(random: &mut Random, often: usize, marks: &[u32]) -> u32 {
 }
 
 /// Carts that stay for a while and then go on; on a large floor only to a place next to theirs, so
-/// that the lanes suffice.
+/// that the lanes suffice. All go by themselves, or together, or each keeps to places of its own.
 fn random_rows(random: &mut Random, carts: usize, h: usize, places: usize) -> Vec<Vec<u8>> {
     let stay = random.pick(&[0, 40, 70, 90, 97]);
     let together = random.chance(25);
+    let apart = random.chance(30);
+    // So many places of its own a cart can have, and lanes for all of its moves.
+    let few = |own: &usize| own * carts <= places && own * own * carts <= 1000;
+    let own_places = (1..=places).take_while(few).last();
     let lead = walk(random, h, places, stay);
-    let mut row = || {
+    let mut row = |n: usize| {
+        if let (true, Some(count)) = (apart, own_places) {
+            let own = walk(random, h, count, stay);
+            return own.iter().map(|at| at * carts as u8 + n as u8).collect();
+        }
         let own = walk(random, h, places, stay);
         if !together {
             return own;
@@ -144,7 +161,7 @@ fn random_rows(random: &mut Random, carts: usize, h: usize, places: usize) -> Ve
         let shift = random.below(3);
         (0..h).map(|t| lead[t.saturating_sub(shift)]).collect()
     };
-    (0..carts).map(|_| row()).collect()
+    (0..carts).map(&mut row).collect()
 }
 
 fn walk(random: &mut Random, h: usize, places: usize, stay: usize) -> Vec<u8> {
