@@ -12,7 +12,7 @@ use crate::world::{Size, World};
 
 /// How often each number is aimed at, in 1,000; 18 stands for damaged bytes, and 19 is no number of the check.
 const AIMS: [usize; 21] = [
-    240, 6, 20, 20, 20, 25, 25, 20, 20, 20, 25, 60, 10, 65, 55, 40, 55, 130, 54, 0, 90,
+    230, 6, 20, 20, 20, 25, 25, 20, 20, 20, 25, 60, 10, 60, 55, 40, 50, 130, 54, 0, 110,
 ];
 
 pub fn triple(random: &mut Random) -> Triple {

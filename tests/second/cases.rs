@@ -1,7 +1,11 @@
 //! The cases of documents 01 and 02 and the settled readings, for both checkers.
 
 use crate::check;
+use crate::floor::Floor;
 use crate::library;
+use crate::narrow_cases;
+use crate::plan::Plan;
+use crate::unrolled;
 use crate::verdict::{Refusal, Verdict, PLAN, RULES};
 
 pub const FLOOR: [u8; 56] = [
@@ -179,6 +183,40 @@ fn moves() -> impl Iterator<Item = (Vec<u8>, Vec<u8>, Verdict)> {
     })
 }
 
+/// Whether the search over all runs finds the conflict of a verdict, or none.
+fn found_on_runs(floor: &[u8], plan: &[u8], verdict: Verdict) -> Result<(), String> {
+    let floor = Floor::read(floor).expect("a floor");
+    let plan = Plan::read(plan, &floor).expect("a plan");
+    // With many carts and much drift there are too many standings.
+    if (plan.d + 1).pow(plan.rows.len() as u32) > 5000 {
+        return Ok(());
+    }
+    let found = unrolled::lowest_conflict(&plan, &floor);
+    let told = found.map(|(cart, counter)| [cart, plan.step(counter)]);
+    let wanted = (verdict.number == 20).then_some([verdict.first, verdict.second]);
+    if told == wanted.map(|numbers| numbers.map(|n| n as usize)) {
+        return Ok(());
+    }
+    Err(format!(
+        "{verdict} is wanted, the search over all runs finds {told:?}"
+    ))
+}
+
+/// A conflict is told whatever the sheet is.
+fn narrow() -> Result<usize, String> {
+    let mut count = 0;
+    for (floor, plan, verdict) in narrow_cases::all() {
+        let sheets: [&[u8]; 3] = [b"true\n", b"!true\n", b"?"];
+        let read = if verdict == Verdict::ACCEPTED { 1 } else { 3 };
+        for sheet in &sheets[..read] {
+            compare(&floor, &plan, sheet, verdict)?;
+            count += 1;
+        }
+        found_on_runs(&floor, &plan, verdict)?;
+    }
+    Ok(count)
+}
+
 /// The number of cases; the first case that comes out otherwise is told.
 pub fn run() -> Result<usize, String> {
     let mut count = 0;
@@ -195,5 +233,5 @@ pub fn run() -> Result<usize, String> {
         compare(&floor, &plan, b"true\n", verdict)?;
         count += 1;
     }
-    Ok(count)
+    Ok(count + narrow()?)
 }

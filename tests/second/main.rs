@@ -18,6 +18,7 @@ mod library;
 mod limits;
 mod logic;
 mod narrow;
+mod narrow_cases;
 mod plan;
 mod print;
 mod random;

@@ -80,20 +80,23 @@ fn clear(random: &mut Random, plan: &mut Plan, count: usize, narrow: &mut Vec<u8
 }
 
 /// Puts in one conflict: two carts as far apart as the drift allows, or less, in one place or exchanged between two. The lap's end
-/// often comes between them.
+/// often comes between them; then the lower cart is mostly the one ahead, so that its counter is beyond h.
 fn meet(random: &mut Random, plan: &mut Plan, count: usize, narrow: &mut Vec<u8>) {
-    let one = random.below(plan.rows.len());
-    let other = (one + random.range(1, plan.rows.len() - 1)) % plan.rows.len();
     let some = random.below(plan.d + 1);
-    let apart = random.pick(&[plan.d, plan.d, some]);
+    // Farther apart than the drift the other way round the lap.
+    let lap = plan.h - plan.l;
+    let short = lap.saturating_sub(plan.d + 1).clamp(1, 16).min(plan.d);
+    let apart = random.pick(&[plan.d, plan.d, some, short, short]);
     let any = random.below(plan.h);
     let early = random.pick(&[any, plan.h - 1]);
     let late = plan.step(early + apart);
+    let behind = (late < early) != random.chance(20);
+    let [one, other] = two_carts(random, plan.rows.len(), behind);
     let [here, there] = meeting_places(random, plan, count);
     narrow.push(here);
     plan.rows[one][early] = here;
     plan.rows[other][late] = here;
-    if random.chance(60) {
+    if random.chance(50) {
         return;
     }
     narrow.push(there);
@@ -101,6 +104,17 @@ fn meet(random: &mut Random, plan: &mut Plan, count: usize, narrow: &mut Vec<u8>
     plan.rows[one][next[0]] = there;
     plan.rows[other][late] = there;
     plan.rows[other][next[1]] = here;
+}
+
+/// Two carts, the higher one first if wished so.
+fn two_carts(random: &mut Random, carts: usize, higher_first: bool) -> [usize; 2] {
+    let high = random.range(1, carts - 1);
+    let low = random.below(high);
+    if higher_first {
+        [high, low]
+    } else {
+        [low, high]
+    }
 }
 
 /// Two places that no cart comes to, if there are so many, so that the conflict is the only one.

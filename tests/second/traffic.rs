@@ -6,27 +6,25 @@ use crate::plan::Plan;
 /// The conflicts met so far.
 pub struct Traffic<'a> {
     plan: &'a Plan,
-    floor: &'a Floor,
+    narrow: Vec<bool>,
     /// For each cart the lowest counter at which it was in one.
     earliest: Vec<Option<usize>>,
 }
 
 impl<'a> Traffic<'a> {
-    pub fn new(plan: &'a Plan, floor: &'a Floor) -> Traffic<'a> {
-        let earliest = vec![None; plan.rows.len()];
+    pub fn new(plan: &'a Plan, floor: &Floor) -> Traffic<'a> {
+        let places = 0..floor.places.len();
         Traffic {
             plan,
-            floor,
-            earliest,
+            narrow: places
+                .map(|place| floor.narrow.contains(&(place as u8)))
+                .collect(),
+            earliest: vec![None; plan.rows.len()],
         }
     }
 
-    fn place(&self, cart: usize, counter: usize) -> u8 {
-        self.plan.rows[cart][self.plan.step(counter)]
-    }
-
-    fn is_narrow(&self, place: u8) -> bool {
-        self.floor.narrow.contains(&place)
+    fn place(&self, cart: usize, counter: usize) -> usize {
+        self.plan.rows[cart][self.plan.step(counter)] as usize
     }
 
     fn note(&mut self, cart: usize, counter: usize) {
@@ -36,18 +34,21 @@ impl<'a> Traffic<'a> {
 
     /// Looks at a moment and the tick after it: two carts in one narrow place, or exchanged between two.
     pub fn look(&mut self, now: &[usize], then: &[usize]) {
-        for b in 1..now.len() {
-            for a in 0..b {
-                let [from, other] = [a, b].map(|n| self.place(n, now[n]));
-                if !self.is_narrow(from) || !self.is_narrow(other) {
-                    continue;
-                }
-                let [to, beyond] = [a, b].map(|n| self.place(n, then[n]));
-                if from == other || to == other && beyond == from {
+        let mut inside: Vec<(usize, usize)> = Vec::new();
+        for b in 0..now.len() {
+            let from = self.place(b, now[b]);
+            if !self.narrow[from] {
+                continue;
+            }
+            for &(a, other) in &inside {
+                let exchanged =
+                    || self.place(a, then[a]) == from && self.place(b, then[b]) == other;
+                if from == other || exchanged() {
                     self.note(a, now[a]);
                     self.note(b, now[b]);
                 }
             }
+            inside.push((b, from));
         }
     }
 
