@@ -1,6 +1,6 @@
 /* The C interface from C: document 01's floor and plan written, compared with bytes written out by hand and read back, its
- * moves checked, the plan checked, moved on and a row replaced; a sheet read and a clause picked; empty buffers as null pointers; room
- * one byte short; a refusal of each function. */
+ * moves checked, the plan checked, moved on and a row replaced; a sheet read and a clause picked; narrow places written, read and met;
+ * empty buffers as null pointers; room one byte short; a refusal of each function. */
 #include <stdio.h>
 #include <string.h>
 
@@ -73,7 +73,7 @@ static int untouched(const uint8_t *buffer, size_t from)
 static struct cartplan_verdict write_floor(uint8_t *out, size_t room)
 {
     memset(out, FILL, ROOM);
-    return cartplan_write_floor(places, 2, lanes, sizeof lanes, carts, sizeof carts, out, room);
+    return cartplan_write_floor(places, 2, lanes, sizeof lanes, carts, sizeof carts, NULL, 0, out, room);
 }
 
 static struct cartplan_verdict write_plan(uint8_t *out, size_t room)
@@ -239,6 +239,78 @@ static void check_plan_checked(void)
     check_numbers(cartplan_check(floor_bytes, FLOOR_LEN, plan, PLAN_LEN, NULL, 0), 2, 10, 0, 0, "moves before the sheet");
 }
 
+/* The paper's floor with both places narrow, place 1 named twice: 71 bytes. */
+#define NARROW_LEN (FLOOR_LEN + 15)
+static const uint8_t narrow[3] = {1, 0, 1};
+static const uint8_t narrow_bytes[15] = {1, 0, 6, 0, 1, 1, 0, 6, 0, 0, 1, 0, 6, 0, 1};
+
+static struct cartplan_verdict write_narrow(size_t count, uint8_t *out, size_t room)
+{
+    memset(out, FILL, ROOM);
+    return cartplan_write_floor(places, 2, lanes, sizeof lanes, carts, sizeof carts, narrow, count, out, room);
+}
+
+static void check_narrow_written(void)
+{
+    static const uint8_t absent[2] = {0, 2};
+    uint8_t out[ROOM];
+
+    check_verdict(write_narrow(3, out, NARROW_LEN - 1), 1, 18, NARROW_LEN, "narrow places, one byte short");
+    check_verdict(cartplan_write_floor(places, 2, lanes, 12, carts, 4, absent, 2, out, ROOM), 1, 6, 61, "absent narrow place");
+    check_verdict(cartplan_write_floor(places, 2, NULL, 0, NULL, 0, narrow, 1, out, ROOM), 1, 7, 21, "a narrow place and no cart");
+    check(untouched(out, 0), "no byte of refused narrow places");
+    check_verdict(write_narrow(3, out, NARROW_LEN), 0, 0, NARROW_LEN, "narrow places, just room");
+    check(memcmp(out, floor_bytes, FLOOR_LEN) == 0, "the floor before them");
+    check(memcmp(out + FLOOR_LEN, narrow_bytes, sizeof narrow_bytes) == 0, "the narrow places' bytes");
+    check(untouched(out, NARROW_LEN), "bytes past the narrow places");
+    check(narrow[0] == 1 && narrow[1] == 0 && narrow[2] == 1, "narrow places unchanged");
+    check_verdict(cartplan_read_floor(out, NARROW_LEN), 0, 0, 0, "narrow places read back");
+    check_verdict(cartplan_read_floor(out, NARROW_LEN - 1), 1, 2, 66, "a narrow place cut short");
+    out[NARROW_LEN - 1] = 2;
+    check_verdict(cartplan_read_floor(out, NARROW_LEN), 1, 6, 66, "the last narrow place absent");
+    out[NARROW_LEN - 3] = 3;
+    check_verdict(cartplan_read_floor(out, NARROW_LEN), 1, 3, 66, "a cart behind a narrow place");
+}
+
+/* The floor with place 1 narrow: both carts of the paper's plan are there at step 2, with drift 1 at counters 1 and 2. */
+static void check_conflicts(void)
+{
+    static const uint8_t away[4] = {0, 0, 0, 0}, wrong[] = "?";
+    uint8_t floor[FLOOR_LEN + 5], plan[PLAN_LEN], kept[PLAN_LEN];
+
+    memcpy(floor, floor_bytes, FLOOR_LEN);
+    memcpy(floor + FLOOR_LEN, narrow_bytes, 5);
+    memcpy(plan, plan_bytes, PLAN_LEN);
+    check_numbers(cartplan_check(floor, sizeof floor, plan, PLAN_LEN, sheet, SHEET_LEN), 2, 20, 0, 2, "met in step");
+    check_numbers(cartplan_check(floor, sizeof floor, plan, PLAN_LEN, NULL, 0), 2, 20, 0, 2, "met, with a null sheet");
+    plan[8] = 1;
+    memcpy(kept, plan, PLAN_LEN);
+    check_numbers(cartplan_check(floor, sizeof floor, plan, PLAN_LEN, wrong, 1), 2, 20, 0, 1, "met with drift 1, before the sheet");
+    check_verdict(cartplan_check_moves(floor, sizeof floor, plan, PLAN_LEN), 0, 0, 0, "moves of carts that meet");
+    check(memcmp(plan, kept, PLAN_LEN) == 0 && memcmp(floor, floor_bytes, FLOOR_LEN) == 0, "files unchanged by 20");
+    plan[22] = 1;
+    check_numbers(cartplan_check(floor, sizeof floor, plan, PLAN_LEN, sheet, SHEET_LEN), 2, 10, 1, 0, "10 before 20");
+    plan[22] = 0;
+    check_verdict(cartplan_replace_row(floor, sizeof floor, plan, PLAN_LEN, 1, away, 4), 0, 0, 0, "replaced where carts meet");
+    check_numbers(cartplan_check(floor, sizeof floor, plan, PLAN_LEN, sheet, SHEET_LEN), 3, 17, 1, 0, "met no longer");
+    floor[FLOOR_LEN + 4] = 0;
+    check_numbers(cartplan_check(floor, sizeof floor, plan, PLAN_LEN, sheet, SHEET_LEN), 2, 20, 0, 0, "met at the start");
+}
+
+/* Place 0 and 1 narrow, a cart on each: they park, and then change places at drift 0. */
+static void check_swap(void)
+{
+    static const uint8_t apart[4] = {0, 0, 0, 1}, reached[] = "G [m1,1]\n";
+    uint8_t floor[ROOM], parked[20] = {6, 0, 4, 0, 1, 0, 0, 0, 16, 0, 1, 0, 5, 0, 0, 1, 0, 5, 0, 1};
+    uint8_t swapped[22] = {6, 0, 4, 0, 2, 0, 1, 0, 0, 0, 2, 0, 5, 0, 0, 1, 2, 0, 5, 0, 1, 0};
+
+    check_verdict(cartplan_write_floor(places, 2, lanes, 12, apart, 4, narrow, 2, floor, ROOM), 0, 0, 66, "a cart on each place");
+    check_verdict(cartplan_check(floor, 66, parked, sizeof parked, reached, sizeof reached - 1), 0, 0, 0, "parked in narrow places");
+    check_verdict(cartplan_check_moves(floor, 66, swapped, sizeof swapped), 0, 0, 0, "moves that swap");
+    check_numbers(cartplan_check(floor, 66, swapped, sizeof swapped, reached, sizeof reached - 1), 2, 20, 0, 0, "swapped");
+    check_verdict(cartplan_check(floor, 61, swapped, sizeof swapped, reached, sizeof reached - 1), 0, 0, 0, "one of the two narrow");
+}
+
 static void check_span(struct cartplan_span is, size_t offset, size_t length, const char *name)
 {
     check(is.offset == offset && is.length == length, name);
@@ -270,16 +342,16 @@ static void check_null(void)
     check_verdict(cartplan_read_floor(NULL, 0), 1, 7, 0, "null floor");
     check_verdict(cartplan_read_plan(NULL, 0, NULL, 0), 1, 7, 0, "null floor and plan");
     check_verdict(cartplan_read_plan(floor_bytes, FLOOR_LEN, NULL, 0), 2, 7, 0, "null plan");
-    check_verdict(cartplan_write_floor(NULL, 0, NULL, 0, NULL, 0, NULL, 0), 1, 7, 0, "nothing to write");
-    check_verdict(cartplan_write_floor(places, 2, lanes, 12, carts, 4, NULL, 0), 1, 18, 56, "floor to null");
-    check_verdict(cartplan_write_floor(NULL, 0, lanes, 12, carts, 4, out, ROOM), 1, 6, 0, "null places");
-    check_verdict(cartplan_write_floor(places, 2, lanes, 12, NULL, 0, out, ROOM), 1, 7, 44, "null carts");
+    check_verdict(cartplan_write_floor(NULL, 0, NULL, 0, NULL, 0, NULL, 0, NULL, 0), 1, 7, 0, "nothing to write");
+    check_verdict(cartplan_write_floor(places, 2, lanes, 12, carts, 4, NULL, 0, NULL, 0), 1, 18, 56, "floor to null");
+    check_verdict(cartplan_write_floor(NULL, 0, lanes, 12, carts, 4, NULL, 0, out, ROOM), 1, 6, 0, "null places");
+    check_verdict(cartplan_write_floor(places, 2, lanes, 12, NULL, 0, NULL, 0, out, ROOM), 1, 7, 44, "null carts");
     check_verdict(cartplan_write_plan(NULL, 0, 4, 0, 0, rows, 8, out, ROOM), 1, 7, 0, "plan on null floor");
     check_verdict(cartplan_write_plan(floor_bytes, 56, 4, 0, 0, NULL, 0, out, ROOM), 2, 7, 10, "null rows");
     check_verdict(cartplan_write_plan(floor_bytes, 56, 0, 0, 0, NULL, 0, NULL, 0), 2, 8, 0, "no steps, null rows");
     check_verdict(cartplan_write_plan(floor_bytes, 56, 4, 0, 0, rows, 8, NULL, 0), 2, 18, 26, "plan to null");
     check(untouched(out, 0), "no byte of a refused write");
-    check_verdict(cartplan_write_floor(places, 2, NULL, 0, carts, 4, out, ROOM), 0, 0, 28, "null lanes");
+    check_verdict(cartplan_write_floor(places, 2, NULL, 0, carts, 4, NULL, 0, out, ROOM), 0, 0, 28, "null lanes");
     check_verdict(cartplan_read_floor(out, 28), 0, 0, 0, "floor without lanes");
 }
 
@@ -297,8 +369,8 @@ static void check_refusals(void)
     check_verdict(cartplan_read_plan(bad, FLOOR_LEN, plan_bytes, PLAN_LEN), 1, 6, 16, "plan on a bad floor");
     check_verdict(cartplan_read_plan(floor_bytes, FLOOR_LEN, plan_bytes, 18), 2, 7, 18, "a row missing");
     check_verdict(cartplan_read_plan(floor_bytes, 50, plan_bytes, PLAN_LEN), 2, 5, 18, "a row too many");
-    check_verdict(cartplan_write_floor(places, 2, lanes, 11, carts, 4, out, ROOM), 1, 4, 37, "two thirds of a lane");
-    check_verdict(cartplan_write_floor(places, 2, lanes, 12, class_8, 2, out, ROOM), 1, 6, 44, "class 8");
+    check_verdict(cartplan_write_floor(places, 2, lanes, 11, carts, 4, NULL, 0, out, ROOM), 1, 4, 37, "two thirds of a lane");
+    check_verdict(cartplan_write_floor(places, 2, lanes, 12, class_8, 2, NULL, 0, out, ROOM), 1, 6, 44, "class 8");
     check_verdict(cartplan_write_plan(bad, FLOOR_LEN, 4, 0, 0, rows, 8, out, ROOM), 1, 6, 16, "plan for a bad floor");
     check_verdict(cartplan_write_plan(floor_bytes, FLOOR_LEN, 4, 4, 0, rows, 8, out, ROOM), 2, 8, 0, "l is h");
     check_verdict(cartplan_write_plan(floor_bytes, FLOOR_LEN, 4, 3, 17, rows, 8, out, ROOM), 2, 8, 0, "d 17");
@@ -318,6 +390,9 @@ int main(void)
     check_replaced();
     check_sheet();
     check_plan_checked();
+    check_narrow_written();
+    check_conflicts();
+    check_swap();
     check_clause();
     check_null();
     check_refusals();

@@ -35,6 +35,10 @@ def cart(class_, start):
     return record(3, [class_, start])  # 6 bytes
 
 
+def narrow(*places):
+    return b"".join(record(6, [place]) for place in places)  # 5 bytes each
+
+
 def head(h, l=0, d=0):
     return record(4, number16(h) + number16(l) + number16(d))  # 10 bytes
 
@@ -75,7 +79,7 @@ LANES_1024 = lane(0, 1) * 1024
 CARTS_32 = cart(0, 0) * 32
 ROWS_32 = head(1) + row(0) * 32
 
-# Name, floor, plan, verdict. None is a file that isn't there. Kinds 6 to 11 are not used.
+# Name, floor, plan, verdict. None is a file that isn't there. Kinds 7 to 11 are not used.
 CASES = [
     # Accepted.
     ("document 01's floor and plan", FLOOR, PLAN, "accepted"),
@@ -670,8 +674,155 @@ PARKED_CHECKS = [(f"parked: {name}", BARE, *rest) for name, _, *rest in CHECKS[:
     ("parked: true in every run", NO_LANES, pair(1, 0, 16, 0), sheet("G [m0,2]"), "accepted"),
 ]
 
+# Document 02, 2): narrow places. Records of kind 6, as CASES.
+NARROW_256 = narrow(*[1] * 256)
+NARROW_FLOORS = [
+    ("narrow: place 0", FLOOR + narrow(0), PLAN, "accepted"),
+    ("narrow: the last place, then the first", FLOOR + narrow(1, 0), PLAN, "accepted"),
+    ("narrow: the same place three times", FLOOR + narrow(1, 1, 1), PLAN, "accepted"),
+    ("narrow: 256 records", FLOOR + NARROW_256, PLAN, "accepted"),
+    ("narrow: the 257th record", FLOOR + NARROW_256 + narrow(1), PLAN, "refused floor 5 1336 0"),
+    ("narrow: the 257th record, absent place", FLOOR + NARROW_256 + narrow(2), PLAN, "refused floor 5 1336 0"),
+    ("narrow: the 257th record of 2 bytes", FLOOR + NARROW_256 + record(6, [1, 1]), PLAN, "refused floor 4 1336 0"),
+    ("narrow: the 257th record one byte short", FLOOR + NARROW_256 + narrow(1)[:-1], PLAN, "refused floor 2 1336 0"),
+    ("narrow: a cart behind 256 records", FLOOR + NARROW_256 + cart(0, 0), PLAN, "refused floor 3 1336 0"),
+    ("narrow: the longest floor", PLACES_256 + LANES_1024 + CARTS_32 + narrow(*range(256)), head(64, 63, 16) + still(64) * 32, "accepted"),
+    ("narrow: one more than the longest floor", PLACES_256 + LANES_1024 + CARTS_32 + narrow(*range(256), 0), ROWS_32,
+     "refused floor 5 10688 0"),
+    ("narrow: place 2 of 2", FLOOR + narrow(2), PLAN, "refused floor 6 56 0"),
+    ("narrow: place 255 of 2 behind good ones", FLOOR + narrow(0, 1, 255), PLAN, "refused floor 6 66 0"),
+    ("narrow: place 255 of 256", PLACES_256 + cart(0, 255) + narrow(255), head(1) + row(255), "accepted"),
+    ("narrow: place 255 of 255", place() * 255 + cart(0, 0) + narrow(255), STAY, "refused floor 6 2046 0"),
+    ("narrow: 0 bytes", FLOOR + record(6, []), PLAN, "refused floor 4 56 0"),
+    ("narrow: 2 bytes", FLOOR + narrow(0) + record(6, [0, 1]), PLAN, "refused floor 4 61 0"),
+    ("narrow: 2 bytes, absent place", FLOOR + record(6, [2, 2]), PLAN, "refused floor 4 56 0"),
+    ("narrow: one byte short", FLOOR + narrow(0)[:-1], PLAN, "refused floor 2 56 0"),
+    ("narrow: kind 262, 6 but for the high byte", FLOOR + record(262, [0]), PLAN, "refused floor 3 56 0"),
+    ("narrow: a place behind it", FLOOR + narrow(0) + place(), PLAN, "refused floor 3 61 0"),
+    ("narrow: a lane behind it", FLOOR + narrow(0) + lane(0, 1), PLAN, "refused floor 3 61 0"),
+    ("narrow: a cart behind it", FLOOR + narrow(0) + cart(0, 0), PLAN, "refused floor 3 61 0"),
+    ("narrow: before the first cart", PLACES + LANES + narrow(0) + CARTS, PLAN, "refused floor 3 49 0"),
+    ("narrow: between two carts", FLOOR[:50] + narrow(0) + cart(0, 0), PLAN, "refused floor 3 55 0"),
+    ("narrow: before any place", narrow(0) + FLOOR, PLAN, "refused floor 6 0 0"),
+    ("narrow: places and no cart", PLACES + narrow(0), PLAN, "refused floor 7 21 0"),
+    ("narrow: places, lanes and no cart", PLACES + LANES + narrow(0, 1), PLAN, "refused floor 7 54 0"),
+    ("narrow: in a plan", FLOOR, PLAN + narrow(0), "refused plan 3 26 0"),
+    ("narrow: in place of a head", FLOOR, narrow(0) + PLAN, "refused plan 3 0 0"),
+]
+
+# As EDITS. Both carts of document 01's plan begin on place 0, but only the check refuses that.
+JAMMED = FLOOR + narrow(0, 1)
+NARROW_EDITS = [
+    ("narrow: moves of carts that meet", JAMMED, PLAN, MOVES, "accepted"),
+    ("narrow: moved on where carts meet", JAMMED, PLAN, move_on(1), lent(26), *done(head(4) + row(1, 1, 0, 0) + row(0, 1, 1, 0))),
+    ("narrow: a row replaced where carts meet", JAMMED, PLAN, replace(1, 0, 1, 0, 1), "accepted", head(4) + row(0, 1, 1, 0) + row(0, 1, 0, 1)),
+    ("narrow: a row by which carts meet", APART + narrow(0, 1), head(2) + row(0, 0) + row(1, 1), replace(0, 0, 1), "accepted",
+     head(2) + row(0, 1) + row(1, 1)),
+    ("narrow: moves on a floor refused for it", FLOOR + narrow(2), PLAN, MOVES, "refused floor 6 56 0"),
+    ("narrow: moved on, floor refused for it", FLOOR + narrow(2), PLAN, move_on(1), lent(26), "refused floor 6 56 0", lent(26)),
+    ("narrow: replaced, floor refused for it", FLOOR + record(6, []), PLAN, replace(0, 0, 1, 1, 0), "refused floor 4 56 0", PLAN),
+]
+
+
+def bays(rows, *places, count=4):
+    """Places with lanes between any two, a cart at the beginning of each row, and narrow places."""
+    lanes = b"".join(lane(start, end) for start in range(count) for end in range(count) if start != end)
+    return place() * count + lanes + b"".join(cart(0, places[0]) for places in rows) + narrow(*places)
+
+
+def met(name, rows, places, l, d, verdict, rules=sheet("true")):
+    """A check of these rows with these narrow places."""
+    numbers = verdict if verdict == "accepted" else "refused plan 20 " + verdict
+    return "narrow: " + name, bays(rows, *places), head(len(rows[0]), l, d) + b"".join(row(*places) for places in rows), rules, numbers
+
+
+PAPER_ROWS = [(0, 1, 1, 0), (0, 0, 1, 1)]
+ENDS_OF_LAP = [(1, 0, 0), (0, 0, 1)]
+STEP_1_AND_3 = [(2, 1, 2, 2, 2, 2), (3, 3, 3, 1, 3, 3)]
+FIRST_AND_LAST = [(2, 1, 2, 2, 2, 2), (3, 3, 3, 3, 3, 1)]
+CHANGED = [(0, 1), (1, 0)]
+CHANGED_LATER = [(1, 0, 2, 2), (3, 0, 1, 3)]
+ROUND_A_RING = [(0, 1, 2), (1, 2, 0), (2, 0, 1)]
+
+# Everything at its limit: 32 carts that park on places of their own, or the last two on one; or one that comes to another's at last.
+OWN_32 = PLACES_256 + b"".join(cart(n % 8, n) for n in range(32)) + narrow(*range(256))
+SHARED_32 = OWN_32[: 2048 + 186] + cart(7, 30) + narrow(*range(256))
+LAST_STEP_32 = PLACES_256 + lane(31, 30, 128) + OWN_32[2048:]
+PARKED_32 = b"".join(row(*[n] * 64) for n in range(31))
+
+# As CHECKS.
+NARROW_CHECKS = [
+    # Two carts in one place at a moment.
+    met("document 01's plan, no narrow place", PAPER_ROWS, [], 0, 16, "accepted"),
+    met("document 01's plan, a place that nobody comes to", PAPER_ROWS, [2, 3], 0, 16, "accepted"),
+    met("document 01's plan, d 0", PAPER_ROWS, [1], 0, 0, "0 2"),
+    met("document 01's plan, d 1", PAPER_ROWS, [1], 0, 1, "0 1"),
+    met("document 01's plan, the place named twice", PAPER_ROWS, [1, 1], 0, 1, "0 1"),
+    met("document 01's plan, both begin there", PAPER_ROWS, [0], 0, 0, "0 0"),
+    met("at counters 3 and 2 alone, h 3", ENDS_OF_LAP, [1], 0, 1, "0 0"),
+    met("at counters 2 and 3 alone, h 3", ENDS_OF_LAP[::-1], [1], 0, 1, "0 2"),
+    met("not with d 0", ENDS_OF_LAP, [1], 0, 0, "accepted"),
+    met("not if the first step is in the run-in", ENDS_OF_LAP, [1], 1, 1, "accepted"),
+    met("one waits in the run-in, two ahead", ENDS_OF_LAP, [1], 2, 2, "0 0"),
+    met("the earliest counter, not the lowest step", [(0, 0, 0, 1), (1, 1, 1, 0)], [0], 0, 2, "0 1"),
+    met("the lowest step within d 3", [(0, 0, 0, 1), (1, 1, 1, 0)], [0], 0, 3, "0 0"),
+    met("two steps apart, d 1", STEP_1_AND_3, [1], 5, 1, "accepted"),
+    met("two steps apart, d 2", STEP_1_AND_3, [1], 5, 2, "0 1"),
+    met("two steps behind, d 1", STEP_1_AND_3[::-1], [1], 5, 1, "accepted"),
+    met("two steps behind, d 2", STEP_1_AND_3[::-1], [1], 5, 2, "0 3"),
+    met("round the lap, d 1", FIRST_AND_LAST, [1], 0, 1, "accepted"),
+    met("round the lap, d 2", FIRST_AND_LAST, [1], 0, 2, "0 1"),
+    met("round the lap from its first step, d 1", FIRST_AND_LAST, [1], 1, 1, "0 1"),
+    met("not round the lap from the run-in, d 3", FIRST_AND_LAST, [1], 2, 3, "accepted"),
+    met("from the run-in itself, d 4", FIRST_AND_LAST, [1], 2, 4, "0 1"),
+    met("carts 1 and 2", [(0, 0), (1, 0), (1, 0)], [1], 1, 0, "1 0"),
+    met("cart 0 later than carts 1 and 2", [(0, 0, 2), (1, 0, 3), (1, 3, 3), (3, 3, 2)], [1, 2], 2, 0, "0 2"),
+    met("one cart, d 16", [(0, 1, 2, 3)], [0, 1, 2, 3], 0, 16, "accepted"),
+    met("each parked on its own place, d 16", [(0,), (1,), (2,), (3,)], [0, 1, 2, 3], 0, 16, "accepted"),
+    met("two parked on one place", [(0,), (0,)], [0], 0, 0, "0 0"),
+    # Two carts exchanged between two places.
+    met("exchanged, d 0", CHANGED, [0, 1], 0, 0, "0 0"),
+    met("exchanged, but one place is wide", CHANGED, [0], 0, 0, "accepted"),
+    met("exchanged, but the other place is wide", CHANGED, [1], 0, 0, "accepted"),
+    met("exchanged at counters 0 and 1, d 1", CHANGED_LATER, [0, 1], 3, 1, "0 0"),
+    met("both in place 0 at counter 1, d 1", CHANGED_LATER, [0], 3, 1, "0 1"),
+    met("both in place 0 at counter 1, d 0", CHANGED_LATER, [0, 1], 3, 0, "0 1"),
+    met("exchanged by the closing move", [(0, 2, 1), (1, 3, 0)], [0, 1], 0, 0, "0 2"),
+    met("no closing move to the run-in", [(0, 2, 1), (1, 3, 0)], [0, 1], 2, 0, "accepted"),
+    met("exchanged in the lap", [(2, 0, 1), (3, 1, 0)], [0, 1], 1, 0, "0 1"),
+    met("round a ring, d 0", ROUND_A_RING, [0, 1, 2], 0, 0, "accepted"),
+    met("round a ring, d 1", ROUND_A_RING, [0, 1, 2], 0, 1, "0 0"),
+    met("into a place just left", [(0, 1, 1), (1, 2, 2)], [0, 1, 2], 2, 0, "accepted"),
+    met("to a place from elsewhere", [(0, 1, 1), (3, 0, 0)], [0, 1, 3], 2, 0, "accepted"),
+    # At the limits.
+    ("narrow: 32 carts on places of their own, h 64, d 16", OWN_32, head(64, 0, 16) + PARKED_32 + row(*[31] * 64), sheet("true"), "accepted"),
+    ("narrow: the last two of 32 carts", SHARED_32, head(64, 0, 16) + PARKED_32 + row(*[30] * 64), sheet("true"), "refused plan 20 30 0"),
+    ("narrow: cart 31 on step 63, l 63", LAST_STEP_32, head(64, 63, 0) + PARKED_32 + row(*[31] * 63, 30), sheet("true"),
+     "refused plan 20 30 63"),
+    ("narrow: cart 31 on step 63, d 16", LAST_STEP_32, head(64, 63, 16) + PARKED_32 + row(*[31] * 63, 30), sheet("true"),
+     "refused plan 20 30 47"),
+    # The stages in order, as above.
+    ("narrow: floor before 20", JAMMED + narrow(2), PLAN, sheet("true"), "refused floor 6 66 0"),
+    ("narrow: plan before 20", JAMMED, PLAN[:18], sheet("true"), "refused plan 7 18 0"),
+    ("narrow: 10 of the last cart before 20", JAMMED, head(1) + row(0) + row(1), sheet("true"), "refused plan 10 1 0"),
+    ("narrow: 11 before 20", NO_LANES + narrow(0, 1), pair(4, 3, 0, 0, 0, 1, 1), sheet("true"), "refused plan 11 0 1"),
+    met("before an empty sheet", PAPER_ROWS, [1], 0, 0, "0 2", b""),
+    met("before a sheet's 12", PAPER_ROWS, [1], 0, 0, "0 2", b"?" * 16385),
+    met("before a sheet's 13", PAPER_ROWS, [1], 0, 0, "0 2", b"?"),
+    met("before 16", PAPER_ROWS, [1], 0, 1, "0 1", sheet("X true")),
+    met("before 17", PAPER_ROWS, [1], 0, 0, "0 2", sheet("!true")),
+    ("narrow: clear of conflicts, 17", APART + narrow(0, 1), head(1, 0, 16) + row(0) + row(1), sheet("G [m0,1]", "G [m0,2]"),
+     "refused rules 17 1 0"),
+    ("narrow: clear of conflicts, 16", APART + narrow(0, 1), head(1, 0, 16) + row(0) + row(1), sheet("X true"), "refused rules 16 0 0"),
+]
+
+# As SHOWN: the first number of 20 is a cart, and no clause.
+NARROW_SHOWN = [
+    ("narrow: nothing shown for 20", JAMMED, PLAN, sheet("true", "!true"), "refused plan 20 0 0", ""),
+]
+
 # The numbers that each file's refusals have. No task writes a floor, so 18 is about the plan alone.
-NUMBERS = {"floor": [*range(1, 8)], "plan": [*range(1, 6), *range(7, 12), 18, 19], "rules": [7, *range(12, 18)]}
+NUMBERS = {"floor": [*range(1, 8)], "plan": [*range(1, 6), *range(7, 12), 18, 19, 20], "rules": [7, *range(12, 18)]}
 
 
 def write(folder, name, content):
@@ -692,20 +843,36 @@ def check_set(name, floor, plan, rules, verdict):
     return name, {"floor": floor, "plan": plan, "rules": rules, "task": CHECK}, verdict
 
 
+def read_set(name, floor, plan, verdict):
+    return name, {"floor": floor, "plan": plan}, verdict
+
+
+def show_set(name, floor, plan, rules, verdict, part):
+    return name, {"floor": floor, "plan": plan, "rules": rules, "task": SHOW}, f'{verdict}: "{part}"'
+
+
 def data_sets():
     """Name, files by their names, and the line due for each case."""
-    for name, floor, plan, verdict in CASES:
-        yield name, {"floor": floor, "plan": plan}, verdict
+    for case in CASES:
+        yield read_set(*case)
     for case in EDITS:
         yield edit_set(*case)
     for case in CHECKS:
         yield check_set(*case)
-    for name, floor, plan, rules, verdict, part in SHOWN:
-        yield name, {"floor": floor, "plan": plan, "rules": rules, "task": SHOW}, f'{verdict}: "{part}"'
+    for case in SHOWN:
+        yield show_set(*case)
     for case in PARKED:
         yield edit_set(*case)
     for case in PARKED_CHECKS:
         yield check_set(*case)
+    for case in NARROW_FLOORS:
+        yield read_set(*case)
+    for case in NARROW_EDITS:
+        yield edit_set(*case)
+    for case in NARROW_CHECKS:
+        yield check_set(*case)
+    for case in NARROW_SHOWN:
+        yield show_set(*case)
 
 
 def giving(sets, file, number):
