@@ -7,11 +7,12 @@ def record(kind, body):
     return len(body).to_bytes(2, "little") + kind.to_bytes(2, "little") + bytes(body)
 
 
-def floor(places, lanes, carts):
-    """places: the set of mark numbers of each; lanes: (from, to, classes); carts: (class, start)."""
+def floor(places, lanes, carts, narrow=()):
+    """places: the set of mark numbers of each; lanes: (from, to, classes); carts: (class, start); narrow: places that hold one cart."""
     out = b"".join(record(1, sum(1 << m for m in marks).to_bytes(4, "little")) for marks in places)
     out += b"".join(record(2, lane) for lane in lanes)
-    return out + b"".join(record(3, cart) for cart in carts)
+    out += b"".join(record(3, cart) for cart in carts)
+    return out + b"".join(record(6, [place]) for place in narrow)
 
 
 def plan(h, l, d, rows):
@@ -65,6 +66,28 @@ EXAMPLES = {
             "[m0,2] U [m1,1]",  # two wait at the store until one is at a cutting table
             "G F [m1,50%]",  # again and again half of the carts are at the tables together
             "[G (!m2 | F m1),100%]",  # every cart that is at skiving comes to a table later
+        ),
+    ),
+    # A yard (m0) and two bays (m1) that hold one cart each. Carts 0 and 2 use the same bay, two steps apart: with a drift of 1 they
+    # never meet there, with 2 they could.
+    "two-bays": (
+        floor(
+            places=[{0}, {1}, {1}],
+            lanes=[(0, 1, EVERY), (0, 2, EVERY), (1, 0, EVERY), (2, 0, EVERY)],
+            carts=[(0, 0), (0, 0), (0, 0)],
+            narrow=[1, 2],
+        ),
+        plan(
+            6, 0, 1,
+            [
+                [0, 1, 1, 0, 0, 0],
+                [0, 0, 2, 2, 0, 0],
+                [0, 0, 0, 0, 1, 0],
+            ],
+        ),
+        rules(
+            "G [m0,1]",  # there is always a cart in the yard
+            "[G F m1,3]",  # every cart comes to a bay again and again
         ),
     ),
 }

@@ -1,7 +1,7 @@
 #!/usr/bin/env python3
 """Runs the program cartcheck on folders of files at the limits of its buffers, absent files and each file's refusal, and compares the line
 that it prints, also where standard input is closed, so that the first file has descriptor 0. The lines are written by hand from
-documents 01 and 02. Then sees that the lines due of the program cases name each refusal, 1 to 19. Run from the repository's root after
+documents 01 and 02. Then sees that the lines due of the program cases name each refusal, 1 to 20. Run from the repository's root after
 `rt check cartcheck`."""
 import pathlib
 import re
@@ -23,11 +23,35 @@ ROW = bytes([4, 0, 5, 0, 0, 0, 0, 0])
 LONG_FLOOR = PLACE * (65536 // 8)
 LONG_PLAN = (PLAN[:10] + ROW * 8191)[:65536]
 
+# Three places in 24 bytes, four lanes in 28, three carts in 18, two narrow bays; a head of 10 bytes, rows at 10, 20 and 30.
+BAYS, BAYS_PLAN, BAYS_RULES = (read("two-bays", name) for name in ("floor", "plan", "rules"))
+BAYS_DRIFT_2 = BAYS_PLAN[:8] + b"\2" + BAYS_PLAN[9:]
+BAYS_EARLY = BAYS_PLAN[:34] + bytes([0, 0, 0, 1, 0, 0])
+NEXT_DOOR = BAYS[:52] + bytes([3, 0, 2, 0, 1, 2, 255, 3, 0, 2, 0, 2, 1, 255]) + BAYS[52:]
+CHANGED = bytes([6, 0, 4, 0, 4, 0, 0, 0, 0, 0, 4, 0, 5, 0, 0, 1, 2, 0, 4, 0, 5, 0, 0, 2, 1, 0]) + ROW
+
+# The longest floor, 10,688 bytes, with 32 carts parked on narrow places of their own.
+LONGEST = PLACE * 256 + bytes([3, 0, 2, 0, 0, 1, 255]) * 1024 + b"".join(bytes([2, 0, 3, 0, 0, n]) for n in range(32))
+LONGEST += b"".join(bytes([1, 0, 6, 0, n]) for n in range(256))
+LONGEST_PLAN = bytes([6, 0, 4, 0, 64, 0, 63, 0, 16, 0]) + b"".join(bytes([64, 0, 5, 0, *[n] * 64]) for n in range(32))
+
 CASES = [
     ("workshop", [read("workshop", name) for name in ("floor", "plan", "rules")], "accepted"),
     ("two carts", [FLOOR, PLAN, RULES], "accepted"),
     ("a clause that fails at step 2", [FLOOR, PLAN, b"G [m0,1]\n"], "refused rules 17 0 2"),
     ("no lanes", [FLOOR[:16] + FLOOR[30:], PLAN, RULES], "refused plan 11 0 0"),
+    ("two bays", [BAYS, BAYS_PLAN, BAYS_RULES], "accepted"),
+    ("two bays, drift 2", [BAYS, BAYS_DRIFT_2, BAYS_RULES], "refused plan 20 0 2"),
+    ("two bays, a cart a step earlier", [BAYS, BAYS_EARLY, BAYS_RULES], "refused plan 20 0 2"),
+    ("two bays, drift 2, the second alone narrow", [BAYS[:70] + BAYS[75:], BAYS_DRIFT_2, b"true\n"], "accepted"),
+    ("two bays, drift 2, no rules", [BAYS, BAYS_DRIFT_2, None], "refused plan 20 0 2"),
+    ("two bays, a bay named twice", [BAYS + BAYS[70:75], BAYS_DRIFT_2, BAYS_RULES], "refused plan 20 0 2"),
+    ("two bays, a cart behind them", [BAYS + BAYS[64:70], BAYS_PLAN, BAYS_RULES], "refused floor 3 80 0"),
+    ("two bays, a third that is absent", [BAYS + b"\1\0\6\0\3", BAYS_PLAN, BAYS_RULES], "refused floor 6 80 0"),
+    ("two carts change bays", [NEXT_DOOR, CHANGED, b"true\n"], "refused plan 20 0 1"),
+    ("two carts change bays, the second wide", [NEXT_DOOR[:-5], CHANGED, b"true\n"], "accepted"),
+    ("the longest floor", [LONGEST, LONGEST_PLAN, b"true\n"], "accepted"),
+    ("the longest floor and a narrow place", [LONGEST + b"\1\0\6\0\0", LONGEST_PLAN, b"true\n"], "refused floor 5 10688 0"),
     ("no floor", [None, PLAN, RULES], "refused floor 7 0 0"),
     ("no plan", [FLOOR, None, RULES], "refused plan 7 0 0"),
     ("no rules", [FLOOR, PLAN, None], "refused rules 7 0 0"),
@@ -56,7 +80,7 @@ for title, files, line in CASES:
             failed += 1
             print(f"program: {title}, {command}: printed {got!r}, not {line!r}")
 due = (ROOT / "crates" / "cases" / "stdout").read_text()
-missing = set(range(1, 20)) - {int(n) for n in re.findall(r"^\d+ refused \w+ (\d+) \d+ \d+", due, re.MULTILINE)}
+missing = set(range(1, 21)) - {int(n) for n in re.findall(r"^\d+ refused \w+ (\d+) \d+ \d+", due, re.MULTILINE)}
 if missing:
     print(f"program: no data set of cases is refused by {sorted(missing)}")
 print(f"program: {len(CASES)} folders, {failed} differences")
