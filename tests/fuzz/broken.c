@@ -12,7 +12,8 @@ typedef struct cartplan_span span;
 #define BYTES(name) const uint8_t *name, size_t name##_len
 verdict __real_cartplan_read_floor(BYTES(floor));
 verdict __real_cartplan_read_plan(BYTES(floor), BYTES(plan));
-verdict __real_cartplan_write_floor(const uint32_t *places, size_t count, BYTES(lanes), BYTES(carts), uint8_t *out, size_t out_len);
+verdict __real_cartplan_write_floor(const uint32_t *places, size_t count, BYTES(lanes), BYTES(carts), BYTES(narrow),
+                                    uint8_t *out, size_t out_len);
 verdict __real_cartplan_write_plan(BYTES(floor), uint16_t h, uint16_t l, uint16_t d, BYTES(rows), uint8_t *out, size_t out_len);
 verdict __real_cartplan_read_rules(BYTES(rules));
 verdict __real_cartplan_check_moves(BYTES(floor), BYTES(plan));
@@ -45,9 +46,14 @@ verdict __wrap_cartplan_read_plan(BYTES(floor), BYTES(plan))
     return v;
 }
 
-verdict __wrap_cartplan_write_floor(const uint32_t *places, size_t count, BYTES(lanes), BYTES(carts), uint8_t *out, size_t out_len)
+verdict __wrap_cartplan_write_floor(const uint32_t *places, size_t count, BYTES(lanes), BYTES(carts), BYTES(narrow), uint8_t *out,
+                                    size_t out_len)
 {
-    verdict v = __real_cartplan_write_floor(places, count, lanes, lanes_len, carts, carts_len, out, out_len);
+    if (fault("read_narrow_past_end")) sink = narrow[narrow_len];
+    if (fault("drops_narrow")) narrow_len = 0;
+    if (fault("drops_one_narrow") && narrow_len > 1) narrow_len--;
+    verdict v = __real_cartplan_write_floor(places, count, lanes, lanes_len, carts, carts_len, narrow, narrow_len, out, out_len);
+    if (fault("narrow_otherwise") && v.number == 0 && narrow_len > 0) out[v.first - 1] = 0;
     if (fault("write_on_refusal") && v.number == 18 && out_len > 0) out[0]++;
     if (fault("read_places_past_end")) sink = (uint8_t)places[count];
     return v;
@@ -78,8 +84,28 @@ static verdict moves_of(BYTES(floor), BYTES(plan))
 
 verdict __wrap_cartplan_check_moves(BYTES(floor), BYTES(plan))
 {
+    static const uint8_t kept[] = "true\n";
+    verdict v = __real_cartplan_check(floor, floor_len, plan, plan_len, kept, sizeof kept - 1);
+    if (fault("conflict_in_moves") && v.number == 20) return v;
     if (fault("accepts_moves")) return (verdict){0, 0, 0, 0};
     return moves_of(floor, floor_len, plan, plan_len);
+}
+
+/* Faults of refusal 20, which come after the moves. */
+static verdict conflict_of(verdict v, BYTES(plan), BYTES(rules))
+{
+    verdict sheet = __real_cartplan_read_rules(rules, rules_len);
+    uint32_t carts = (uint32_t)(plan_len - 10) / (4 + plan[4]);
+    if (fault("conflict_missed")) return sheet;
+    if (fault("conflict_after_sheet") && sheet.number != 0) return sheet;
+    if (fault("conflict_about_floor")) v.about = 1;
+    if (fault("conflict_about_rules")) v.about = 3;
+    if (fault("highest_in_conflict")) v.first = carts - 1;
+    if (fault("no_cart_in_conflict")) v.first = carts;
+    if (fault("conflict_beyond_h")) v.second += plan[4];
+    if (fault("conflict_a_step_late")) v.second = (v.second + 1) % plan[4];
+    if (fault("conflict_no_numbers")) v.first = v.second = 0;
+    return v;
 }
 
 verdict __wrap_cartplan_check(BYTES(floor), BYTES(plan), BYTES(rules))
@@ -88,6 +114,8 @@ verdict __wrap_cartplan_check(BYTES(floor), BYTES(plan), BYTES(rules))
     verdict v = moves_of(floor, floor_len, plan, plan_len);
     if (v.number != 0) return v;
     v = __real_cartplan_check(floor, floor_len, plan, plan_len, rules, rules_len);
+    if (v.number == 20) return conflict_of(v, plan, plan_len, rules, rules_len);
+    if (fault("conflict_invented") && v.number == 0) return (verdict){2, 20, 0, 0};
     if (fault("not_monotone") && v.number == 0 && plan[8] == 0) return (verdict){3, 17, 0, 0};
     if (fault("no_such_clause") && v.number == 0) return (verdict){3, 17, 31, 0};
     return v;

@@ -3,7 +3,8 @@
  *
  * An input's bytes: the operation; low half, which buffers begin at their page (the others end there), and high half, which are
  * given as null if empty; which buffer is repeated (low two bits) to how many times 1,040 bytes more (the other six). Then, two bytes
- * each, lowest first, the operation's numbers and the length of each buffer but the last, which has the rest. */
+ * each, lowest first, the operation's numbers and the length of each buffer but the last, which has the rest. A fifth buffer, the narrow
+ * places of a floor to write, lies as the first does and is repeated for number 3. */
 #define _DEFAULT_SOURCE
 #include <stdio.h>
 #include <stdlib.h>
@@ -11,11 +12,12 @@
 #include <sys/mman.h>
 
 #include "cartplan.h"
+#include "model.h"
 
-enum { PAGE = 4096, AREA = 33 * PAGE, SLACK = 64, BUFFERS = 4, HEADER = 3, STRETCH = 1040, MOST = 65535, LONGEST = 65536 };
+enum { PAGE = 4096, AREA = 33 * PAGE, SLACK = 64, BUFFERS = 5, HEADER = 3, STRETCH = 1040, MOST = 65535, LONGEST = 65536 };
 
 /* Which buffer holds what. FLOOR, PLAN and RULES are `about` less 1. */
-enum { FLOOR = 0, PLAN = 1, RULES = 2, OUT = 3, PLACES = 0, LANES = 1, CARTS = 2, ROWS = 1, ROW = 2, VERDICT = 0 };
+enum { FLOOR = 0, PLAN = 1, RULES = 2, OUT = 3, PLACES = 0, LANES = 1, CARTS = 2, NARROW = 4, ROWS = 1, ROW = 2, VERDICT = 0 };
 
 enum { NONE, READ_FLOOR, READ_PLAN, WRITE_FLOOR, WRITE_PLAN, READ_RULES, CHECK_MOVES, CHECK, MOVE_ON, REPLACE_ROW, CLAUSE, OPERATIONS };
 
@@ -59,7 +61,7 @@ static void map_areas(void)
 
 static int begins(int i)
 {
-    return edges >> i & 1;
+    return edges >> (i & 3) & 1;
 }
 
 /* The buffer with the SLACK bytes at its open end. */
@@ -78,7 +80,7 @@ static void lend(int i, const uint8_t *bytes, size_t n, size_t len)
 {
     lent[i].len = len;
     lent[i].at = begins(i) ? areas[i] : areas[i] + AREA - len;
-    lent[i].given = len == 0 && (edges >> (4 + i) & 1) ? NULL : lent[i].at;
+    lent[i].given = len == 0 && (edges >> (4 + (i & 3)) & 1) ? NULL : lent[i].at;
     memset(whole(i), 0xa5, len + SLACK);
     for (size_t k = 0; k < len; k += n) memcpy(lent[i].at + k, bytes, len - k < n ? len - k : n);
     memcpy(copies[i], whole(i), len + SLACK);
@@ -112,7 +114,7 @@ static verdict read_plan(void)
 static verdict write_floor(void)
 {
     const uint32_t *places = (const uint32_t *)(const void *)lent[PLACES].given;
-    return cartplan_write_floor(places, lent[PLACES].len / 4, LENT(LANES), LENT(CARTS), LENT(OUT));
+    return cartplan_write_floor(places, lent[PLACES].len / 4, LENT(LANES), LENT(CARTS), LENT(NARROW), LENT(OUT));
 }
 
 static verdict write_plan(void)
@@ -184,11 +186,23 @@ static void demand_done(verdict v, size_t first)
     demand(same(v, (verdict){0, 0, (uint32_t)first, 0}), "done, with that length");
 }
 
+/* A written floor has a record for each place, lane, cart and narrow place, the last of these at its end. */
+static void demand_narrow(const uint8_t *floor, size_t n)
+{
+    size_t before = lent[PLACES].len / 4 * 8 + lent[LANES].len / 3 * 7 + lent[CARTS].len / 2 * 6;
+    demand(n == before + 5 * lent[NARROW].len, "the floor's length");
+    for (size_t i = 0; i < lent[NARROW].len; i++) {
+        const uint8_t record[5] = {1, 0, 6, 0, lent[NARROW].at[i]};
+        demand(memcmp(floor + before + 5 * i, record, sizeof record) == 0, "a narrow place's record");
+    }
+}
+
 static void demand_result(const struct operation *op, size_t n)
 {
     demand(n > 0 && n <= lent[OUT].len, "the result has its place in out");
     memcpy(expected(OUT), lent[OUT].at, n);
     demand_kept(OUT);
+    if (op->call == write_floor) demand_narrow(lent[OUT].at, n);
     verdict back = op->call == write_floor ? cartplan_read_floor(lent[OUT].at, n) : cartplan_read_plan(LENT(FLOOR), lent[OUT].at, n);
     demand_done(back, 0);
 }
@@ -207,10 +221,37 @@ static void after_write(const struct operation *op, verdict v)
     demand(same(op->call(), (verdict){op->call == write_floor ? 1 : 2, 18, v.first, 0}), "a byte short");
 }
 
+/* An accepted floor's numbers give its bytes. */
+static void after_floor(const struct operation *op, verdict v)
+{
+    static struct floor_numbers f;
+    static uint8_t out[LONGEST];
+    (void)op;
+    if (v.number != 0) return;
+    take_apart(lent[FLOOR].at, lent[FLOOR].len, &f);
+    v = cartplan_write_floor(f.places, f.place_count, f.lanes, f.lanes_len, f.carts, f.carts_len, f.narrow, f.narrow_len, out, sizeof out);
+    demand_done(v, lent[FLOOR].len);
+    demand(memcmp(out, lent[FLOOR].at, lent[FLOOR].len) == 0, "the floor is written as it was read");
+}
+
+/* What is refused of floor and plan doesn't depend on the sheet; where their moves are open, 20 is given exactly for a conflict. */
+static void demand_conflict(verdict v)
+{
+    static const uint8_t kept[] = "true\n";
+    verdict plain = cartplan_check(LENT(FLOOR), LENT(PLAN), kept, sizeof kept - 1);
+    demand(v.number == 0 || v.about == 3 ? plain.number == 0 : same(v, plain), "floor and plan before the sheet");
+    if (v.about == 1 || (v.about == 2 && v.number != 20)) return;
+    verdict due = {2, 20, 0, 0};
+    int found = lowest_conflict(lent[FLOOR].at, lent[FLOOR].len, lent[PLAN].at, &due.first, &due.second);
+    demand(found == (v.number == 20), "20 for a conflict and for nothing else");
+    demand(!found || same(v, due), "the lowest cart in conflict, on the step of its earliest counter");
+}
+
 /* An accepted plan is accepted with each smaller drift, its head's bytes 8 and 9. */
 static void after_check(const struct operation *op, verdict v)
 {
     uint8_t *drift = lent[PLAN].at + 8;
+    demand_conflict(v);
     if (v.number == 16 || v.number == 17) {
         struct cartplan_span part = cartplan_clause(LENT(RULES), (const uint8_t *)&v, sizeof v);
         demand(part.length > 0, "a clause that isn't kept is there");
@@ -266,15 +307,16 @@ static void after_replace(const struct operation *op, verdict v)
 #define B(i) (1 << (i))
 
 static const struct operation operations[OPERATIONS] = {
-    [READ_FLOOR] = {"read_floor", read_floor, NULL, 0, B(FLOOR), {0}, {0, READING | N(6)}},
+    [READ_FLOOR] = {"read_floor", read_floor, after_floor, 0, B(FLOOR), {0}, {0, READING | N(6)}},
     [READ_PLAN] = {"read_plan", read_plan, NULL, 0, B(FLOOR) | B(PLAN), {READ_FLOOR}, {0, 0, READING | N(8) | N(9)}},
-    [WRITE_FLOOR] = {"write_floor", write_floor, after_write, 1, B(PLACES) | B(LANES) | B(CARTS) | B(OUT), {0},
+    [WRITE_FLOOR] = {"write_floor", write_floor, after_write, 1, B(PLACES) | B(LANES) | B(CARTS) | B(NARROW) | B(OUT), {0},
                      {0, N(1) | N(4) | N(5) | N(6) | N(7) | N(18)}},
     [WRITE_PLAN] = {"write_plan", write_plan, after_write, 4, B(FLOOR) | B(ROWS) | B(OUT), {READ_FLOOR},
                     {0, 0, N(1) | N(4) | N(5) | N(7) | N(8) | N(9) | N(18)}},
     [READ_RULES] = {"read_rules", read_rules, NULL, 0, B(RULES), {0}, {0, 0, 0, SHEET}},
     [CHECK_MOVES] = {"check_moves", check_moves, after_moves, 0, B(FLOOR) | B(PLAN), {READ_PLAN}, {0, 0, N(10) | N(11)}},
-    [CHECK] = {"check", check, after_check, 0, B(FLOOR) | B(PLAN) | B(RULES), {CHECK_MOVES, READ_RULES}, {0, 0, 0, N(16) | N(17)}},
+    [CHECK] = {"check", check, after_check, 0, B(FLOOR) | B(PLAN) | B(RULES), {CHECK_MOVES, READ_RULES},
+               {0, 0, N(20), N(16) | N(17)}},
     [MOVE_ON] = {"move_on", move_on, after_write, 2, B(FLOOR) | B(PLAN) | B(OUT), {READ_PLAN}, {0, 0, N(18)}},
     [REPLACE_ROW] = {"replace_row", replace_row, after_replace, 2, B(FLOOR) | B(PLAN) | B(ROW), {CHECK_MOVES},
                      {0, 0, N(4) | N(9) | N(10) | N(11) | N(19)}},
@@ -284,7 +326,7 @@ static const struct operation operations[OPERATIONS] = {
 /* The refusal's first further number: a cart, a clause, a length or an offset in the file. */
 static int first_in_range(const struct operation *op, verdict v)
 {
-    if (v.number == 10 || v.number == 11 || v.number == 16 || v.number == 17) return v.first < 32;
+    if (v.number == 10 || v.number == 11 || v.number == 16 || v.number == 17 || v.number == 20) return v.first < 32;
     if (v.number == 18) return v.first > lent[OUT].len && v.first <= LONGEST;
     if (v.number == 19) return v.first == cart() && v.first > 0;
     return v.first <= (op->buffers & B(OUT) ? LONGEST : lent[v.about - 1].len);
@@ -294,19 +336,19 @@ static void demand_refusal(const struct operation *op, verdict v)
 {
     demand(v.about >= 1 && v.about <= 3 && v.number < 32 && (op->refusals[v.about] >> v.number & 1), "a known refusal");
     demand(first_in_range(op, v), "the first number in range");
-    int two = v.number == 11 || v.number == 17 || (v.number == 9 && op->call == replace_row);
+    int two = v.number == 11 || v.number == 17 || v.number == 20 || (v.number == 9 && op->call == replace_row);
     demand(two ? v.second < 64 : v.second == 0, "the second number in range");
 }
 
 /* A count for each operation, refusal and first number, that the fuzzer may see where an input gets to. */
-__attribute__((used, section("__libfuzzer_extra_counters"))) static uint8_t seen[OPERATIONS][4][20][64];
+__attribute__((used, section("__libfuzzer_extra_counters"))) static uint8_t seen[OPERATIONS][4][21][64];
 
 static void note(const struct operation *op, verdict v)
 {
     unsigned place = v.first;
     if (place >= 48)
         for (place = 48; place < 63 && v.first >> (place - 42); place++) continue;
-    if (v.about < 4 && v.number < 20) seen[op - operations][v.about][v.number][place] = 1;
+    if (v.about < 4 && v.number < 21) seen[op - operations][v.about][v.number][place] = 1;
 }
 
 /* The call's answer, held against that of the operations whose refusals come first. */
@@ -316,6 +358,8 @@ static verdict judged(const struct operation *op)
     for (int i = 0; i < 2 && op->before[i] != NONE && earlier.number == 0; i++) earlier = judged(&operations[op->before[i]]);
     v = op->call();
     note(op, v);
+    /* What the check itself refuses of the plan comes before the sheet. */
+    if (op->call == check && earlier.about == 3 && v.about == 2) earlier.number = 0;
     if (earlier.number != 0)
         demand(same(v, earlier), "an earlier refusal comes first");
     else if (v.number != 0)
@@ -342,7 +386,8 @@ static void lend_next(int i, size_t n, size_t grain, unsigned repeat, const uint
 {
     if (n > *size) n = *size;
     n -= n % grain;
-    size_t len = n == 0 || (int)(repeat & 3) != i ? n : n + (repeat >> 2) * STRETCH;
+    int repeated = (int)(repeat & 3) == (i == NARROW ? 3 : i);
+    size_t len = n == 0 || !repeated ? n : n + (repeat >> 2) * STRETCH;
     lend(i, *data, n, len);
     *data += n;
     *size -= n;
@@ -351,14 +396,15 @@ static void lend_next(int i, size_t n, size_t grain, unsigned repeat, const uint
 static void lend_all(const struct operation *op, unsigned repeat, const uint8_t *data, size_t size)
 {
     size_t lengths[BUFFERS] = {0};
-    int last = op->buffers & B(2) ? 2 : op->buffers & B(1) ? 1 : 0;
+    int inputs = op->buffers & ~B(OUT), last = BUFFERS - 1;
 
+    while (!(inputs & B(last))) last--;
     for (int i = 0; i < op->numbers; i++) numbers[i] = take(&data, &size);
     for (int i = 0; i < last; i++)
-        if (op->buffers & B(i)) lengths[i] = take(&data, &size);
+        if (inputs & B(i)) lengths[i] = take(&data, &size);
     lengths[last] = MOST;
     for (int i = 0; i <= last; i++)
-        if (op->buffers & B(i)) lend_next(i, lengths[i], op->call == write_floor && i == PLACES ? 4 : 1, repeat, &data, &size);
+        if (inputs & B(i)) lend_next(i, lengths[i], op->call == write_floor && i == PLACES ? 4 : 1, repeat, &data, &size);
     if (op->buffers & B(OUT)) lend_out(numbers[op->numbers - 1]);
 }
 

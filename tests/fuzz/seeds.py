@@ -59,18 +59,35 @@ def one():
     return PLACE + LANE + CART, record(4, little(1, 0, 16)) + record(5, [0]), b"G [m0,1] R F [m0,1%]\n"
 
 
+def bays(rows, narrow, l, d):
+    """Four places with lanes between any two, narrow ones among them, and a cart for each row."""
+    lanes = b"".join(record(2, [start, end, 255]) for start in range(4) for end in range(4) if start != end)
+    floor = PLACE * 4 + lanes + b"".join(record(3, [0, row[0]]) for row in rows) + b"".join(record(6, [place]) for place in narrow)
+    return floor, record(4, little(len(rows[0]), l, d)) + b"".join(record(5, row) for row in rows)
+
+
+def crowd(d):
+    """32 carts, each on its own two narrow places in turn, and 256 records of narrow places; the last cart comes to the first one's
+    at step 63, which has just left it."""
+    narrow = b"".join(record(6, [place % 64]) for place in range(256))
+    lanes = b"".join(record(2, [place, place ^ 1, 255]) for place in range(64)) + record(2, [62, 0, 255]) + record(2, [0, 62, 255])
+    rows = [[2 * cart + step % 2 for step in range(64)] for cart in range(31)] + [[62] * 63 + [0]]
+    floor = PLACE * 64 + lanes + b"".join(record(3, [0, row[0]]) for row in rows) + narrow
+    return floor, record(4, little(64, 62, d)) + b"".join(record(5, row) for row in rows)
+
+
 def folder(path):
     return [(pathlib.Path(path) / file).read_bytes() for file in ("floor", "plan", "rules")]
 
 
 def seeds_of(floor, plan, rules):
-    places, lanes, carts = (b"".join(bodies(floor, kind)) for kind in (1, 2, 3))
+    places, lanes, carts, narrow = (b"".join(bodies(floor, kind)) for kind in (1, 2, 3, 6))
     head, rows = bodies(plan, 4)[0], bodies(plan, 5)
     h, l, d = (int.from_bytes(head[i : i + 2], "little") for i in (0, 2, 4))
     return {
         "read_floor": seed("read_floor", [], floor),
         "read_plan": seed("read_plan", [], floor, plan),
-        "write_floor": seed("write_floor", [len(floor)], places, lanes, carts),
+        "write_floor": seed("write_floor", [len(floor)], places, lanes, carts, narrow),
         "write_plan": seed("write_plan", [h, l, d, len(plan) + 9], floor, b"".join(rows)),
         "read_rules": seed("read_rules", [], rules),
         "check_moves": seed("check_moves", [], floor, plan),
@@ -102,8 +119,8 @@ def special_seeds():
         "long_plan": seed("read_plan", [], PLACE + CART, record(4, little(4, 0, 0)) * 2 + b"..", repeat=1 | 63 << 2),
         "long_sheet": seed("read_rules", [], line, repeat=2 | 16 << 2),
         "many_clauses": seed("read_rules", [], line, repeat=2 | 1 << 2),
-        "many_places": seed("write_floor", [4000], bytes([1, 0, 0, 0]), b"", bytes([0, 0]), repeat=1 << 2),
-        "many_carts": seed("write_floor", [4000], bytes([1, 0, 0, 0]), bytes([0, 0, 255]), bytes([0, 0]), repeat=2 | 1 << 2),
+        "many_places": seed("write_floor", [4000], bytes([1, 0, 0, 0]), b"", bytes([0, 0]), b"", repeat=1 << 2),
+        "many_carts": seed("write_floor", [4000], bytes([1, 0, 0, 0]), bytes([0, 0, 255]), bytes([0, 0]), b"", repeat=2 | 1 << 2),
         "many_rows": seed("write_plan", [64, 0, 0, 4000], PLACE + CART, bytes(64), repeat=1 | 2 << 2),
         "no_such_cart": seed("replace_row", [3, 0], floor, plan, bytes(61)),
         "short_verdict": seed("clause", [], little(3, 0, 17, 0, 0, 0, 0), line),
@@ -111,13 +128,52 @@ def special_seeds():
     }
 
 
+def narrow_seeds():
+    """Carts that meet in a narrow place: in step, within the drift, beyond the last step alone, carts 1 and 2 of three, with a sheet that is
+    refused, and at the limits. Carts exchanged between two places, and between a narrow and a wide one. Records of kind 6 that are
+    refused: a cart behind one, an absent place, the 257th; and 1,041 narrow places to write. Operations that take no notice."""
+    true, broken = b"true\n", b"G ![m1,1]\n"
+    paper, ends, pair, swap = [[0, 1, 1, 0], [0, 0, 1, 1]], [[1, 0, 0], [0, 0, 1]], [[3, 3], [2, 1], [0, 1]], [[1, 0, 2, 2], [3, 0, 1, 3]]
+    floor, plan = bays(paper, [1], 0, 1)
+    marks, lane, cart = bytes([1, 0, 0, 0]) * 2, bytes([0, 1, 255]), bytes(2)
+    return {
+        "met_in_step": seed("check", [], *bays(paper, [1, 1], 0, 0), true),
+        "met_in_drift": seed("check", [], floor, plan, broken),
+        "met_beyond_h": seed("check", [], *bays(ends, [1], 0, 1), true),
+        "met_the_other_way": seed("check", [], *bays(ends[::-1], [1], 0, 1), true),
+        "met_not_in_run_in": seed("check", [], *bays(ends, [1], 1, 1), true),
+        "met_1_and_2": seed("check", [], *bays(pair, [1], 1, 0), true),
+        "met_before_sheet": seed("check", [], *bays(pair, [1], 1, 0), b"?"),
+        "met_before_no_sheet": seed("check", [], floor, plan, b"", edges=0xF0),
+        "swapped_in_drift": seed("check", [], *bays(swap, [0, 1], 3, 1), true),
+        "swapped_in_step": seed("check", [], *bays([[0, 1], [1, 0]], [0, 1], 0, 0), true),
+        "swapped_wide": seed("check", [], *bays([[0, 1], [1, 0]], [0], 0, 0), true),
+        "crowd_met": seed("check", [], *crowd(16), true),
+        "crowd_apart": seed("check", [], *crowd(0), true),
+        "own_places": seed("check", [], *bays([[0, 0], [1, 1], [2, 3]], [3, 2, 1, 0], 0, 16), broken),
+        "narrow_moves": seed("check_moves", [], floor, plan),
+        "narrow_move_on": seed("move_on", [1, 99], floor, plan),
+        "narrow_row": seed("replace_row", [1, 0], floor, plan, bytes([0, 1, 1, 0])),
+        "narrow_then_cart": seed("read_floor", [], floor + record(3, [0, 0])),
+        "narrow_absent": seed("read_floor", [], floor + record(6, [4])),
+        "narrow_long": seed("read_floor", [], floor + record(6, [1, 1])),
+        "narrow_no_cart": seed("read_floor", [], PLACE + record(6, [0])),
+        "narrow_257": seed("read_floor", [], crowd(0)[0] + record(6, [0])),
+        "narrow_to_write": seed("write_floor", [60], marks, lane, cart, bytes([1, 0, 1])),
+        "narrow_absent_to_write": seed("write_floor", [60], marks, lane, cart, bytes([1, 2])),
+        "many_narrow": seed("write_floor", [4000], marks, lane, cart, bytes([1]), repeat=3 | 1 << 2),
+        "no_narrow_to_write": seed("write_floor", [60], marks, lane, cart, b"", edges=0x10),
+    }
+
+
 def main():
     out = pathlib.Path(sys.argv[1] if len(sys.argv) > 1 else "tests/fuzz/corpus")
-    seeds = special_seeds()
+    seeds = special_seeds() | narrow_seeds()
     edits = ["check", "move_on", "replace_row", "write_floor", "write_plan", "clause"]
     for name, files, operations in [
         ("two-carts", folder("examples/two-carts"), OPERATIONS),
         ("workshop", folder("examples/workshop"), edits),
+        ("two-bays", folder("examples/two-bays"), edits),
         ("full", full(), edits),
         ("wide", wide(), ["check"]),
         ("one", one(), ["check"]),

@@ -1,0 +1,77 @@
+/* An accepted floor's numbers, and the conflicts of a plan in narrow places: two carts in one at a moment (a vertex conflict), or
+ * exchanged between two in one tick (a swap conflict). */
+#include "model.h"
+
+#include <string.h>
+
+enum { CARTS = 32, COUNTERS = 64 + 16 + 2 * 64 + 1 };
+
+static void append(uint8_t *to, size_t *len, const uint8_t *body, size_t n)
+{
+    memcpy(to + *len, body, n);
+    *len += n;
+}
+
+void take_apart(const uint8_t *floor, size_t floor_len, struct floor_numbers *numbers)
+{
+    numbers->place_count = numbers->lanes_len = numbers->carts_len = numbers->narrow_len = 0;
+    for (size_t at = 0; at < floor_len; at += 4u + floor[at]) {
+        const uint8_t *body = floor + at + 4;
+        switch (floor[at + 2]) {
+        case 1: memcpy(&numbers->places[numbers->place_count++], body, 4); break;
+        case 2: append(numbers->lanes, &numbers->lanes_len, body, 3); break;
+        case 3: append(numbers->carts, &numbers->carts_len, body, 2); break;
+        case 6: append(numbers->narrow, &numbers->narrow_len, body, 1); break;
+        }
+    }
+}
+
+static uint8_t is_narrow[256], place[CARTS][COUNTERS];
+static unsigned carts, drift, counters;
+
+/* Where each cart stands at each counter: two laps more than h and the drift, after which nothing is met for the first time. */
+static void fill_places(const uint8_t *plan)
+{
+    unsigned h = plan[4], l = plan[6];
+    drift = plan[8];
+    counters = h + drift + 2 * (h - l);
+    for (unsigned n = 0; n < carts; n++)
+        for (unsigned v = 0, step = 0; v <= counters; v++, step = step + 1 < h ? step + 1 : l)
+            place[n][v] = plan[10 + n * (4 + h) + 4 + step];
+}
+
+static int meet(unsigned a, unsigned v, unsigned b, unsigned w)
+{
+    uint8_t p = place[a][v], q = place[b][w];
+    if (!is_narrow[p] || !is_narrow[q]) return 0;
+    return p == q || (place[a][v + 1] == q && place[b][w + 1] == p);
+}
+
+static int in_conflict(unsigned a, unsigned v)
+{
+    unsigned from = v < drift ? 0 : v - drift;
+    if (!is_narrow[place[a][v]]) return 0;
+    for (unsigned w = from; w <= v + drift && w < counters; w++)
+        for (unsigned b = 0; b < carts; b++)
+            if (b != a && meet(a, v, b, w)) return 1;
+    return 0;
+}
+
+int lowest_conflict(const uint8_t *floor, size_t floor_len, const uint8_t *plan, uint32_t *cart, uint32_t *step)
+{
+    static struct floor_numbers numbers;
+    unsigned h = plan[4], l = plan[6];
+    take_apart(floor, floor_len, &numbers);
+    memset(is_narrow, 0, sizeof is_narrow);
+    for (size_t i = 0; i < numbers.narrow_len; i++) is_narrow[numbers.narrow[i]] = 1;
+    carts = (unsigned)numbers.carts_len / 2;
+    fill_places(plan);
+    for (unsigned a = 0; a < carts && numbers.narrow_len > 0; a++)
+        for (unsigned v = 0; v < counters; v++)
+            if (in_conflict(a, v)) {
+                *cart = a;
+                *step = v < h ? v : l + (v - l) % (h - l);
+                return 1;
+            }
+    return 0;
+}
