@@ -1,5 +1,6 @@
 #!/usr/bin/env python3
-"""Writes accepted inputs that grow in one dimension each, from a full load down, to the folder given as argument."""
+"""Writes accepted inputs to the folder given as argument: ones that grow in one dimension each, from a full load down, and ones with and
+without narrow places."""
 import pathlib
 import sys
 
@@ -18,17 +19,19 @@ def record(kind, body):
     return len(body).to_bytes(2, "little") + kind.to_bytes(2, "little") + bytes(body)
 
 
-def floor(carts, lanes):
-    """Places in pairs, a lane from each to itself and to the other of its pair, and then more of the same lanes."""
+def floor(carts, lanes, narrow=()):
+    """Places in pairs, a lane from each to itself and to the other of its pair, and then more of the same lanes; narrow places."""
     out = b"".join(record(1, (0x9E3779B1 * (q + 1) % 2**32).to_bytes(4, "little")) for q in range(64))
     pairs = [(q, to, 255) for q in range(64) for to in (q, q ^ 1)]
     out += b"".join(record(2, pairs[j % len(pairs)]) for j in range(lanes))
-    return out + b"".join(record(3, (0, 2 * n)) for n in range(carts))
+    out += b"".join(record(3, (0, 2 * n)) for n in range(carts))
+    return out + b"".join(record(6, [place]) for place in narrow)
 
 
-def plan(steps, drift, carts):
-    head = b"".join(n.to_bytes(2, "little") for n in (steps, 1, drift))
-    return record(4, head) + b"".join(record(5, [2 * n + (s >> 1 & 1) for s in range(steps)]) for n in range(carts))
+def plan(steps, drift, carts, first=1, place=lambda s: s >> 1 & 1):
+    """Each cart keeps to its own pair; place says on which of the two it is at a step."""
+    head = b"".join(n.to_bytes(2, "little") for n in (steps, first, drift))
+    return record(4, head) + b"".join(record(5, [2 * n + place(s) for s in range(steps)]) for n in range(carts))
 
 
 def count(nodes):
@@ -59,7 +62,32 @@ def write(folder, steps, drift, carts, nodes, clauses, lanes):
     (folder / "rules").write_text("".join(clause(nodes) + "\n" for _ in range(clauses)))
 
 
+# A full load with a small sheet, for the cost of narrow places: the narrow ones, and where a cart is at a step. Parked carts are always
+# in a narrow place; going ones move between two at every step. No cart comes to places 64 to 95, which are named twice, so that there
+# are as many records to read.
+UNUSED = [*range(64, 96)] * 2
+NARROW = {
+    "wide_parked": ([], lambda s: 0),
+    "unused_parked": (UNUSED, lambda s: 0),
+    "narrow_parked": (range(64), lambda s: 0),
+    "wide_going": ([], lambda s: s & 1),
+    "unused_going": (UNUSED, lambda s: s & 1),
+    "narrow_going": (range(64), lambda s: s & 1),
+}
+
+
+def write_narrow(folder, narrow, place):
+    folder.mkdir(parents=True, exist_ok=True)
+    spare = b"".join(record(1, bytes(4)) for _ in range(32))
+    base = floor(32, 128, narrow)
+    (folder / "floor").write_bytes(base[: 64 * 8] + spare + base[64 * 8 :])
+    (folder / "plan").write_bytes(plan(64, 16, 32, 0, place))
+    (folder / "rules").write_text("[m0,0]\n")
+
+
 def main():
+    for name, (narrow, place) in NARROW.items():
+        write_narrow(pathlib.Path(sys.argv[1]) / name, narrow, place)
     for name, sizes in SIZES.items():
         for size in sizes:
             write(pathlib.Path(sys.argv[1]) / f"{name}_{size}", **{**BASE, name: size})

@@ -3,6 +3,8 @@
 
 #[path = "../tests/second/check.rs"]
 mod check;
+#[path = "../tests/second/conflicts.rs"]
+mod conflicts;
 #[path = "../tests/second/floor.rs"]
 mod floor;
 #[path = "../tests/second/formula.rs"]
