@@ -110,22 +110,15 @@ fn counts() -> Vec<Limit> {
     ]
 }
 
+/// The numbers of a floor with these narrow places.
+fn also(mut numbers: Floor, places: &[u8]) -> Floor {
+    numbers.narrow = places.to_vec();
+    numbers
+}
+
 fn writes() -> Vec<Limit> {
-    let also = |mut numbers: Floor, places: &[u8]| {
-        numbers.narrow = places.to_vec();
-        numbers
-    };
     let paper = |places: &[u8]| also(paper_floor_numbers(), places);
-    let some = |counts: [usize; 3], places: &[u8]| {
-        let [places_count, lanes, carts] = counts;
-        also(counted_numbers(places_count, lanes, carts), places)
-    };
-    let cut = || {
-        let mut numbers = some([1, 0, 1], &[0]);
-        numbers.carts.push(0);
-        numbers
-    };
-    let full = || some([256, 1_024, 32], &[255; 256]);
+    let absent_257th = [[1; 256].as_slice(), &[9]].concat();
     vec![
         write_floor("just room", paper(&[0]), 61, [0, 0, 61, 0]),
         write_floor("one byte short", paper(&[0]), 60, [1, 18, 61, 0]),
@@ -136,27 +129,28 @@ fn writes() -> Vec<Limit> {
         write_floor("257", paper(&[1; 257]), 9_999, [1, 5, 1_336, 0]),
         write_floor(
             "absent 257th",
-            paper(&[[1; 256].as_slice(), &[9]].concat()),
+            paper(&absent_257th),
             9_999,
             [1, 5, 1_336, 0],
         ),
-        write_floor("no cart", some([2, 0, 0], &[0]), 99, [1, 7, 21, 0]),
-        write_floor("no place", some([0, 0, 0], &[0]), 99, [1, 6, 0, 0]),
-        write_floor("a byte of a cart", cut(), 99, [1, 4, 14, 0]),
-        write_floor("all full", full(), 10_688, [0, 0, 10_688, 0]),
-        write_floor("full, short", full(), 10_687, [1, 18, 10_688, 0]),
-        write_floor(
-            "65,534 bytes",
-            some([1, 0, 1], &[0; 13_104]),
-            99,
-            [1, 5, 1_294, 0],
-        ),
-        write_floor(
-            "65,539 bytes",
-            some([1, 0, 1], &[0; 13_105]),
-            99,
-            [1, 1, 0, 0],
-        ),
+    ]
+}
+
+fn writes_of_others() -> Vec<Limit> {
+    let some =
+        |places, lanes, carts, narrow: &[u8]| also(counted_numbers(places, lanes, carts), narrow);
+    let mut cut = some(1, 0, 1, &[0]);
+    cut.carts.push(0);
+    let full = some(256, 1_024, 32, &[255; 256]);
+    let many = |count| some(1, 0, 1, &vec![0; count]);
+    vec![
+        write_floor("no cart", some(2, 0, 0, &[0]), 99, [1, 7, 21, 0]),
+        write_floor("no place", some(0, 0, 0, &[0]), 99, [1, 6, 0, 0]),
+        write_floor("a byte of a cart", cut, 99, [1, 4, 14, 0]),
+        write_floor("all full", full.clone(), 10_688, [0, 0, 10_688, 0]),
+        write_floor("full, short", full, 10_687, [1, 18, 10_688, 0]),
+        write_floor("65,534 bytes", many(13_104), 99, [1, 5, 1_294, 0]),
+        write_floor("65,539 bytes", many(13_105), 99, [1, 1, 0, 0]),
     ]
 }
 
@@ -197,6 +191,7 @@ pub fn all() -> Vec<Limit> {
         order_and_ends(),
         counts(),
         writes(),
+        writes_of_others(),
         vec![written_bytes()],
         no_notice(),
     ];

@@ -116,7 +116,7 @@ impl Tally {
             self.globally, self.globally_refused
         );
         println!(
-            "narrow places: {} accepted plans with carts there, free of conflicts on drifting runs; {} refused, shown by {} runs, none with lower numbers",
+            "narrow places on drifting runs: {} accepted plans, no conflict; {} refused, shown by {} runs, none with lower numbers",
             self.narrow, self.met, self.shown
         );
         println!(
