@@ -3,7 +3,7 @@ use Prim.Native.Nat.{ℕ, zero, suc, _+_, _*_, _-_}
 use mathlib.Core.Bool.{Bool, true, false, cond, not, _||_}
 use mathlib.Core.List.{List, [], _∷_, _++_, map, flatten}
 use lib.Dec.{eqb, leb, ltb}
-use lib.ListN.{length, take, drop, replicate}
+use lib.ListN.{length, take, drop, getD, replicate}
 use Rattle.endian.specs.Little.{value}
 use Rattle.refusal.specs.Codes.{atOffset, firstFault, unlessFault}
 use Rattle.refusal.specs.declared.Refusal.{Refusal}
@@ -26,6 +26,10 @@ use Rattle.plan.specs.declared.PlanRead.{PlanRead}
 pub record PlanNumbers : Type 0 where
   pub head : Head
   pub rows : List (List ℕ)
+
+-- the place on step s of cart i's row
+abbrev pub placeOnStep : PlanNumbers → ℕ → ℕ → ℕ
+placeOnStep p i s = getD (getD (p .rows) i []) s 0
 
 -- "head: h, l, d, two bytes each"
 abbrev pub headFrom : List ℕ → Head

@@ -11,7 +11,7 @@ use Rattle.refusal.specs.declared.Verdict.{Verdict}
 use Rattle.refusal.specs.declared.Verdict.the-variants.{Accepted, Rules as AboutRules}
 use Rattle.floor.specs.Numbers.{numbersOf}
 use Rattle.floor.specs.declared.Floor.{Floor}
-use Rattle.plan.specs.Plan.{PlanNumbers}
+use Rattle.plan.specs.Plan.{PlanNumbers, placeOnStep}
 use Rattle.plan.specs.After.{afterReading}
 use Rattle.row.specs.Moves.{bit}
 use Rattle.moves.specs.Carts.{movesVerdict}
@@ -26,10 +26,6 @@ use Rattle.cltl.specs.Step.{failing}
 -- the number of place q: "one bit for each mark m0 (lowest) to m31"
 abbrev pub marksAt : List ℕ → ℕ → ℕ
 marksAt floor q = getD (numbersOf floor .places) q 0
-
--- the place on step s of cart i's row
-abbrev pub placeOnStep : PlanNumbers → ℕ → ℕ → ℕ
-placeOnStep p i s = getD (getD (p .rows) i []) s 0
 
 -- "Rows and marks are those of the files"
 abbrev pub planRows : List ℕ → Floor → PlanNumbers → Rows

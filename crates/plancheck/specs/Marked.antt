@@ -9,7 +9,7 @@ use Rattle.endian.specs.Little.{value}
 use Rattle.floor.specs.Numbers.{placeAt, bodyAt}
 use Rattle.floor.specs.Promises.{AcceptedFloor}
 use Rattle.floor.specs.declared.Floor.{Floor}
-use Rattle.plan.specs.Plan.{heldNumbers}
+use Rattle.plan.specs.Plan.{placeOnStep, heldNumbers}
 use Rattle.plan.specs.Read.{row-in}
 use Rattle.plan.specs.declared.Head.{Head}
 use Rattle.row.specs.Moves.{bit}
@@ -19,12 +19,11 @@ use Rattle.marks.specs.Table.{tableRows}
 use Rattle.marks.specs.Bears.{marksOf, blockPlace, bearing, Placed, Filled}
 use Rattle.marks.specs.Told.{bears-same}
 use Rattle.plancheck.specs.Check.{marksAt, planRows}
-use Rattle.plancheck.specs.Check as check
 
 module _ (floor : List ℕ) (f : Floor) (w : AcceptedFloor floor f) (h : Head) (block : List ℕ)
-    (places : (c s : ℕ) → c < f .carts → s < h .steps → check.placeOnStep (heldNumbers (f .carts) h block) c s < f .places) where
+    (places : (c s : ℕ) → c < f .carts → s < h .steps → placeOnStep (heldNumbers (f .carts) h block) c s < f .places) where
   -- a step of a row, in the block
-  place-is : (i s : ℕ) → i < f .carts → s < h .steps → check.placeOnStep (heldNumbers (f .carts) h block) i s ≡ blockPlace block i s
+  place-is : (i s : ℕ) → i < f .carts → s < h .steps → placeOnStep (heldNumbers (f .carts) h block) i s ≡ blockPlace block i s
   place-is i s p q =
       ap (λ (r : List ℕ). getD r s 0) (row-in (f .carts) (h .steps) block i p) ∙ getD-take (h .steps) (drop (64 * i) block) s 0 q ∙ getD-drop (64 * i) block s 0
 
@@ -36,12 +35,12 @@ module _ (floor : List ℕ) (f : Floor) (w : AcceptedFloor floor f) (h : Head) (
     };
   }
 
-  bears-is : (i s k : ℕ) → i < f .carts → s < h .steps → bearing floor block i s k ≡ bit k (marksAt floor (check.placeOnStep (heldNumbers (f .carts) h block) i s))
+  bears-is : (i s k : ℕ) → i < f .carts → s < h .steps → bearing floor block i s k ≡ bit k (marksAt floor (placeOnStep (heldNumbers (f .carts) h block) i s))
   unfolding on marksOf
   bears-is i s k p q =
       let e = place-is i s p q in
       let l = places i s p q in
-      ap (bit k) (ap (λ (j : ℕ). value (bodyAt 4 (placeAt j) floor)) (sym e) ∙ w .place (check.placeOnStep (heldNumbers (f .carts) h block) i s) l)
+      ap (bit k) (ap (λ (j : ℕ). value (bodyAt 4 (placeAt j) floor)) (sym e) ∙ w .place (placeOnStep (heldNumbers (f .carts) h block) i s) l)
 
   -- what a filled table tells is what the plan says
   pub told : (before after : List ℕ) → Filled floor block (f .carts) (h .steps) before after → (i s k : ℕ) → i < f .carts → s < h .steps → k < 32

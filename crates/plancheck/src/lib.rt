@@ -11,11 +11,11 @@ ghost use Prim.Native.Nat.{ℕ, _*_, _<_, _≤_};
 ghost use lib.ListN.{length};
 ghost use Rattle.refusal.specs.declared.Verdict.the-variants.{Accepted};
 ghost use Rattle.floor.specs.Promises.{AcceptedFloor};
-ghost use Rattle.plan.specs.Plan.{heldNumbers};
+ghost use Rattle.plan.specs.Plan.{placeOnStep, heldNumbers};
 ghost use Rattle.plan.specs.Valid.{HeadInRange};
 ghost use Rattle.grammar.specs.Reader.{readSheet};
 ghost use Rattle.sheet.specs.Rules.{rulesVerdict};
-ghost use Rattle.plancheck.specs.Check.{placeOnStep, planRows, clausesOf, clausesVerdict};
+ghost use Rattle.plancheck.specs.Check.{planRows, clausesOf, clausesVerdict};
 ghost use Rattle.plancheck.specs.Promises.{PlanChecked};
 
 // Judges the clauses of an accepted sheet on an accepted plan, with room for its marks' rows.

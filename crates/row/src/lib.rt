@@ -4,6 +4,7 @@ mod moves;
 
 pub use lanes::linked;
 pub use moves::judge_moves;
+pub use moves::next_step;
 
 // The moves of a row judged: all open, or it begins elsewhere than at the start, or the lowest step left by a move that is not open.
 pub enum MoveAnswer {

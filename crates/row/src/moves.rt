@@ -10,7 +10,8 @@ ghost use Rattle.row.specs.Lasso.{nextStep};
 ghost use Rattle.row.specs.Moves.{isOpen, judgedMoves, lanesIn};
 ghost use Rattle.row.specs.Chain.{Chained};
 
-fn next_step(steps: usize, stem: usize, s: usize) -> usize
+// The step that follows: the lap's first behind the last.
+pub fn next_step(steps: usize, stem: usize, s: usize) -> usize
     requires { ⌜ s < steps ⌝ }
     ensures { λ r. ⌜ r ≡ nextStep steps stem s ⌝ }
 {

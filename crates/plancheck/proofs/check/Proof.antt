@@ -10,8 +10,8 @@ use Rattle.refusal.specs.Accepting.{accepted-is}
 use Rattle.floor.specs.Located.{accepts}
 use Rattle.plan.specs.Read.{held-length, accepts-if, after-accepted, after-refused, held-numbers, held-range}
 use Rattle.plan.specs.Promises.{AcceptedPlan}
-use Rattle.plan.specs.Plan.{PlanNumbers, heldNumbers}
-use Rattle.plancheck.specs.Check.{placeOnStep, stages, checked}
+use Rattle.plan.specs.Plan.{PlanNumbers, placeOnStep, heldNumbers}
+use Rattle.plancheck.specs.Check.{stages, checked}
 use Rattle.plancheck.specs.Stages.{stage-moves, stage-sheet, stage-clauses}
 use Rattle.plancheck.specs.Claims.{claims}
 use borrow.Author.Needs.{needs}

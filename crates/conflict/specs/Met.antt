@@ -1,0 +1,83 @@
+-- Two carts' counters at which they meet: the test taken apart.
+use Prim.Native.Nat.{ℕ, suc, _+_, _≤_, _<_}
+use native.Mathlib.Omega.{arith}
+use mathlib.Core.Path.{_≡_, refl}
+use mathlib.Core.Bool.{Bool, true, false, _&&_, _||_}
+use mathlib.Core.Logic.{_⊎_, inl, inr, ⊎-elim}
+use lib.Dec.{T, eqb, eqb→eq}
+use borrow.Author.Tests.{eqb-true, eqb-false, eq-eqb}
+use Rattle.cltl.specs.Basics.{or-cases, or-l, or-r, and-l, and-r, and-i}
+use Rattle.conflict.specs.Meaning.{Routes, placeAt, Narrow}
+use Rattle.conflict.specs.Search.{meets}
+
+pub true-T : (t : Bool) → t ≡ true → T t
+true-T true e = tt
+true-T false e = let z : _≡_ {A = ℕ} 0 1 = cc in absurd (omega arith)
+
+pub T-true : (t : Bool) → T t → t ≡ true
+T-true true h = refl
+T-true false h = absurd h
+
+module _ (P : Routes) (a v b w : ℕ) where
+  abbrev p : ℕ
+  p = placeAt P a v
+
+  abbrev q : ℕ
+  q = placeAt P b w
+
+  -- both in one narrow place
+  pub record Same : Type 0 where
+    pub narrow : Narrow P (placeAt P a v)
+    pub one : placeAt P a v ≡ placeAt P b w
+
+  -- each goes next to the other's narrow place
+  pub record Exchanged : Type 0 where
+    pub narrow : Narrow P (placeAt P a v)
+    pub other-narrow : Narrow P (placeAt P b w)
+    pub there : placeAt P a (suc v) ≡ placeAt P b w
+    pub back : placeAt P b (suc w) ≡ placeAt P a v
+
+  abbrev moved : Bool
+  moved = eqb (placeAt P a (suc v)) q && eqb (placeAt P b (suc w)) p
+
+  pub same-meets : Same → T (meets P a v b w)
+  same-meets s =
+      and-i (P .narrow p) (eqb p q || (P .narrow q && moved)) (s .narrow) (or-l (eqb p q) (P .narrow q && moved) (true-T (eqb p q) (eq-eqb p q (s .one))))
+
+  pub exchange-meets : Exchanged → T (meets P a v b w)
+  exchange-meets x =
+      let there = true-T (eqb (placeAt P a (suc v)) q) (eq-eqb (placeAt P a (suc v)) q (x .there)) in
+      let back = true-T (eqb (placeAt P b (suc w)) p) (eq-eqb (placeAt P b (suc w)) p (x .back)) in
+      and-i (P .narrow p) (eqb p q || (P .narrow q && moved)) (x .narrow)
+      (or-r (eqb p q) (P .narrow q && moved)
+      (and-i (P .narrow q) moved (x .other-narrow) (and-i (eqb (placeAt P a (suc v)) q) (eqb (placeAt P b (suc w)) p) there back)))
+
+  -- the place decides: in one place they are in it, else they exchange
+  pub meets-cases : T (meets P a v b w) → Same ⊎ (((placeAt P a v ≡ placeAt P b w) → ⊥) × Exchanged)
+  meets-cases m = go (eqb p q) refl (and-r (P .narrow p) (eqb p q || (P .narrow q && moved)) m)
+    where
+      here : Narrow P p
+      here = and-l (P .narrow p) (eqb p q || (P .narrow q && moved)) m
+
+      go : (t : Bool) → eqb p q ≡ t → T (t || (P .narrow q && moved)) → Same ⊎ ((p ≡ q → ⊥) × Exchanged)
+      go true e n = inl (record { narrow = here; one = eqb-true p q e })
+      go false e n =
+          let k = and-r (P .narrow q) moved n in
+          inr (
+            eqb-false p q e,
+            record {
+              narrow = here;
+              other-narrow = and-l (P .narrow q) moved n;
+              there = eqb→eq (placeAt P a (suc v)) q (and-l (eqb (placeAt P a (suc v)) q) (eqb (placeAt P b (suc w)) p) k);
+              back = eqb→eq (placeAt P b (suc w)) p (and-r (eqb (placeAt P a (suc v)) q) (eqb (placeAt P b (suc w)) p) k);
+            },
+          )
+
+-- carts a and b, two of the fleet, meet at counters at most d apart
+pub record Met (P : Routes) (d a v b w : ℕ) : Type 0 where
+  pub cart-there : a < P .carts
+  pub other-there : b < P .carts
+  pub two : a ≡ b → ⊥
+  pub behind : v ≤ w + d
+  pub ahead : w ≤ v + d
+  pub meeting : T (meets P a v b w)
