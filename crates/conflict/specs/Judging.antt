@@ -4,7 +4,7 @@ use mathlib.Core.Path.{_≡_, sym, ap₂, subst, _∙_}
 use mathlib.Core.Logic.{_⊎_, inl, inr, ⊎-elim}
 use Rattle.refusal.specs.declared.Verdict.{Verdict}
 use Rattle.refusal.specs.declared.Verdict.the-variants.{Accepted}
-use Rattle.conflict.specs.Meaning.{Routes, Free, Earliest}
+use Rattle.conflict.specs.Meaning.{Routes, Conflict, Free, Earliest}
 use Rattle.conflict.specs.Search.{narrowVerdict}
 use Rattle.conflict.specs.Outcomes.{refusal20, Told, Outcome, unique, not-both, not-accepted, numbers-of}
 use Rattle.conflict.specs.Found.{found}
@@ -35,6 +35,14 @@ module _ (P : Routes) (d : ℕ) (v : Verdict) where
   forms (inl w) = inl (w .1)
   forms (inr w) = inr (w .cart, w .step, w .there, w .below, w .is)
 
+  some-conflict : Outcome P d v → (a : ℕ) × (s : ℕ) × (v ≡ refusal20 a s) → (a : ℕ) × (k : ℕ) × Conflict P d a k
+  some-conflict o (a, s, e) = let w = told-earliest o a s e in (a, w .counter, w .conflict)
+
+  conflict-told : Outcome P d v → (a : ℕ) × (k : ℕ) × Conflict P d a k → (a : ℕ) × (s : ℕ) × (v ≡ refusal20 a s)
+  conflict-told (inl w) (a, k, c) =
+      absurd (w .0 (c .run) (c .moment) a (c .other) (c .cart-there) (c .other-there) (c .two) (c .conflicting))
+  conflict-told (inr w) x = (w .cart, w .step, w .is)
+
   pub judged : P .l < P .h → v ≡ narrowVerdict P d → Judged P d v
   judged lap e =
       let o : Outcome P d v = subst (Outcome P d) (sym e) (found P lap d) in
@@ -42,5 +50,6 @@ module _ (P : Routes) (d : ℕ) (v : Verdict) where
         answer = e;
         free = (accepted-free o, free-accepted o);
         told = λ a s. (told-earliest o a s, earliest-told o a s);
+        exists = (some-conflict o, conflict-told o);
         forms = forms o;
       }

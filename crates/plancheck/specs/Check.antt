@@ -1,5 +1,5 @@
 -- "Checking a plan: floor, plan, moves, sheet as above; then 16 with d above 0, X outside a count (lowest clause, 0); then 17, lowest clause
--- not true (clause, step)."
+-- not true (clause, step)." Document 02, 2): between moves and sheet 20.
 use Prim.Native.Nat.{ℕ, suc}
 use mathlib.Core.Bool.{cond}
 use mathlib.Core.List.{List, [], _∷_}
@@ -15,6 +15,7 @@ use Rattle.plan.specs.Plan.{PlanNumbers, placeOnStep}
 use Rattle.plan.specs.After.{afterReading}
 use Rattle.row.specs.Moves.{bit}
 use Rattle.moves.specs.Carts.{movesVerdict}
+use Rattle.conflict.specs.OfPlan.{conflictVerdict}
 use Rattle.grammar.specs.Grammar.{Clause}
 use Rattle.grammar.specs.Reader.{Read, readSheet}
 use Rattle.grammar.specs.Reader as reader
@@ -55,10 +56,12 @@ module _ (P : Rows) (d : ℕ) where
   abbrev pub clausesVerdict : List Clause → Verdict
   clausesVerdict cs = andThen (cond (eqb d 0) Accepted (nextVerdict 0 cs)) (keptVerdict 0 cs)
 
--- the stages in order, once floor and plan are read
+-- the stages in order, once floor and plan are read; document 02, 2): 20 stands "after 11 and before the sheet"
 abbrev pub stages : List ℕ → List ℕ → Floor → PlanNumbers → Verdict
 stages floor sheet f p =
-    andThen (movesVerdict floor f p) (andThen (rulesVerdict sheet) (clausesVerdict (planRows floor f p) (p .head .drift) (clausesOf (readSheet sheet))))
+    andThen (movesVerdict floor f p)
+    (andThen (conflictVerdict floor f p)
+    (andThen (rulesVerdict sheet) (clausesVerdict (planRows floor f p) (p .head .drift) (clausesOf (readSheet sheet)))))
 
 unfoldable pub checked : List ℕ → List ℕ → List ℕ → Verdict
 checked floor plan sheet = afterReading (λ v. v) (stages floor sheet) floor plan

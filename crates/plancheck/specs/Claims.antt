@@ -1,13 +1,14 @@
 -- The check keeps its promises.
 use Prim.Native.Nat.{ℕ, _≤_}
 use native.Mathlib.Omega.{arith}
-use mathlib.Core.Path.{_≡_, refl, sym, ap, subst, _∙_}
+use mathlib.Core.Path.{_≡_, refl, sym, ap, subst, subst₂, _∙_}
 use mathlib.Core.Logic.{inl, inr, ⊎-elim, _↔_}
 use mathlib.Core.List.{List}
 use lib.Dec.{T}
 use Rattle.endian.specs.Little.{bytes, Bytes}
+use Rattle.refusal.specs.Codes.{refused}
 use Rattle.refusal.specs.declared.Verdict.{Verdict}
-use Rattle.refusal.specs.declared.Verdict.the-variants.{Accepted}
+use Rattle.refusal.specs.declared.Verdict.the-variants.{Accepted, Plan as AboutPlan}
 use Rattle.record.specs.All.{All, all-map, all-both}
 use Rattle.record.specs.Record.{encoded, layout}
 use Rattle.record.specs.Buffer.{stored}
@@ -20,16 +21,21 @@ use Rattle.plan.specs.Numbers.{planFile}
 use Rattle.plan.specs.After.{ReadAs}
 use Rattle.plan.specs.Complete.{file-reads}
 use Rattle.plan.specs.RoundTrip.{valid, bytes-back}
+use Rattle.moves.specs.Promises.{Moving}
+use Rattle.moves.specs.Demands.{read-once}
+use Rattle.conflict.specs.Meaning.{Earliest}
+use Rattle.conflict.specs.OfPlan.{planRoutes}
+use Rattle.conflict.specs.Smaller.{smaller as less-conflicts}
 use Rattle.grammar.specs.Grammar.{Clause}
 use Rattle.grammar.specs.Answers.{AcceptedSheet}
 use Rattle.cltl.specs.Meaning.{Rows, Run, TrueOf, TrueInStep}
 use Rattle.cltl.specs.Rules.{rules}
 use Rattle.cltl.specs.Promises as cltl
 use Rattle.plancheck.specs.Check.{planRows, checked}
-use Rattle.plancheck.specs.Meaning.{drifted, Plain, Kept, ReadAndOpen}
+use Rattle.plancheck.specs.Meaning.{drifted, Plain, Kept, Conflict20, ReadAndOpen}
 use Rattle.plancheck.specs.Promises.{Means, PlanChecked}
-use Rattle.plancheck.specs.Stages.{same-clauses, proper, accepted-as, as-accepted, accepted-read}
-use Rattle.plancheck.specs.Refusing.{Meant, meant, given, is-16, is-17, is-sheet}
+use Rattle.plancheck.specs.Stages.{same-clauses, proper, on-routes, accepted-as, as-accepted, as-20, accepted-read}
+use Rattle.plancheck.specs.Refusing.{Meant, meant, given, is-plan, is-20, is-16, is-17, is-sheet}
 
 drifted-file : (p : PlanNumbers) (d : ℕ) → stored (planFile p) 8 (bytes 2 d) ≡ planFile (drifted p d)
 unfolding layout encoded bytes
@@ -41,6 +47,7 @@ means-as floor s sheet same w = record {
   in-step = λ f p files none. let x = w .in-step f p files none in (λ y. x .0 (same .1 y), λ a. same .0 (x .1 a));
   kept = λ f p cs a. let x = w .kept f p cs a in (λ y. x .0 (same .1 y), λ k. same .0 (x .1 k));
   runs = λ y. w .runs (same .1 y);
+  conflict-free = λ y. w .conflict-free (same .1 y);
   smaller = λ y. w .smaller (same .1 y);
   readable = λ y. w .readable (same .1 y);
 }
@@ -85,6 +92,7 @@ module _ (floor s sheet : List ℕ) (fb : Bytes floor) (pb : Bytes s) where
         as-accepted floor (stored s 8 (bytes 2 d)) sheet f (drifted p d) (a .0)
         (record {
           readable = record { files = drifted-read d less; moves = w .moves; clauses = w .clauses };
+          no-20 = less-conflicts (planRoutes floor f p) (p .head .drift) d (a .1 .no-20) less;
           no-16 = ⊎-elim (λ z. inl (omega arith))
               (λ x. inr x) (a .1 .no-16);
         })
@@ -100,16 +108,33 @@ module _ (floor s sheet : List ℕ) (fb : Bytes floor) (pb : Bytes s) where
   means : Means floor s sheet (checked floor s sheet ≡ Accepted)
   means = record {
     in-step = λ f p files none. (
-      λ yes. let a = accepted-as floor s sheet f p files yes in (a .0, a .1 .readable, all-map (kept-step f p files none) (a .0) (a .2)),
-      λ w. as-accepted floor s sheet f p (w .0) (record { readable = w .1; no-16 = inl none }) (all-map (step-kept f p files none) (w .0) (w .2)),
+      λ yes. let a = accepted-as floor s sheet f p files yes in
+          (a .0, a .1 .readable, a .1 .no-20, all-map (kept-step f p files none) (a .0) (a .2)),
+      λ w. as-accepted floor s sheet f p (w .0) (record { readable = w .1; no-20 = w .2; no-16 = inl none }) (all-map (step-kept f p files none) (w .0) (w .3)),
     );
     kept = λ f p cs a. (λ yes. all-kept f p (a .readable .files) yes cs (a .readable .clauses), λ k. as-accepted floor s sheet f p cs a k);
     runs = λ yes f p cs w plain r. in-runs f p (w .files) yes cs w plain r;
+    conflict-free = λ yes f p files. accepted-as floor s sheet f p files yes .1 .no-20;
     smaller = λ yes f p files d less. (drifted-read f p files yes d less, less-drift f p files yes d less);
     readable =
         λ yes. let w = accepted-read floor s sheet yes in let a = accepted-as floor s sheet (w .0) (w .1) (w .2) yes in
         (w .0, w .1, a .0, a .1);
   }
+
+  -- 20 is told where its conflict is
+  told-20 : (c k : ℕ) → Conflict20 floor s c k → checked floor s sheet ≡ AboutPlan (refused 20 c k)
+  told-20 c k w =
+      let x = w .moving in
+      as-20 floor s sheet (x .floor-is) (x .numbers) (x .read) (x .unending) c k
+      (on-routes floor s sheet (x .floor-is) (x .numbers) (x .read) .told c k .1 (w .earliest))
+
+  -- and of one reading of floor and plan it is that of another
+  moved-20 : (x : Moving floor s) (c k : ℕ) → Conflict20 floor s c k
+      → Earliest (planRoutes floor (x .floor-is) (x .numbers)) (x .numbers .head .drift) c k
+  moved-20 x c k w =
+      let y = w .moving in
+      let q = read-once floor s (y .floor-is) (x .floor-is) (y .numbers) (x .numbers) (y .read) (x .read) in
+      subst₂ (λ (f : Floor) (p : PlanNumbers). Earliest (planRoutes floor f p) (p .head .drift) c k) (q .0) (q .1) (w .earliest)
 
   pub claims : (v : Verdict) → v ≡ checked floor s sheet → PlanChecked floor s sheet v
   claims v e =
@@ -118,9 +143,15 @@ module _ (floor s sheet : List ℕ) (fb : Bytes floor) (pb : Bytes s) where
         verdict = e;
         numbers = given floor s sheet v m;
         means = means-as floor s sheet (λ yes. e ∙ yes, λ yes. sym e ∙ yes) means;
+        conflict-20 = λ c k. (λ q. is-20 floor s sheet c k (subst (Meant floor s sheet) q m), λ w. e ∙ told-20 c k w);
+        exists-20 = λ x. let j = on-routes floor s sheet (x .floor-is) (x .numbers) (x .read) in (
+          λ w. let t = is-20 floor s sheet (w .0) (w .1) (subst (Meant floor s sheet) (w .2) m) in
+              j .exists .0 (w .0, w .1, j .told (w .0) (w .1) .1 (moved-20 x (w .0) (w .1) t)),
+          λ w. let t = j .exists .1 w in (t .0, t .1, e ∙ as-20 floor s sheet (x .floor-is) (x .numbers) (x .read) (x .unending) (t .0) (t .1) (t .2)),
+        );
         next-16 = λ k x q. is-16 floor s sheet k x (subst (Meant floor s sheet) q m);
         fails-17 = λ k x q. is-17 floor s sheet k x (subst (Meant floor s sheet) q m);
         floor-refused = λ x q. subst (Meant floor s sheet) q m;
-        plan-refused = λ x q. subst (Meant floor s sheet) q m;
+        plan-refused = λ x q n20. is-plan floor s sheet x n20 (subst (Meant floor s sheet) q m);
         sheet-refused = λ x q n16 n17. is-sheet floor s sheet x n16 n17 (subst (Meant floor s sheet) q m);
       }

@@ -1,7 +1,7 @@
 -- What the promise gives, clause by clause and byte by byte: a reader of it alone can conclude this.
 use Prim.Native.Nat.{ℕ, _≤_, _<_}
 use native.Mathlib.Omega.{arith}
-use mathlib.Core.Path.{_≡_, subst, subst₃}
+use mathlib.Core.Path.{_≡_, subst, subst₂, subst₃}
 use mathlib.Core.Logic.{_⊎_, inl, inr}
 use mathlib.Core.List.{List}
 use lib.Dec.{T}
@@ -17,8 +17,10 @@ use Rattle.floor.specs.declared.Floor.{Floor}
 use Rattle.floor.specs.declared.FloorAnswer.the-variants.{Read as FloorAccepted}
 use Rattle.plan.specs.Plan.{PlanNumbers, rejected, readPlan}
 use Rattle.plan.specs.After.{ReadAs}
-use Rattle.moves.specs.Promises.{LowestLeft, FirstRefused}
+use Rattle.moves.specs.Promises.{Moving, LowestLeft, FirstRefused}
 use Rattle.moves.specs.Demands.{read-once, first-11}
+use Rattle.conflict.specs.Meaning.{Vertex, Swap, Conflict, Earliest}
+use Rattle.conflict.specs.OfPlan.{planRoutes, ConflictFree}
 use Rattle.grammar.specs.Grammar.{top, Clause}
 use Rattle.cltl.specs.Meaning.{Run, TrueOf, TrueInStep}
 use Rattle.cltl.specs.Rules.{hasNext}
@@ -36,13 +38,13 @@ module _ (floor plan sheet : List ℕ) (yes : Type 0) (w : Means floor plan shee
     clause-in-run a r plain run k q = each (TrueOf (planRows floor f p) run) top cs k (w .runs a f p cs r plain run) q
 
     -- in step: what is true of every clause is accepted, and nothing else is
-    pub accepted-in-step : ReadAndOpen floor plan sheet f p cs → p .head .drift ≡ 0 → All (TrueInStep (planRows floor f p)) cs → yes
-    accepted-in-step r none all = w .in-step f p (r .files) none .1 (cs, r, all)
+    pub accepted-in-step : ReadAndOpen floor plan sheet f p cs → ConflictFree floor f p → p .head .drift ≡ 0 → All (TrueInStep (planRows floor f p)) cs → yes
+    accepted-in-step r free none all = w .in-step f p (r .files) none .1 (cs, r, free, all)
 
     pub true-in-step : ReadAndOpen floor plan sheet f p cs → p .head .drift ≡ 0 → yes → All (TrueInStep (planRows floor f p)) cs
     true-in-step r none a =
         let x = w .in-step f p (r .files) none .0 a in
-        subst (All (TrueInStep (planRows floor f p))) (same-clauses sheet (x .0) cs (x .1 .clauses) (r .clauses)) (x .2)
+        subst (All (TrueInStep (planRows floor f p))) (same-clauses sheet (x .0) cs (x .1 .clauses) (r .clauses)) (x .3)
 
     -- with drift: what the rules keep is accepted, and nothing else is
     pub accepted-kept : NoneAhead floor plan sheet f p cs → All (Kept (planRows floor f p) (p .head .drift)) cs → yes
@@ -50,6 +52,15 @@ module _ (floor plan sheet : List ℕ) (yes : Type 0) (w : Means floor plan shee
 
     pub kept-accepted : NoneAhead floor plan sheet f p cs → yes → All (Kept (planRows floor f p) (p .head .drift)) cs
     kept-accepted a y = w .kept f p cs a .0 y
+
+  -- no run within the drift has two carts in one narrow place at a moment, nor exchanges two between narrow places in one tick
+  module _ (y : yes) (f : Floor) (p : PlanNumbers) (files : ReadAs floor plan f p) (run : Run (f .carts) (p .head .drift)) (t a b : ℕ)
+      (here : a < f .carts) (there : b < f .carts) (two : a ≡ b → ⊥) where
+    pub never-meet : Vertex (planRoutes floor f p) (run .at) t a b → ⊥
+    never-meet c = w .conflict-free y f p files run t a b here there two (inl c)
+
+    pub never-exchanged : Swap (planRoutes floor f p) (run .at) t a b → ⊥
+    never-exchanged c = w .conflict-free y f p files run t a b here there two (inr c)
 
   -- every smaller drift: the check's own answer on the plan with other bytes for d, and what that plan is
   module _ (f : Floor) (p : PlanNumbers) (files : ReadAs floor plan f p) (d : ℕ) (less : d ≤ p .head .drift) where
@@ -63,11 +74,11 @@ module _ (floor plan sheet : List ℕ) (yes : Type 0) (w : Means floor plan shee
   pub no-next : yes → (f : Floor) × (p : PlanNumbers) × (cs : List Clause) × ReadAndOpen floor plan sheet f p cs × ((p .head .drift ≡ 0) ⊎ All Plain cs)
   no-next e = let a = w .readable e in (a .0, a .1, a .2, a .3 .readable, a .3 .no-16)
 
----- Refused by 11, 16 or 17, in the caller's own reading of floor, plan and sheet.
+---- Refused by 11, 20, 16 or 17, in the caller's own reading of floor, plan and sheet.
 -- 11: step k is the lowest that cart c leaves by a move that is not open, and the cart is on another place after it
 pub check-11 : (floor plan sheet : List ℕ) (v : Verdict) → PlanChecked floor plan sheet v → (f : Floor) (p : PlanNumbers) → ReadAs floor plan f p
     → (c k : ℕ) → v ≡ AboutPlan (refused 11 c k) → LowestLeft floor p c k
-check-11 floor plan sheet v w f p files c k e = let x = w .plan-refused (refused 11 c k) e in go (x .0) (x .1) (x .2)
+check-11 floor plan sheet v w f p files c k e = let x = w .plan-refused (refused 11 c k) e (λ z. omega arith) in go (x .0) (x .1) (x .2)
   where
     go : (g : Floor) → readFloor floor ≡ FloorAccepted g
         → (readPlan g plan ≡ rejected (refused 11 c k)) ⊎ ((q : PlanNumbers) × ReadAs floor plan g q × FirstRefused floor g q (AboutPlan (refused 11 c k)))
@@ -76,6 +87,20 @@ check-11 floor plan sheet v w f p files c k e = let x = w .plan-refused (refused
     go g a (inr r) =
         let same = read-once floor plan g f (r .0) p (r .1) files in
         subst (λ (q : PlanNumbers). LowestLeft floor q c k) (same .1) (first-11 floor g (r .0) c k (r .2))
+
+-- 20: cart c is the lowest in any conflict, and s the step of its earliest counter in one
+pub check-20 : (floor plan sheet : List ℕ) (v : Verdict) → PlanChecked floor plan sheet v → (f : Floor) (p : PlanNumbers) → ReadAs floor plan f p
+    → (c s : ℕ) → v ≡ AboutPlan (refused 20 c s) → Earliest (planRoutes floor f p) (p .head .drift) c s
+check-20 floor plan sheet v w f p files c s e =
+    let x = w .conflict-20 c s .0 e in
+    let m = x .moving in
+    let same = read-once floor plan (m .floor-is) f (m .numbers) p (m .read) files in
+    subst₂ (λ (g : Floor) (q : PlanNumbers). Earliest (planRoutes floor g q) (q .head .drift) c s) (same .0) (same .1) (x .earliest)
+
+-- a plan whose moves go on without end and that some run within its drift brings into a conflict is not accepted
+pub conflict-refused : (floor plan sheet : List ℕ) (v : Verdict) → PlanChecked floor plan sheet v → (m : Moving floor plan) (a k : ℕ)
+    → Conflict (planRoutes floor (m .floor-is) (m .numbers)) (m .numbers .head .drift) a k → (c : ℕ) × (s : ℕ) × (v ≡ AboutPlan (refused 20 c s))
+conflict-refused floor plan sheet v w m a k x = w .exists-20 m .1 (a, k, x)
 
 module _ (floor plan sheet : List ℕ) (v : Verdict) (w : PlanChecked floor plan sheet v) (f : Floor) (p : PlanNumbers) (cs : List Clause)
     (r : ReadAndOpen floor plan sheet f p cs) (k s : ℕ) where

@@ -17,6 +17,8 @@ use Rattle.plan.specs.After.{ReadAs}
 use Rattle.clause.specs.Meaning.{IsClause}
 use Rattle.clause.specs.declared.Span.{Span}
 use Rattle.moves.specs.Promises.{AllUnending, Moving, FirstRefused}
+use Rattle.conflict.specs.Meaning.{Earliest}
+use Rattle.conflict.specs.OfPlan.{planRoutes, ConflictFree}
 use Rattle.grammar.specs.Grammar.{top, gl, Clause, Sheet}
 use Rattle.grammar.specs.Answers.{AcceptedSheet}
 use Rattle.sheet.specs.Promises.{RulesRead}
@@ -49,7 +51,12 @@ module _ (P : Rows) (d : ℕ) where
     pub otherwise : ((a : Clause) → c ≡ gl a → ⊥) → s ≡ 0
 
 module _ (floor plan : List ℕ) where
-  -- about the plan: refused as it is read, or, once read, as the first cart is whose moves are refused
+  -- document 02, 2): "20 (lowest cart in any conflict, the step of its earliest counter in one ..)", where the moves are open without end
+  pub record Conflict20 (c s : ℕ) : Type 0 where
+    pub moving : Moving floor plan
+    pub earliest : Earliest (planRoutes floor (moving .floor-is) (moving .numbers)) (moving .numbers .head .drift) c s
+
+  -- about the plan, but for 20: refused as it is read, or, once read, as the first cart is whose moves are refused
   abbrev pub PlanRefused : Refusal → Type 0
   PlanRefused x =
       (f : Floor) × (readFloor floor ≡ FloorAccepted f)
@@ -65,14 +72,17 @@ module _ (floor plan sheet : List ℕ) where
   -- "Ahead of the clauses stand all refusals of the check but 17": there is none
   pub record NoneAhead (f : Floor) (p : PlanNumbers) (cs : List Clause) : Type 0 where
     pub readable : ReadAndOpen f p cs
+    pub no-20 : ConflictFree floor f p
     pub no-16 : (p .head .drift ≡ 0) ⊎ All Plain cs
 
-  -- "16 with d above 0, X outside a count (lowest clause, 0)": floor, plan, moves and sheet are not refused, and clause k is the lowest
+  -- "16 with d above 0, X outside a count (lowest clause, 0)": floor, plan, moves and sheet are not refused, nor by 20, and clause k
+  -- is the lowest
   pub record Next16 (k : ℕ) : Type 0 where
     pub floor-is : Floor
     pub numbers : PlanNumbers
     pub clauses : List Clause
     pub readable : ReadAndOpen floor-is numbers clauses
+    pub no-20 : ConflictFree floor floor-is numbers
     pub drift : 0 < numbers .head .drift
     pub there : k < length clauses
     pub next : T (hasNext (getD clauses k top))
@@ -89,9 +99,9 @@ module _ (floor plan sheet : List ℕ) where
     pub before : (j : ℕ) → j < k → Kept (planRows floor floor-is numbers) (numbers .head .drift) (getD clauses j top)
     pub step : FailingStep (planRows floor floor-is numbers) (numbers .head .drift) (getD clauses k top) s
 
-  -- about the sheet: the moves are open without end, and the sheet is refused as it is read
+  -- about the sheet: the moves are open without end and free of conflicts, and the sheet is refused as it is read
   abbrev pub SheetRefused : Refusal → Type 0
-  SheetRefused x = Moving floor plan × RulesRead sheet (AboutRules x)
+  SheetRefused x = (m : Moving floor plan) × ConflictFree floor (m .floor-is) (m .numbers) × RulesRead sheet (AboutRules x)
 
 -- part p of a sheet is its line k, and this line, alone, is a sheet of the clause c and no other
 pub record IsLineOf (sheet : List ℕ) (k : ℕ) (c : Clause) (p : Span) : Type 0 where

@@ -11,8 +11,8 @@ use borrow.Author.Tests.{eqb-true, eqb-false}
 use Rattle.endian.specs.Little.{Bytes}
 use Rattle.refusal.specs.Codes.{refused}
 use Rattle.refusal.specs.Stages.{isAccepted, andThen}
-use Rattle.refusal.specs.Given.{OneOf, Given, planNumbers, sheetNumbers, checkingPlan}
-use Rattle.refusal.specs.Numbered.{one-right, one-of-more}
+use Rattle.refusal.specs.Given.{OneOf, Given, planNumbers, movesNumbers, sheetNumbers, checkingMoves, checkingPlan}
+use Rattle.refusal.specs.Numbered.{one-left, one-right, among, among-one, one-of-more}
 use Rattle.refusal.specs.Accepting.{accepted-is}
 use Rattle.refusal.specs.declared.Refusal.{Refusal}
 use Rattle.refusal.specs.declared.Verdict.{Verdict}
@@ -33,6 +33,7 @@ use Rattle.moves.specs.Carts.{verdictOf, cartAnswer, movesVerdict}
 use Rattle.moves.specs.Refusing.{row-given}
 use Rattle.moves.specs.Promises.{AllUnending, Moving, FirstRefused}
 use Rattle.moves.specs.Unending.{all-unending, moves-read, promise}
+use Rattle.conflict.specs.OfPlan.{conflictVerdict, ConflictFree}
 use Rattle.grammar.specs.Grammar.{top, leaf, neg, and, or, next, until, release, ev, gl, Clause}
 use Rattle.grammar.specs.Reader.{Read, readSheet}
 use Rattle.grammar.specs.Reader as reader
@@ -44,9 +45,9 @@ use Rattle.cltl.specs.Rules.{rules, hasNext}
 use Rattle.cltl.specs.Step.{failing}
 use Rattle.cltl.specs.Lowest.{globally-fails}
 use Rattle.plancheck.specs.Check.{planRows, clausesOf, nextVerdict, keptVerdict, clausesVerdict, stages, checked}
-use Rattle.plancheck.specs.Meaning.{Plain, Kept, LowestFailing, FailingStep, ReadAndOpen, NoneAhead, Next16, Fails17, PlanRefused, SheetRefused}
+use Rattle.plancheck.specs.Meaning.{Plain, Kept, LowestFailing, FailingStep, ReadAndOpen, NoneAhead, Conflict20, Next16, Fails17, PlanRefused, SheetRefused}
 use Rattle.plancheck.specs.FirstClause.{FirstClause, first-16, first-17}
-use Rattle.plancheck.specs.Stages.{proper}
+use Rattle.plancheck.specs.Stages.{proper, on-routes}
 
 ---- The step that 17 gives.
 abbrev isGlobally : Clause → Bool
@@ -129,18 +130,18 @@ module _ (floor plan sheet : List ℕ) where
   Meant Accepted = Unit {0}
   Meant (Written n) = ⊥
   Meant (AboutFloor x) = readFloor floor ≡ FloorRefused x
-  Meant (AboutPlan x) = PlanRefused floor plan x
+  Meant (AboutPlan x) = PlanRefused floor plan x ⊎ ((x .number ≡ 20) × Conflict20 floor plan (x .first) (x .second))
   Meant (AboutRules x) =
       SheetRefused floor plan sheet x
       ⊎ (((x .number ≡ 16) × (x .second ≡ 0) × Next16 floor plan sheet (x .first)) ⊎ ((x .number ≡ 17) × Fails17 floor plan sheet (x .first) (x .second)))
 
   pub is-16 : (k s : ℕ) → Meant (AboutRules (refused 16 k s)) → (s ≡ 0) × Next16 floor plan sheet k
-  is-16 k s (inl w) = absurd (not-clause 16 (w .1 .numbers) .0 refl)
+  is-16 k s (inl w) = absurd (not-clause 16 (w .2 .numbers) .0 refl)
   is-16 k s (inr (inl w)) = (w .1, w .2)
   is-16 k s (inr (inr w)) = let z = w .0 in absurd (omega arith)
 
   pub is-17 : (k s : ℕ) → Meant (AboutRules (refused 17 k s)) → Fails17 floor plan sheet k s
-  is-17 k s (inl w) = absurd (not-clause 17 (w .1 .numbers) .1 refl)
+  is-17 k s (inl w) = absurd (not-clause 17 (w .2 .numbers) .1 refl)
   is-17 k s (inr (inl w)) = let z = w .0 in absurd (omega arith)
   is-17 k s (inr (inr w)) = w .1
 
@@ -149,20 +150,39 @@ module _ (floor plan sheet : List ℕ) where
   is-sheet x n16 n17 (inr (inl w)) = absurd (n16 (w .0))
   is-sheet x n16 n17 (inr (inr w)) = absurd (n17 (w .0))
 
+  -- reading and moves have their own numbers, and 20 is none of them
+  plan-listed : (x : Refusal) → PlanRefused floor plan x → OneOf movesNumbers (x .number)
+  plan-listed x m = go (m .2)
+    where
+      go : (readPlan (m .0) plan ≡ rejected x) ⊎ ((p : PlanNumbers) × ReadAs floor plan (m .0) p × FirstRefused floor (m .0) p (AboutPlan x))
+          → OneOf movesNumbers (x .number)
+      go (inl q) = one-of-more planNumbers movesNumbers (x .number) refl (plan-number (m .0) plan x q)
+      go (inr w) =
+          let p = w .0 in
+          subst (Given checkingMoves) (w .2 .refused)
+          (row-given checkingMoves refl refl floor (w .2 .cart) (getD (p .rows) (w .2 .cart) []) (p .head .steps) (p .head .stem))
+
+  not-20 : (x : Refusal) → PlanRefused floor plan x → x .number ≡ 20 → ⊥
+  not-20 x m e =
+      let z : true ≡ false = sym (among-one movesNumbers (x .number) (plan-listed x m)) ∙ ap (among movesNumbers) e in
+      let y : _≡_ {A = ℕ} 0 1 = cc in
+      omega arith
+
+  pub is-plan : (x : Refusal) → (x .number ≡ 20 → ⊥) → Meant (AboutPlan x) → PlanRefused floor plan x
+  is-plan x n20 (inl w) = w
+  is-plan x n20 (inr w) = absurd (n20 (w .0))
+
+  pub is-20 : (c s : ℕ) → Meant (AboutPlan (refused 20 c s)) → Conflict20 floor plan c s
+  is-20 c s (inl w) = absurd (not-20 (refused 20 c s) w refl)
+  is-20 c s (inr w) = w .1
+
   pub given : (v : Verdict) → Meant v → Given checkingPlan v
   given Accepted m = refl
   given (Written n) m = absurd m
   given (AboutFloor x) m = floor-number floor x m
-  given (AboutPlan x) m = go (m .2)
-    where
-      go : (readPlan (m .0) plan ≡ rejected x) ⊎ ((p : PlanNumbers) × ReadAs floor plan (m .0) p × FirstRefused floor (m .0) p (AboutPlan x))
-          → OneOf (checkingPlan .plan) (x .number)
-      go (inl q) = one-of-more planNumbers (checkingPlan .plan) (x .number) refl (plan-number (m .0) plan x q)
-      go (inr w) =
-          let p = w .0 in
-          subst (Given checkingPlan) (w .2 .refused)
-          (row-given checkingPlan refl refl floor (w .2 .cart) (getD (p .rows) (w .2 .cart) []) (p .head .steps) (p .head .stem))
-  given (AboutRules x) (inl w) = one-of-more sheetNumbers (checkingPlan .rules) (x .number) refl (w .1 .numbers)
+  given (AboutPlan x) (inl m) = one-left movesNumbers (20 ∷ []) (x .number) (plan-listed x m)
+  given (AboutPlan x) (inr m) = one-right movesNumbers (20 ∷ []) (x .number) (inl (m .0))
+  given (AboutRules x) (inl w) = one-of-more sheetNumbers (checkingPlan .rules) (x .number) refl (w .2 .numbers)
   given (AboutRules x) (inr (inl w)) = one-right sheetNumbers (16 ∷ 17 ∷ []) (x .number) (inl (w .0))
   given (AboutRules x) (inr (inr w)) = one-right sheetNumbers (16 ∷ 17 ∷ []) (x .number) (inr (inl (w .0)))
 
@@ -196,16 +216,16 @@ module _ (floor plan sheet : List ℕ) where
               },
             )))
 
-    on-16 : (cs : List Clause) → ReadAndOpen floor plan sheet f p cs → Meant (clausesVerdict P (p .head .drift) cs)
-    on-16 cs r = by (eqb (p .head .drift) 0) refl (first-16 cs)
+    on-16 : (cs : List Clause) → ReadAndOpen floor plan sheet f p cs → ConflictFree floor f p → Meant (clausesVerdict P (p .head .drift) cs)
+    on-16 cs r free = by (eqb (p .head .drift) 0) refl (first-16 cs)
       where
         by : (b : Bool) → eqb (p .head .drift) 0 ≡ b
             → (All Plain cs × (nextVerdict 0 cs ≡ Accepted)) ⊎ FirstClause Plain (λ c. T (hasNext c)) (λ k c. refused 16 k 0) 0 cs (nextVerdict 0 cs)
             → Meant (andThen (cond b Accepted (nextVerdict 0 cs)) (keptVerdict P (p .head .drift) 0 cs))
-        by true e w = on-17 cs (record { readable = r; no-16 = inl (eqb-true _ 0 e) })
+        by true e w = on-17 cs (record { readable = r; no-20 = free; no-16 = inl (eqb-true _ 0 e) })
         by false e (inl a) =
             subst (λ (v : Verdict). Meant (andThen v (keptVerdict P (p .head .drift) 0 cs))) (sym (a .1))
-            (on-17 cs (record { readable = r; no-16 = inr (a .0) }))
+            (on-17 cs (record { readable = r; no-20 = free; no-16 = inr (a .0) }))
         by false e (inr w) =
             let z : 0 + w .index ≡ w .index = omega arith in
             subst (λ (v : Verdict). Meant (andThen v (keptVerdict P (p .head .drift) 0 cs)))
@@ -219,6 +239,7 @@ module _ (floor plan sheet : List ℕ) where
                 numbers = p;
                 clauses = cs;
                 readable = r;
+                no-20 = free;
                 drift = let n : (p .head .drift ≡ 0 → ⊥) = eqb-false _ 0 e in omega arith;
                 there = w .there;
                 next = w .bad;
@@ -226,29 +247,50 @@ module _ (floor plan sheet : List ℕ) where
               },
             )))
 
-    on-sheet : AllUnending floor f p
+    on-sheet : AllUnending floor f p → ConflictFree floor f p
         → Meant (andThen (rulesVerdict sheet) (clausesVerdict P (p .head .drift) (clausesOf (readSheet sheet))))
     unfolding rulesVerdict
-    on-sheet u = go (readSheet sheet) refl
+    on-sheet u free = go (readSheet sheet) refl
       where
         go : (r : Read) → readSheet sheet ≡ r → Meant (andThen (readVerdict r) (clausesVerdict P (p .head .drift) (clausesOf r)))
-        go (reader.accepted cs) e = on-16 cs (record { files = files; moves = u; clauses = promises sheet .sound cs e })
+        go (reader.accepted cs) e = on-16 cs (record { files = files; moves = u; clauses = promises sheet .sound cs e }) free
         go (reader.refused w k) e =
             let moving : Moving floor plan = record { floor-is = f; numbers = p; read = files; unending = u } in
-            inl (moving, rules-read sheet _ (sym (ap readVerdict e)))
+            inl (moving, free, rules-read sheet _ (sym (ap readVerdict e)))
 
     -- a row's refusal is about the plan
     row-refused : (c : ℕ) (a : MoveAnswer) → FirstRefused floor f p (verdictOf c a) → isAccepted (verdictOf c a) ≡ false → Meant (verdictOf c a)
     row-refused c Open w e = let z : _≡_ {A = ℕ} 0 1 = cc in absurd (omega arith)
-    row-refused c Elsewhere w e = (f, files .floor-read, inr (p, files, w))
-    row-refused c (Shut s) w e = (f, files .floor-read, inr (p, files, w))
+    row-refused c Elsewhere w e = inl (f, files .floor-read, inr (p, files, w))
+    row-refused c (Shut s) w e = inl (f, files .floor-read, inr (p, files, w))
+
+    -- narrow places, by the verdict on them
+    on-conflict : AllUnending floor f p
+        → Meant (andThen (conflictVerdict floor f p) (andThen (rulesVerdict sheet) (clausesVerdict P (p .head .drift) (clausesOf (readSheet sheet)))))
+    on-conflict u = go (on-routes floor plan sheet f p files .forms)
+      where
+        moving : Moving floor plan
+        moving = record { floor-is = f; numbers = p; read = files; unending = u }
+
+        rest : Verdict
+        rest = andThen (rulesVerdict sheet) (clausesVerdict P (p .head .drift) (clausesOf (readSheet sheet)))
+
+        go : (conflictVerdict floor f p ≡ Accepted)
+            ⊎ ((c : ℕ) × (s : ℕ) × (c < f .carts) × (s < p .head .steps) × (conflictVerdict floor f p ≡ AboutPlan (refused 20 c s)))
+            → Meant (andThen (conflictVerdict floor f p) rest)
+        go (inl e) = subst (λ (v : Verdict). Meant (andThen v rest)) (sym e) (on-sheet u (on-routes floor plan sheet f p files .free .0 e))
+        go (inr w) =
+            subst (λ (v : Verdict). Meant (andThen v rest)) (sym (w .4))
+            (inr (refl, record { moving = moving; earliest = on-routes floor plan sheet f p files .told (w .0) (w .1) .0 (w .4) }))
 
     on-moves : Meant (stages floor sheet f p)
     on-moves = go (isAccepted (movesVerdict floor f p)) refl
       where
         go : (b : Bool) → isAccepted (movesVerdict floor f p) ≡ b
-            → Meant (cond b (andThen (rulesVerdict sheet) (clausesVerdict P (p .head .drift) (clausesOf (readSheet sheet)))) (movesVerdict floor f p))
-        go true e = on-sheet (all-unending floor p (valid f plan p (files .plan-read) .head .stem) f (accepted-is _ e))
+            → Meant (cond b
+            (andThen (conflictVerdict floor f p) (andThen (rulesVerdict sheet) (clausesVerdict P (p .head .drift) (clausesOf (readSheet sheet)))))
+            (movesVerdict floor f p))
+        go true e = on-conflict (all-unending floor p (valid f plan p (files .plan-read) .head .stem) f (accepted-is _ e))
         go false e =
             let q = moves-read floor plan f p files in
             let w = promise floor plan (movesVerdict floor f p) (sym q) .first f p files e in
@@ -264,7 +306,7 @@ module _ (floor plan sheet : List ℕ) where
       on-plan : (f : Floor) → readFloor floor ≡ FloorAccepted f → (a : PlanAnswer) → readPlan f plan ≡ a
           → Meant (afterPlan (λ v. v) (stages floor sheet) f a)
       on-plan f e (accepted p) q = on-moves fb f p (record { floor-read = e; plan-read = q })
-      on-plan f e (rejected x) q = (f, e, inl q)
+      on-plan f e (rejected x) q = inl (f, e, inl q)
 
       on-floor : (a : FloorAnswer) → readFloor floor ≡ a → Meant (afterFloor (λ v. v) (stages floor sheet) a plan)
       on-floor (FloorAccepted f) e = on-plan f e (readPlan f plan) refl

@@ -1,17 +1,18 @@
 -- What is accepted, stage by stage.
 use Prim.Native.Nat.{ℕ, _<_}
 use native.Mathlib.Omega.{arith}
-use mathlib.Core.Path.{_≡_, refl, sym, ap, _∙_}
+use mathlib.Core.Path.{_≡_, refl, sym, ap, ap₂, _∙_}
 use mathlib.Core.Bool.{Bool, true, false, cond}
 use mathlib.Core.Logic.{_⊎_, inl, inr}
 use mathlib.Core.List.{List}
 use lib.Dec.{eqb}
 use borrow.Author.Tests.{eq-eqb, eqb-true}
 use Rattle.endian.specs.Little.{Bytes}
+use Rattle.refusal.specs.Codes.{refused}
 use Rattle.refusal.specs.Stages.{isAccepted, andThen}
 use Rattle.refusal.specs.Accepting.{both-accepted, stops, goes-on}
 use Rattle.refusal.specs.declared.Verdict.{Verdict}
-use Rattle.refusal.specs.declared.Verdict.the-variants.{Accepted}
+use Rattle.refusal.specs.declared.Verdict.the-variants.{Accepted, Plan as AboutPlan}
 use Rattle.record.specs.All.{All}
 use Rattle.floor.specs.Located.{accepts}
 use Rattle.floor.specs.declared.Floor.{Floor}
@@ -20,7 +21,11 @@ use Rattle.plan.specs.After.{ReadAs}
 use Rattle.plan.specs.Read.{ReadingCases, floor-refused, plan-refused, both-read, reading-cases, read-on}
 use Rattle.plan.specs.RoundTrip.{valid}
 use Rattle.moves.specs.Carts.{movesVerdict}
+use Rattle.moves.specs.Promises.{AllUnending}
 use Rattle.moves.specs.Unending.{all-unending, all-accepted}
+use Rattle.conflict.specs.OfPlan.{planRoutes, conflictVerdict}
+use Rattle.conflict.specs.Promises.{Judged}
+use Rattle.conflict.specs.Judging.{judged as conflict-judged}
 use Rattle.grammar.specs.Grammar.{Clause}
 use Rattle.grammar.specs.Reader.{Read, accepted, readSheet}
 use Rattle.grammar.specs.Reader as reader
@@ -83,16 +88,25 @@ module _ (floor plan sheet : List ℕ) where
     stem-low : p .head .stem < p .head .steps
     stem-low = valid f plan p (files .plan-read) .head .stem
 
+    -- the verdict on narrow places has what is claimed of it
+    pub on-routes : Judged (planRoutes floor f p) (p .head .drift) (conflictVerdict floor f p)
+    on-routes = conflict-judged (planRoutes floor f p) (p .head .drift) (conflictVerdict floor f p) stem-low refl
+
     stages-accepted : stages floor sheet f p ≡ Accepted → (cs : List Clause) × NoneAhead floor plan sheet f p cs × All (K f p) cs
     unfolding rulesVerdict
     stages-accepted e =
         let m = both-accepted (movesVerdict floor f p) _ e in
-        let r = both-accepted (rulesVerdict sheet) _ (m .1) in
+        let n = both-accepted (conflictVerdict floor f p) _ (m .1) in
+        let r = both-accepted (rulesVerdict sheet) _ (n .1) in
         let k = clauses-accepted (planRows floor f p) (p .head .drift) (clausesOf (readSheet sheet)) (r .1) in
         let cs = promises sheet .sound _ (sheet-read (readSheet sheet) (r .0)) in (
           clausesOf (readSheet sheet),
           record
-              { readable = record { files = files; moves = all-unending floor p stem-low f (m .0); clauses = cs }; no-16 = k .0 },
+              {
+                readable = record { files = files; moves = all-unending floor p stem-low f (m .0); clauses = cs };
+                no-20 = on-routes .free .0 (n .0);
+                no-16 = k .0;
+              },
           k .1,
         )
 
@@ -101,7 +115,9 @@ module _ (floor plan sheet : List ℕ) where
   accepted-stages f p cs a k =
       let w = a .readable in
       let m = all-accepted floor p (stem-low f p (w .files)) f (w .moves) in
-      ap (λ (v : Verdict). andThen v (andThen (rulesVerdict sheet) (clausesVerdict (planRows floor f p) (p .head .drift) (clausesOf (readSheet sheet))))) m
+      let n = on-routes f p (w .files) .free .1 (a .no-20) in
+      ap₂ (λ (v u : Verdict).
+      andThen v (andThen u (andThen (rulesVerdict sheet) (clausesVerdict (planRows floor f p) (p .head .drift) (clausesOf (readSheet sheet)))))) m n
       ∙ ap (λ (r : Read). andThen (readVerdict r) (clausesVerdict (planRows floor f p) (p .head .drift) (clausesOf r))) (grammar-read sheet cs (w .clauses))
       ∙ accepted-clauses (planRows floor f p) (p .head .drift) cs (a .no-16) k
 
@@ -127,21 +143,41 @@ module _ (floor plan sheet : List ℕ) where
       go (plan-refused x q) = let z : _≡_ {A = ℕ} 0 1 = cc in absurd (omega arith)
       go (both-read f n w r) = (f, n, w)
 
+  -- 20, where the moves are open without end
+  pub as-20 : (f : Floor) (p : PlanNumbers) → ReadAs floor plan f p → AllUnending floor f p → (c k : ℕ) → conflictVerdict floor f p ≡ AboutPlan (refused 20 c k)
+      → checked floor plan sheet ≡ AboutPlan (refused 20 c k)
+  as-20 f p files u c k e =
+      let m = all-accepted floor p (stem-low f p files) f u in
+      stages-read f p files
+      ∙ ap₂ (λ (v w : Verdict).
+      andThen v (andThen w (andThen (rulesVerdict sheet) (clausesVerdict (planRows floor f p) (p .head .drift) (clausesOf (readSheet sheet)))))) m e
+
 ---- The stages one after the other, each by its own verdict.
 module _ (floor sheet : List ℕ) (f : Floor) (p : PlanNumbers) (m : Verdict) (em : m ≡ movesVerdict floor f p) where
   abbrev Rest : Verdict → Verdict
   Rest v = andThen v (clausesVerdict (planRows floor f p) (p .head .drift) (clausesOf (readSheet sheet)))
 
+  abbrev From20 : Verdict → Verdict
+  From20 v = andThen v (Rest (rulesVerdict sheet))
+
   pub stage-moves : isAccepted m ≡ false → m ≡ stages floor sheet f p
-  stage-moves e = sym (stops m (Rest (rulesVerdict sheet)) e) ∙ ap (λ (v : Verdict). andThen v (Rest (rulesVerdict sheet))) em
+  stage-moves e = sym (stops m (From20 (conflictVerdict floor f p)) e) ∙ ap (λ (v : Verdict). andThen v (From20 (conflictVerdict floor f p))) em
 
-  module _ (yes : isAccepted m ≡ true) (r : Verdict) (er : r ≡ rulesVerdict sheet) where
-    moved-on : Rest r ≡ stages floor sheet f p
-    moved-on = ap Rest er ∙ sym (goes-on m (Rest (rulesVerdict sheet)) yes) ∙ ap (λ (v : Verdict). andThen v (Rest (rulesVerdict sheet))) em
+  module _ (moved : isAccepted m ≡ true) (n : Verdict) (en : n ≡ conflictVerdict floor f p) where
+    moved-on : From20 n ≡ stages floor sheet f p
+    moved-on =
+        ap From20 en ∙ sym (goes-on m (From20 (conflictVerdict floor f p)) moved) ∙ ap (λ (v : Verdict). andThen v (From20 (conflictVerdict floor f p))) em
 
-    pub stage-sheet : isAccepted r ≡ false → r ≡ stages floor sheet f p
-    stage-sheet e = sym (stops r (clausesVerdict (planRows floor f p) (p .head .drift) (clausesOf (readSheet sheet))) e) ∙ moved-on
+    pub stage-conflict : isAccepted n ≡ false → n ≡ stages floor sheet f p
+    stage-conflict e = sym (stops n (Rest (rulesVerdict sheet)) e) ∙ moved-on
 
-    pub stage-clauses : isAccepted r ≡ true → (v : Verdict) → v ≡ clausesVerdict (planRows floor f p) (p .head .drift) (clausesOf (readSheet sheet))
-        → v ≡ stages floor sheet f p
-    stage-clauses e v ev = ev ∙ sym (goes-on r (clausesVerdict (planRows floor f p) (p .head .drift) (clausesOf (readSheet sheet))) e) ∙ moved-on
+    module _ (clear : isAccepted n ≡ true) (r : Verdict) (er : r ≡ rulesVerdict sheet) where
+      went-on : Rest r ≡ stages floor sheet f p
+      went-on = ap Rest er ∙ sym (goes-on n (Rest (rulesVerdict sheet)) clear) ∙ moved-on
+
+      pub stage-sheet : isAccepted r ≡ false → r ≡ stages floor sheet f p
+      stage-sheet e = sym (stops r (clausesVerdict (planRows floor f p) (p .head .drift) (clausesOf (readSheet sheet))) e) ∙ went-on
+
+      pub stage-clauses : isAccepted r ≡ true → (v : Verdict) → v ≡ clausesVerdict (planRows floor f p) (p .head .drift) (clausesOf (readSheet sheet))
+          → v ≡ stages floor sheet f p
+      stage-clauses e v ev = ev ∙ sym (goes-on r (clausesVerdict (planRows floor f p) (p .head .drift) (clausesOf (readSheet sheet))) e) ∙ went-on

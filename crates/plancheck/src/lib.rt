@@ -64,7 +64,7 @@ fn judge_clauses(floor: &[u8], f: Floor, h: Head, block: &[u8], rules: &[u8]) ->
     judge_with(floor, f, h, block, rules, &mut table)
 }
 
-// Checks a plan: floor, plan, moves, sheet, and then its clauses.
+// Checks a plan: floor, plan, moves, narrow places, sheet, and then its clauses.
 pub fn check(floor: &[u8], plan: &[u8], rules: &[u8]) -> Verdict
     ensures { λ v. ⌜ PlanChecked (now (floor .entry)) (now (plan .entry)) (now (rules .entry)) v ⌝ }
 {
@@ -78,6 +78,10 @@ pub fn check(floor: &[u8], plan: &[u8], rules: &[u8]) -> Verdict
     let moved = moves::judge_plan(floor, r.floor, p.head, &block);
     if !refusal::accepts(moved) {
         return moved;
+    }
+    let free = conflict::judge_plan(floor, r.floor, p.head, &block);
+    if !refusal::accepts(free) {
+        return free;
     }
     let sheet = sheet::read(rules);
     if !refusal::accepts(sheet) {

@@ -7,7 +7,7 @@ use Rattle.endian.specs.Little.{bytes}
 use Rattle.refusal.specs.Codes.{refused, atOffset, firstFault, codeOf, bytesOf}
 use Rattle.refusal.specs.Stages.{andThen}
 use Rattle.refusal.specs.Outcome.{unchanged, written}
-use Rattle.refusal.specs.Given.{readingFloor, checkingPlan, replacingRow}
+use Rattle.refusal.specs.Given.{readingFloor, checkingMoves, checkingPlan, replacingRow}
 use Rattle.refusal.specs.Numbered.{among}
 use Rattle.refusal.specs.declared.Code.{Code}
 use Rattle.refusal.specs.declared.Verdict.{Verdict}
@@ -31,10 +31,15 @@ pub verdicts :
     × (written Plan (1 ∷ 2 ∷ 3 ∷ []) (9 ∷ 9 ∷ []) ≡ unchanged (Plan (refused 18 3 0)) (9 ∷ 9 ∷ []))
     × (written Floor (1 ∷ 2 ∷ 3 ∷ []) (9 ∷ 9 ∷ 9 ∷ []) ≡ record { answer = Written 3; out = 1 ∷ 2 ∷ 3 ∷ [] })
     × (written Floor (1 ∷ 2 ∷ 3 ∷ []) (9 ∷ 9 ∷ 9 ∷ 9 ∷ []) ≡ record { answer = Written 3; out = 1 ∷ 2 ∷ 3 ∷ 9 ∷ [] })
-    -- reading a floor is never 8 or 18; a check is 17 about the rules, not about the plan; 19 is only a replacement's
+    -- reading a floor is never 8 or 18; a check is 17 about the rules, not about the plan; 19 is only a replacement's; 20 is
+    -- only a check's, and about the plan
     × (among (readingFloor .floor) 8 ≡ false)
     × (among (checkingPlan .rules) 17 ≡ true)
     × (among (checkingPlan .plan) 17 ≡ false)
     × (among (replacingRow .plan) 19 ≡ true)
+    × (among (checkingPlan .plan) 20 ≡ true)
+    × (among (checkingPlan .rules) 20 ≡ false)
+    × (among (checkingMoves .plan) 20 ≡ false)
+    × (among (replacingRow .plan) 20 ≡ false)
 unfolding bytes
-verdicts = (refl, refl, refl, refl, refl, refl, refl, refl, refl, refl, refl, refl, refl, refl, refl, refl)
+verdicts = (refl, refl, refl, refl, refl, refl, refl, refl, refl, refl, refl, refl, refl, refl, refl, refl, refl, refl, refl, refl)

@@ -80,9 +80,9 @@ sheetNumbers = 12 ∷ 13 ∷ 14 ∷ 15 ∷ 7 ∷ []
 abbrev pub readingSheet : Refusals
 readingSheet = record { done = accepts; floor = []; plan = []; rules = sheetNumbers }
 
--- "Checking a plan: floor, plan, moves, sheet as above; then 16 .., then 17"
+-- "Checking a plan: floor, plan, moves, sheet as above; then 16 .., then 17"; document 02, 2): 20, "in the check only, after 11 and before the sheet"
 abbrev pub checkingPlan : Refusals
-checkingPlan = record { done = accepts; floor = floorNumbers; plan = movesNumbers; rules = sheetNumbers ++ (16 ∷ 17 ∷ []) }
+checkingPlan = record { done = accepts; floor = floorNumbers; plan = movesNumbers ++ (20 ∷ []); rules = sheetNumbers ++ (16 ∷ 17 ∷ []) }
 
 -- "Moving on by s: floor and plan as for reading; 18"
 abbrev pub movingOn : Refusals
