@@ -34,12 +34,14 @@ struct cartplan_verdict cartplan_read_plan(const uint8_t *floor, size_t floor_le
                                            const uint8_t *plan, size_t plan_len);
 
 /* Writes a floor to out: a place for each number of places (its 32 marks, m0 lowest), a lane for each three bytes of lanes
- * (from, to, classes), a cart for each two bytes of carts (class, start). Bytes of out past the result stay. Numbers that no
- * floor can hold are refused as reading them would be, at the offset that they would have in the file; bytes left over in
- * lanes or carts are a record of wrong body length (4). Then 18 with the length needed, if out is shorter. */
+ * (from, to, classes), a cart for each two bytes of carts (class, start), a narrow place for each byte of narrow (the place; the
+ * same one may stand twice). Bytes of out past the result stay. Numbers that no floor can hold are refused as reading them would
+ * be, at the offset that they would have in the file; bytes left over in lanes or carts are a record of wrong body length (4).
+ * Then 18 with the length needed, if out is shorter. */
 struct cartplan_verdict cartplan_write_floor(const uint32_t *places, size_t place_count,
                                              const uint8_t *lanes, size_t lanes_len,
                                              const uint8_t *carts, size_t carts_len,
+                                             const uint8_t *narrow, size_t narrow_len,
                                              uint8_t *out, size_t out_len);
 
 /* Writes a plan for a floor to out: its head (h steps, first step l of the lap, drift d) and a row for each h bytes of rows.
@@ -59,9 +61,12 @@ struct cartplan_verdict cartplan_read_rules(const uint8_t *rules, size_t rules_l
 struct cartplan_verdict cartplan_check_moves(const uint8_t *floor, size_t floor_len,
                                              const uint8_t *plan, size_t plan_len);
 
-/* Checks a plan. The refusals of cartplan_check_moves come first, then those of cartplan_read_rules; then, about the rules: with
- * a drift above 0, 16 (clause, 0) for the lowest clause with X outside a count; then 17 (clause, step) for the lowest clause that
- * is not true, the step being the lowest at which its body fails if its outermost operator is G, else 0. */
+/* Checks a plan. The refusals of cartplan_check_moves come first; then, about the plan, 20 (cart, step) if in some run within
+ * the drift two carts are in one narrow place at a moment, or two are exchanged between two narrow places in one tick: the lowest
+ * cart in any such conflict, and the step of its earliest counter in one, for an exchange the counter before the tick. Then the
+ * refusals of cartplan_read_rules; then, about the rules: with a drift above 0, 16 (clause, 0) for the lowest clause with X
+ * outside a count; then 17 (clause, step) for the lowest clause that is not true, the step being the lowest at which its body
+ * fails if its outermost operator is G, else 0. */
 struct cartplan_verdict cartplan_check(const uint8_t *floor, size_t floor_len,
                                        const uint8_t *plan, size_t plan_len,
                                        const uint8_t *rules, size_t rules_len);

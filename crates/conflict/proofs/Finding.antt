@@ -12,9 +12,9 @@ use Rattle.row.specs.Lasso.{stepOf}
 use Rattle.row.specs.Round.{pick}
 use Rattle.plan.specs.declared.Head.{Head}
 use Rattle.conflict.specs.Meaning.{Routes, placeAt, Narrow}
-use Rattle.conflict.specs.Met.{Same, Exchanged, Met, same-meets, exchange-meets, meets-cases, true-T}
-use Rattle.conflict.specs.Table.{flag, blockPlace, Goes, tableRoutes}
-use Rattle.conflict.specs.Columns.{Decides, Some, Between, Last, LastOn, Latest, near}
+use Rattle.conflict.specs.Met.{Same, Exchanged, Met, same-meets, exchange-meets, meets-cases}
+use Rattle.conflict.specs.Table.{flag, blockPlace, Goes, tableRoutes, LatestAbove}
+use Rattle.conflict.specs.Columns.{Decides, Some, LastOn, Latest, near}
 use Rattle.conflict.specs.Above.{Above}
 use Rattle.conflict.proofs.Deciding.{decides-as}
 
@@ -111,7 +111,7 @@ module _ (P : Routes) (d a v : ℕ) (there : a < P .carts) where
 pub record Look (bays block last : List ℕ) (carts : ℕ) (h : Head) (a v p : ℕ) : Type 0 where
   pub there : a < carts
   pub at : p ≡ placeAt (tableRoutes bays carts h block) a v
-  pub latest : Latest (suc a) carts (placeAt (tableRoutes bays carts h block)) (suc (v + h .drift)) last
+  pub latest : LatestAbove block carts h a (suc (v + h .drift)) last
 
 module _ {bays block last : List ℕ} {carts : ℕ} {h : Head} {a v p : ℕ} (k : Look bays block last carts h a v p) where
   abbrev P : Routes

@@ -4,7 +4,7 @@ use native.Mathlib.Omega.{arith}
 use mathlib.Core.Path.{_≡_, refl, sym, ap, subst, _∙_}
 use mathlib.Core.Bool.{Bool, true, false, not}
 use mathlib.Core.List.{List, []}
-use mathlib.Core.Logic.{_⊎_, inl, inr}
+use mathlib.Core.Logic.{inl, inr}
 use lib.ListN.{getD}
 use lib.Seq.{getD-take, getD-drop}
 use Rattle.refusal.specs.Stages.{isAccepted}
@@ -20,7 +20,7 @@ use Rattle.conflict.specs.Search.{narrowVerdict}
 use Rattle.conflict.specs.Cleared.{apart}
 use Rattle.conflict.specs.Outcomes.{Told, Outcome, same-outcome}
 use Rattle.conflict.specs.Found.{found}
-use Rattle.conflict.specs.Table.{flag, blockPlace, tableRoutes, heldRoutes, Marks}
+use Rattle.conflict.specs.Table.{flag, blockPlace, tableRoutes, heldRoutes, Flags}
 use Rattle.conflict.specs.Above.{FirstMet, verdictOf}
 use Rattle.conflict.specs.Lowest.{FreeBelow, all-free, next-free, told}
 use Rattle.conflict.specs.Agree.{outcome-as}
@@ -71,7 +71,7 @@ module _ (bays : List ℕ) (carts : ℕ) (h : Head) (block : List ℕ) (bytes : 
   in-row i s p q =
       sym (ap (λ (x : List ℕ). getD x s 0) (row-in carts (h .steps) block i p) ∙ getD-take (h .steps) _ s 0 q ∙ getD-drop (64 * i) block s 0)
 
-  pub answered : (v : Verdict) → Outcome (tableRoutes bays carts h block) (h .drift) v → (narrow : ℕ → Bool) → Marks bays narrow
+  pub answered : (v : Verdict) → Outcome (tableRoutes bays carts h block) (h .drift) v → (narrow : ℕ → Bool) → Flags bays narrow
       → v ≡ narrowVerdict (heldRoutes narrow carts h block) (h .drift)
   answered v o narrow marks =
       let place : ℕ → ℕ → ℕ = λ i s. getD (getD (heldNumbers carts h block .rows) i []) s 0 in

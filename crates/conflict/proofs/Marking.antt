@@ -13,7 +13,7 @@ use borrow.Author.Tests.{eqb-true, eqb-false, eq-eqb}
 use Rattle.floor.specs.Numbers.{numbersOf, narrowAt, bodyAt}
 use Rattle.floor.specs.Promises.{AcceptedFloor}
 use Rattle.floor.specs.declared.Floor.{Floor}
-use Rattle.conflict.specs.Table.{flag, Marks}
+use Rattle.conflict.specs.Table.{flag, Flags}
 use Rattle.conflict.specs.OfPlan.{named}
 
 or-true : (b : Bool) → b || true ≡ true
@@ -34,12 +34,12 @@ named-more (m ∷ ns) n p = ap (λ (b : Bool). eqb m p || b) (named-more ns n p)
     or-assoc true b c = refl
     or-assoc false b c = refl
 
-pub none-named : (bays : List ℕ) → ((p : ℕ) → getD bays p 0 ≡ 0) → Marks bays (named [])
+pub none-named : (bays : List ℕ) → ((p : ℕ) → getD bays p 0 ≡ 0) → Flags bays (named [])
 unfolding named
 none-named bays z p l = ap (λ (n : ℕ). not (eqb n 0)) (z p)
 
-pub one-marked : (bays ns : List ℕ) (i q : ℕ) → length bays ≡ 256 → q < 256 → i < length ns → q ≡ getD ns i 0 → Marks bays (named (take i ns))
-    → Marks (set bays q 1) (named (take (i + 1) ns))
+pub one-marked : (bays ns : List ℕ) (i q : ℕ) → length bays ≡ 256 → q < 256 → i < length ns → q ≡ getD ns i 0 → Flags bays (named (take i ns))
+    → Flags (set bays q 1) (named (take (i + 1) ns))
 one-marked bays ns i q size low there e m p l =
     by (eqb (getD ns i 0) p) refl
     ∙ sym (named-more (take i ns) (getD ns i 0) p)

@@ -9,11 +9,11 @@ use Rattle.row.specs.Lasso.{nextStep, stepOf}
 use Rattle.row.specs.Round.{pick, step-low, step-below}
 use Rattle.plan.specs.declared.Head.{Head}
 use Rattle.conflict.specs.Meaning.{Routes}
-use Rattle.conflict.specs.Table.{blockPlace, tableRoutes}
+use Rattle.conflict.specs.Table.{blockPlace, tableRoutes, LatestAbove}
 use Rattle.conflict.specs.Columns.{Decides, Entered}
 use Rattle.conflict.specs.Above.{Above, FirstAbove}
 use Rattle.conflict.proofs.Deciding.{if-true, if-false}
-use Rattle.conflict.proofs.Tracking.{follows, follows-next, LatestAbove, column}
+use Rattle.conflict.proofs.Tracking.{follows, follows-next, column}
 
 pub zeros : (n p : ℕ) → _≡_ {A = ℕ} (getD (replicate n 0) p 0) 0
 zeros zero p = refl
@@ -26,11 +26,11 @@ pub record Searching (bays block : List ℕ) (carts : ℕ) (h : Head) (a : ℕ) 
   pub within : v ≤ h .steps + h .drift
   pub here : sv ≡ stepOf (h .steps) (h .stem) v
   pub ahead : sw ≡ stepOf (h .steps) (h .stem) (v + h .drift)
-  pub latest : LatestAbove bays block carts h a (v + h .drift) last
+  pub latest : LatestAbove block carts h a (v + h .drift) last
   pub none : (u : ℕ) → u < v → Above (tableRoutes bays carts h block) (h .drift) a u → ⊥
 
 pub begun : {bays block : List ℕ} {carts : ℕ} {h : Head} {a : ℕ} (last : List ℕ) (sw : ℕ) → h .stem < h .steps
-    → sw ≡ stepOf (h .steps) (h .stem) (h .drift) → LatestAbove bays block carts h a (h .drift) last → Searching bays block carts h a last sw 0 0
+    → sw ≡ stepOf (h .steps) (h .stem) (h .drift) → LatestAbove block carts h a (h .drift) last → Searching bays block carts h a last sw 0 0
 begun {bays} {block} {carts} {h} {a} last sw lap e t =
     let z : h .drift ≡ 0 + h .drift = omega arith in
     record {
@@ -38,7 +38,7 @@ begun {bays} {block} {carts} {h} {a} last sw lap e t =
       within = omega arith;
       here = sym (step-low (h .steps) (h .stem) 0 (omega arith));
       ahead = e ∙ ap (stepOf (h .steps) (h .stem)) z;
-      latest = subst (λ (n : ℕ). LatestAbove bays block carts h a n last) z t;
+      latest = subst (λ (n : ℕ). LatestAbove block carts h a n last) z t;
       none = λ u p. absurd (omega arith);
     }
 
@@ -57,8 +57,8 @@ module _ {bays block : List ℕ} {carts : ℕ} {h : Head} {a : ℕ} {last : List
 
   -- the column of counter v + d entered
   pub entered : (mark : ℕ) (after : List ℕ) → mark ≡ v + d + 1 → Entered (a + 1) carts (λ b. blockPlace block b sw) mark last after
-      → LatestAbove bays block carts h a (suc (v + d)) after
-  entered mark after m r = column bays block carts h a (v + d) sw mark last after (w .ahead) (omega arith) r (w .latest)
+      → LatestAbove block carts h a (suc (v + d)) after
+  entered mark after m r = column block carts h a (v + d) sw mark last after (w .ahead) (omega arith) r (w .latest)
 
   module _ (t : Bool) (e : Decides (Above P d a v) t) where
     pub stopped : t ≡ true → FirstAbove P d a sv
@@ -69,7 +69,7 @@ module _ {bays block : List ℕ} {carts : ℕ} {h : Head} {a : ℕ} {last : List
         pick u v (Above P d a u → ⊥) (w .none u)
         (λ k. let same : v ≡ u = omega arith in subst (λ (n : ℕ). Above P d a n → ⊥) same (if-false (Above P d a v) t e y))
 
-    pub onward : t ≡ false → v < h .steps + h .drift → (after : List ℕ) (nw nv : ℕ) → LatestAbove bays block carts h a (suc (v + d)) after
+    pub onward : t ≡ false → v < h .steps + h .drift → (after : List ℕ) (nw nv : ℕ) → LatestAbove block carts h a (suc (v + d)) after
         → nw ≡ nextStep (h .steps) (h .stem) sw → nv ≡ nextStep (h .steps) (h .stem) sv → Searching bays block carts h a after nw nv (v + 1)
     onward y more after nw nv latest p q =
         let z : suc (v + d) ≡ v + 1 + d = omega arith in
@@ -78,7 +78,7 @@ module _ {bays block : List ℕ} {carts : ℕ} {h : Head} {a : ℕ} {last : List
           within = omega arith;
           here = follows-next h (w .lap) v (w .here) q;
           ahead = follows h (w .lap) (v + d) (w .ahead) p ∙ ap (stepOf (h .steps) (h .stem)) z;
-          latest = subst (λ (n : ℕ). LatestAbove bays block carts h a n after) z latest;
+          latest = subst (λ (n : ℕ). LatestAbove block carts h a n after) z latest;
           none = none-more y;
         }
 

@@ -1,16 +1,15 @@
 -- The table of latest counters, column by column.
-use Prim.Native.Nat.{ℕ, suc, _+_, _≤_, _<_}
+use Prim.Native.Nat.{ℕ, suc, _+_, _<_}
 use native.Mathlib.Omega.{arith}
 use native.Mathlib.Numerals.{add-one}
 use mathlib.Core.Path.{_≡_, sym, ap, subst, _∙_}
 use mathlib.Core.List.{List}
-use mathlib.Core.Logic.{_⊎_, inl, inr, ⊎-elim}
+use mathlib.Core.Logic.{inl, inr, ⊎-elim}
 use lib.ListN.{length, getD}
 use Rattle.row.specs.Lasso.{nextStep, stepOf}
 use Rattle.row.specs.Round.{pick, step-next}
 use Rattle.plan.specs.declared.Head.{Head}
-use Rattle.conflict.specs.Meaning.{placeAt}
-use Rattle.conflict.specs.Table.{blockPlace, tableRoutes}
+use Rattle.conflict.specs.Table.{blockPlace, counterPlace, LatestAbove}
 use Rattle.conflict.specs.Columns.{Some, Entered, Between, Last, LastOn, Latest}
 
 module _ (from top : ℕ) (place : ℕ → ℕ → ℕ) where
@@ -49,15 +48,10 @@ module _ (h : Head) (lap : h .stem < h .steps) (v : ℕ) {s n : ℕ} (e : s ≡ 
   pub follows-next : n ≡ stepOf (h .steps) (h .stem) (v + 1)
   follows-next = follows ∙ ap (stepOf (h .steps) (h .stem)) (sym (add-one v))
 
--- where those above cart a were at the counters below w, by the table
-abbrev pub LatestAbove : List ℕ → List ℕ → ℕ → Head → ℕ → ℕ → List ℕ → Type 0
-LatestAbove bays block carts h a w last = Latest (suc a) carts (placeAt (tableRoutes bays carts h block)) w last
-
 -- the places of carts at a counter are in the column of its step
-pub column : (bays block : List ℕ) (carts : ℕ) (h : Head) (a w s mark : ℕ) (before after : List ℕ) → s ≡ stepOf (h .steps) (h .stem) w → mark ≡ suc w
-    → Entered (a + 1) carts (λ b. blockPlace block b s) mark before after → LatestAbove bays block carts h a w before
-    → LatestAbove bays block carts h a (suc w) after
-column bays block carts h a w s mark before after e m r t =
-    onward (suc a) carts (placeAt (tableRoutes bays carts h block)) w mark before after t m
-    (subst (λ (n : ℕ). Entered n carts (λ b. blockPlace block b (stepOf (h .steps) (h .stem) w)) mark before after) (add-one a)
+pub column : (block : List ℕ) (carts : ℕ) (h : Head) (a w s mark : ℕ) (before after : List ℕ) → s ≡ stepOf (h .steps) (h .stem) w → mark ≡ suc w
+    → Entered (a + 1) carts (λ b. blockPlace block b s) mark before after → LatestAbove block carts h a w before → LatestAbove block carts h a (suc w) after
+column block carts h a w s mark before after e m r t =
+    onward (suc a) carts (counterPlace h block) w mark before after t m
+    (subst (λ (n : ℕ). Entered n carts (λ b. counterPlace h block b w) mark before after) (add-one a)
     (subst (λ (k : ℕ). Entered (a + 1) carts (λ b. blockPlace block b k) mark before after) e r))

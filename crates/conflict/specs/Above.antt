@@ -1,5 +1,5 @@
 -- A cart's meetings with those above it.
-use Prim.Native.Nat.{ℕ, suc, _+_, _<_}
+use Prim.Native.Nat.{ℕ, _+_, _<_}
 use mathlib.Core.Path.{_≡_}
 use Rattle.row.specs.Lasso.{stepOf}
 use Rattle.refusal.specs.Codes.{refused}

@@ -1,17 +1,17 @@
 -- Routes that agree on the steps of their carts have the same conflicts.
 use Prim.Native.Nat.{ℕ, suc, _<_}
-use mathlib.Core.Path.{_≡_, sym, ap, subst, _∙_}
+use mathlib.Core.Path.{_≡_, sym, subst, _∙_}
 use mathlib.Core.Bool.{Bool}
-use mathlib.Core.Logic.{_⊎_, inl, inr, ⊎-elim}
+use mathlib.Core.Logic.{inl, inr, ⊎-elim}
 use lib.Dec.{T}
 use Rattle.refusal.specs.declared.Verdict.{Verdict}
 use Rattle.row.specs.Lasso.{stepOf}
 use Rattle.row.specs.Round.{step-below}
 use Rattle.conflict.specs.Meaning.{Routes, placeAt, Narrow, Conflict, Earliest}
 use Rattle.conflict.specs.Search.{meets}
-use Rattle.conflict.specs.Met.{Met, same-meets, exchange-meets, meets-cases}
+use Rattle.conflict.specs.Met.{same-meets, exchange-meets, meets-cases}
 use Rattle.conflict.specs.Reached.{reached, met}
-use Rattle.conflict.specs.Outcomes.{Told, Outcome, free-none, none-free}
+use Rattle.conflict.specs.Outcomes.{Outcome, free-none, none-free}
 
 -- the places, and whether they are narrow
 abbrev pub Agree : (carts h : ℕ) → (ℕ → ℕ → ℕ) → (ℕ → Bool) → (ℕ → ℕ → ℕ) → (ℕ → Bool) → Type 0

@@ -1,16 +1,17 @@
 -- The search's test of one cart at one counter: it fails exactly if there is a conflict.
-use Prim.Native.Nat.{ℕ, suc, _+_, _-_, _≤_, _<_}
+use Prim.Native.Nat.{ℕ, suc, _+_, _-_, _<_}
 use native.Mathlib.Omega.{arith}
 use mathlib.Core.Path.{_≡_, refl, sym, _∙_}
 use mathlib.Core.Bool.{Bool, true, false, not, _||_}
-use lib.Dec.{T, eqb}
+use mathlib.Core.Logic.{_↔_}
+use lib.Dec.{eqb}
 use borrow.Author.Tests.{ne-eqb, eqb-false, not-false, not-true}
 use Rattle.refusal.specs.Faults.{either-false}
 use Rattle.row.specs.First.{FailsFirst}
-use Rattle.row.specs.Firsts.{AllPass, FirstAnswer, all-pass, first-fault}
+use Rattle.row.specs.Firsts.{AllPass, all-pass, first-fault}
 use Rattle.conflict.specs.Meaning.{Routes, Conflict}
 use Rattle.conflict.specs.Search.{allFrom, meets, passes, clear}
-use Rattle.conflict.specs.Met.{Met, true-T, T-true}
+use Rattle.conflict.specs.Met.{true-T, T-true}
 use Rattle.conflict.specs.Reached.{reached, met}
 
 pub apart : (t : Bool) → t ≡ true → t ≡ false → ⊥
@@ -29,16 +30,6 @@ module _ (ok : ℕ → Bool) (n s : ℕ) where
   some-fails e = let w = first-fault ok (λ k. false) (λ end. true) n s (λ q. apart true refl (sym q ∙ e)) in (w .at, w .first)
 
 module _ (P : Routes) (d a v : ℕ) (there : a < P .carts) where
-  met-within : (b w : ℕ) → b < P .carts → eqb a b ≡ false → not (meets P a v b w) ≡ false → v - d ≤ w → w < v - d + (suc (v + d) - (v - d)) → Met P d a v b w
-  met-within b w p e m low high = record {
-    cart-there = there;
-    other-there = p;
-    two = eqb-false a b e;
-    behind = omega arith;
-    ahead = omega arith;
-    meeting = true-T (meets P a v b w) (not-false (meets P a v b w) m);
-  }
-
   pub not-clear : clear P d a v ≡ false → Conflict P d a v
   unfolding clear
   not-clear e =
@@ -46,7 +37,15 @@ module _ (P : Routes) (d a v : ℕ) (there : a < P .carts) where
       let b = f .0 in
       let t = either-false (eqb a b) (passes P d a v b) (f .1 .fails) in
       let g = some-fails (λ w. not (meets P a v b w)) (suc (v + d) - (v - d)) (v - d) (t .1) in
-      reached P d a v b (g .0) (met-within b (g .0) (omega (arith, f .1 .below)) (t .0) (g .1 .fails) (g .1 .from) (g .1 .below))
+      let w = g .0 in
+      reached P d a v b w (record {
+        cart-there = there;
+        other-there = omega (arith, f .1 .below);
+        two = eqb-false a b (t .0);
+        behind = omega (arith, g .1 .from);
+        ahead = omega (arith, g .1 .from, g .1 .below);
+        meeting = true-T (meets P a v b w) (not-false (meets P a v b w) (g .1 .fails));
+      })
 
 or-false : (x y : Bool) → x ≡ false → x || y ≡ true → y ≡ true
 or-false true y e h = absurd (apart true refl e)
@@ -67,3 +66,6 @@ module _ (P : Routes) (d a v : ℕ) where
 
   pub conflict-shown : Conflict P d a v → clear P d a v ≡ false
   conflict-shown c = by-false (clear P d a v) (λ e. clear-none e c)
+
+  pub clear-exact : a < P .carts → (clear P d a v ≡ false) ↔ Conflict P d a v
+  clear-exact p = (not-clear P d a v p, conflict-shown)

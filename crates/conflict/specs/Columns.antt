@@ -37,7 +37,7 @@ module _ (from top : ℕ) where
     pub until : counter < w
     pub on : Some (λ b. place b counter ≡ p)
 
-  -- m is 0 and none was on p below counter w; or it is one more than the latest such counter
+  -- m is one more than the latest counter below w at which one of them was on p
   pub record Last (place : ℕ → ℕ → ℕ) (p w m : ℕ) : Type 0 where
     pub counter : ℕ
     pub is : m ≡ suc counter
@@ -45,9 +45,11 @@ module _ (from top : ℕ) where
     pub on : Some (λ b. place b counter ≡ p)
     pub later : Between place p (suc counter) w → ⊥
 
+  -- or it is 0, and none was
   abbrev pub LastOn : (ℕ → ℕ → ℕ) → ℕ → ℕ → ℕ → Type 0
   LastOn place p w m = ((m ≡ 0) × (Between place p 0 w → ⊥)) ⊎ Last place p w m
 
+  -- a table of these numbers, by place
   pub record Latest (place : ℕ → ℕ → ℕ) (w : ℕ) (last : List ℕ) : Type 0 where
     pub size : length last ≡ 256
     pub each : (p : ℕ) → LastOn place p w (getD last p 0)

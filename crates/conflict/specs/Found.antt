@@ -1,17 +1,16 @@
 -- What the search finds is the right answer.
-use Prim.Native.Nat.{ℕ, _+_, _<_}
+use Prim.Native.Nat.{ℕ, _+_, _≤_, _<_}
 use native.Mathlib.Omega.{arith}
-use mathlib.Core.Path.{_≡_, refl, sym, ap, _∙_}
+use mathlib.Core.Path.{_≡_, refl, ap, _∙_}
 use mathlib.Core.Bool.{Bool, true, false}
 use mathlib.Core.Logic.{_⊎_, inl, inr, ⊎-elim}
 use Rattle.refusal.specs.Stages.{isAccepted}
-use Rattle.refusal.specs.Accepting.{accepted-is}
 use Rattle.refusal.specs.declared.Verdict.{Verdict}
 use Rattle.refusal.specs.declared.Verdict.the-variants.{Accepted}
 use Rattle.row.specs.Lasso.{stepOf}
 use Rattle.row.specs.Round.{step-below}
-use Rattle.row.specs.Firsts.{AllPass, FirstAnswer, Searched, searched}
-use Rattle.conflict.specs.Meaning.{Routes, Conflict, Earliest}
+use Rattle.row.specs.Firsts.{AllPass, FirstAnswer, searched}
+use Rattle.conflict.specs.Meaning.{Routes, Conflict}
 use Rattle.conflict.specs.Search.{clear, cartVerdict, narrowVerdict}
 use Rattle.conflict.specs.Shift.{early}
 use Rattle.conflict.specs.Cleared.{apart, not-clear, clear-none}
@@ -19,8 +18,8 @@ use Rattle.conflict.specs.Outcomes.{refusal20, Told, Outcome, none-free}
 
 module _ (P : Routes) (lap : P .l < P .h) (d : ℕ) where
   -- if all counters below h + d are clear, all are
-  all-clear : (a : ℕ) → AllPass (clear P d a) 0 (0 + (P .h + d)) → (v : ℕ) → Conflict P d a v → ⊥
-  all-clear a all v c =
+  all-clear : (a top : ℕ) → P .h + d ≤ top → AllPass (clear P d a) 0 top → (v : ℕ) → Conflict P d a v → ⊥
+  all-clear a top enough all v c =
       let e = early P lap d a v c in
       clear-none P d a (e .counter) (all (e .counter) (omega arith) (omega (arith, e .below))) (e .conflict)
 
@@ -37,14 +36,15 @@ module _ (P : Routes) (lap : P .l < P .h) (d : ℕ) where
   cart-found : (a : ℕ) → a < P .carts → CartOutcome a (cartVerdict P d a)
   unfolding cartVerdict
   cart-found a p =
-      ⊎-elim (λ w. inl (all-clear a (w .0), w .1))
+      let top = P .h + d in
+      ⊎-elim (λ w. inl (all-clear a (0 + top) (omega arith) (w .0), w .1))
       (λ w. inr (record {
         counter = w .at;
         conflict = not-clear P d a (w .at) p (w .first .fails);
         before = λ u q. clear-none P d a u (w .first .before u (omega arith) q);
         is = w .is;
       }))
-      (searched (clear P d a) (λ v. refusal20 a (stepOf (P .h) (P .l) v)) (λ end. Accepted) (P .h + d) 0)
+      (searched (clear P d a) (λ v. refusal20 a (stepOf (P .h) (P .l) v)) (λ end. Accepted) top 0)
 
   -- a cart that is accepted is in no conflict
   cart-free : (a : ℕ) → a < P .carts → isAccepted (cartVerdict P d a) ≡ true → (u : ℕ) → Conflict P d a u → ⊥

@@ -1,12 +1,12 @@
 -- The search's answer has all that is claimed of it.
 use Prim.Native.Nat.{ℕ, _<_}
 use mathlib.Core.Path.{_≡_, sym, ap₂, subst, _∙_}
-use mathlib.Core.Logic.{_⊎_, inl, inr, ⊎-elim}
+use mathlib.Core.Logic.{_⊎_, inl, inr}
 use Rattle.refusal.specs.declared.Verdict.{Verdict}
 use Rattle.refusal.specs.declared.Verdict.the-variants.{Accepted}
 use Rattle.conflict.specs.Meaning.{Routes, Conflict, Free, Earliest}
 use Rattle.conflict.specs.Search.{narrowVerdict}
-use Rattle.conflict.specs.Outcomes.{refusal20, Told, Outcome, unique, not-both, not-accepted, numbers-of}
+use Rattle.conflict.specs.Outcomes.{refusal20, Outcome, unique, not-both, not-accepted, numbers-of}
 use Rattle.conflict.specs.Found.{found}
 use Rattle.conflict.specs.Promises.{Judged}
 

@@ -16,8 +16,8 @@ pub mod Judging
 pub mod Smaller
 pub mod NoneNarrow
 -- what the code's contracts say
-pub mod Table
 pub mod Columns
+pub mod Table
 pub mod Above
 pub mod Lowest
 pub mod Agree

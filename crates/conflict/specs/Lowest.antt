@@ -2,10 +2,8 @@
 use Prim.Native.Nat.{ℕ, _+_, _<_}
 use native.Mathlib.Omega.{arith}
 use mathlib.Core.Path.{_≡_, refl, subst, sym}
-use Rattle.row.specs.Lasso.{stepOf}
 use Rattle.row.specs.Round.{pick, step-below}
-use Rattle.conflict.specs.Meaning.{Routes, Conflict, Free, Earliest}
-use Rattle.conflict.specs.Met.{Met}
+use Rattle.conflict.specs.Meaning.{Routes, Conflict, Free}
 use Rattle.conflict.specs.Reached.{reached, met}
 use Rattle.conflict.specs.Symmetric.{met-turned}
 use Rattle.conflict.specs.Shift.{early}

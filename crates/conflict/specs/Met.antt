@@ -3,10 +3,10 @@ use Prim.Native.Nat.{ℕ, suc, _+_, _≤_, _<_}
 use native.Mathlib.Omega.{arith}
 use mathlib.Core.Path.{_≡_, refl}
 use mathlib.Core.Bool.{Bool, true, false, _&&_, _||_}
-use mathlib.Core.Logic.{_⊎_, inl, inr, ⊎-elim}
+use mathlib.Core.Logic.{_⊎_, inl, inr}
 use lib.Dec.{T, eqb, eqb→eq}
 use borrow.Author.Tests.{eqb-true, eqb-false, eq-eqb}
-use Rattle.cltl.specs.Basics.{or-cases, or-l, or-r, and-l, and-r, and-i}
+use Rattle.cltl.specs.Basics.{or-l, or-r, and-l, and-r, and-i}
 use Rattle.conflict.specs.Meaning.{Routes, placeAt, Narrow}
 use Rattle.conflict.specs.Search.{meets}
 
@@ -37,41 +37,47 @@ module _ (P : Routes) (a v b w : ℕ) where
     pub there : placeAt P a (suc v) ≡ placeAt P b w
     pub back : placeAt P b (suc w) ≡ placeAt P a v
 
+  -- the parts of the test
   abbrev moved : Bool
   moved = eqb (placeAt P a (suc v)) q && eqb (placeAt P b (suc w)) p
 
+  abbrev changed : Bool
+  changed = P .narrow q && moved
+
   pub same-meets : Same → T (meets P a v b w)
-  same-meets s =
-      and-i (P .narrow p) (eqb p q || (P .narrow q && moved)) (s .narrow) (or-l (eqb p q) (P .narrow q && moved) (true-T (eqb p q) (eq-eqb p q (s .one))))
+  same-meets s = and-i (P .narrow p) (eqb p q || changed) (s .narrow) (or-l (eqb p q) changed (true-T (eqb p q) (eq-eqb p q (s .one))))
 
   pub exchange-meets : Exchanged → T (meets P a v b w)
   exchange-meets x =
-      let there = true-T (eqb (placeAt P a (suc v)) q) (eq-eqb (placeAt P a (suc v)) q (x .there)) in
-      let back = true-T (eqb (placeAt P b (suc w)) p) (eq-eqb (placeAt P b (suc w)) p (x .back)) in
-      and-i (P .narrow p) (eqb p q || (P .narrow q && moved)) (x .narrow)
-      (or-r (eqb p q) (P .narrow q && moved)
-      (and-i (P .narrow q) moved (x .other-narrow) (and-i (eqb (placeAt P a (suc v)) q) (eqb (placeAt P b (suc w)) p) there back)))
+      let next = placeAt P a (suc v) in
+      let next′ = placeAt P b (suc w) in
+      let there = true-T (eqb next q) (eq-eqb next q (x .there)) in
+      let back = true-T (eqb next′ p) (eq-eqb next′ p (x .back)) in
+      and-i (P .narrow p) (eqb p q || changed) (x .narrow)
+      (or-r (eqb p q) changed (and-i (P .narrow q) moved (x .other-narrow) (and-i (eqb next q) (eqb next′ p) there back)))
 
   -- the place decides: in one place they are in it, else they exchange
   pub meets-cases : T (meets P a v b w) → Same ⊎ (((placeAt P a v ≡ placeAt P b w) → ⊥) × Exchanged)
-  meets-cases m = go (eqb p q) refl (and-r (P .narrow p) (eqb p q || (P .narrow q && moved)) m)
+  meets-cases m = go (eqb p q) refl (and-r (P .narrow p) (eqb p q || changed) m)
     where
       here : Narrow P p
-      here = and-l (P .narrow p) (eqb p q || (P .narrow q && moved)) m
+      here = and-l (P .narrow p) (eqb p q || changed) m
 
-      go : (t : Bool) → eqb p q ≡ t → T (t || (P .narrow q && moved)) → Same ⊎ ((p ≡ q → ⊥) × Exchanged)
-      go true e n = inl (record { narrow = here; one = eqb-true p q e })
-      go false e n =
+      exchanged : T changed → Exchanged
+      exchanged n =
+          let next = placeAt P a (suc v) in
+          let next′ = placeAt P b (suc w) in
           let k = and-r (P .narrow q) moved n in
-          inr (
-            eqb-false p q e,
-            record {
-              narrow = here;
-              other-narrow = and-l (P .narrow q) moved n;
-              there = eqb→eq (placeAt P a (suc v)) q (and-l (eqb (placeAt P a (suc v)) q) (eqb (placeAt P b (suc w)) p) k);
-              back = eqb→eq (placeAt P b (suc w)) p (and-r (eqb (placeAt P a (suc v)) q) (eqb (placeAt P b (suc w)) p) k);
-            },
-          )
+          record {
+            narrow = here;
+            other-narrow = and-l (P .narrow q) moved n;
+            there = eqb→eq next q (and-l (eqb next q) (eqb next′ p) k);
+            back = eqb→eq next′ p (and-r (eqb next q) (eqb next′ p) k);
+          }
+
+      go : (t : Bool) → eqb p q ≡ t → T (t || changed) → Same ⊎ ((p ≡ q → ⊥) × Exchanged)
+      go true e n = inl (record { narrow = here; one = eqb-true p q e })
+      go false e n = inr (eqb-false p q e, exchanged n)
 
 -- carts a and b, two of the fleet, meet at counters at most d apart
 pub record Met (P : Routes) (d a v b w : ℕ) : Type 0 where

@@ -1,5 +1,5 @@
 -- What is claimed of a verdict on narrow places, for any routes with a lap and any drift.
-use Prim.Native.Nat.{ℕ, _≤_, _<_}
+use Prim.Native.Nat.{ℕ, _<_}
 use mathlib.Core.Path.{_≡_}
 use mathlib.Core.Logic.{_⊎_, _↔_}
 use Rattle.refusal.specs.Codes.{refused}

@@ -1,8 +1,7 @@
 -- Whom a cart is in conflict with is in conflict with it.
 use Prim.Native.Nat.{ℕ}
-use native.Mathlib.Omega.{arith}
-use mathlib.Core.Path.{_≡_, refl, sym, subst}
-use mathlib.Core.Logic.{_⊎_, inl, inr, ⊎-elim}
+use mathlib.Core.Path.{refl, sym, subst}
+use mathlib.Core.Logic.{inl, inr, ⊎-elim}
 use lib.Dec.{T}
 use Rattle.conflict.specs.Meaning.{Routes, Narrow, Vertex, Swap, Conflicting, Conflict}
 use Rattle.conflict.specs.Search.{meets}

@@ -1,15 +1,17 @@
 -- Narrow places by a table, and the routes of a block of rows.
-use Prim.Native.Nat.{ℕ, _+_, _*_, _≤_, _<_}
+use Prim.Native.Nat.{ℕ, suc, _+_, _*_, _<_}
 use mathlib.Core.Path.{_≡_}
-use mathlib.Core.Bool.{Bool, true, false, not}
+use mathlib.Core.Bool.{Bool, not}
 use mathlib.Core.List.{List}
 use lib.Dec.{eqb}
 use lib.ListN.{getD}
 use Rattle.plan.specs.Plan.{placeOnStep, heldNumbers}
 use Rattle.plan.specs.declared.Head.{Head}
+use Rattle.row.specs.Lasso.{stepOf}
 use Rattle.conflict.specs.Meaning.{Routes}
+use Rattle.conflict.specs.Columns.{Latest}
 
--- what is marked in a table of numbers
+-- whether a place is marked in a table of numbers
 abbrev pub flag : List ℕ → ℕ → Bool
 flag bays p = not (eqb (getD bays p 0) 0)
 
@@ -36,6 +38,14 @@ heldRoutes narrow carts h block = record {
   narrow = narrow;
 }
 
--- a table marks the places that are narrow; places are bytes
-abbrev pub Marks : List ℕ → (ℕ → Bool) → Type 0
-Marks bays narrow = (p : ℕ) → p < 256 → flag bays p ≡ narrow p
+-- the place of cart i at counter v
+abbrev pub counterPlace : Head → List ℕ → ℕ → ℕ → ℕ
+counterPlace h block i v = blockPlace block i (stepOf (h .steps) (h .stem) v)
+
+-- by a table, where the carts above a were latest at the counters below w
+abbrev pub LatestAbove : List ℕ → ℕ → Head → ℕ → ℕ → List ℕ → Type 0
+LatestAbove block carts h a w last = Latest (suc a) carts (counterPlace h block) w last
+
+-- the table has the narrow places; places are bytes
+abbrev pub Flags : List ℕ → (ℕ → Bool) → Type 0
+Flags bays narrow = (p : ℕ) → p < 256 → flag bays p ≡ narrow p

@@ -6,9 +6,8 @@ ghost use mathlib.Core.Path.{_≡_};
 ghost use Prim.Native.Nat.{suc, _+_, _≤_, _<_};
 ghost use lib.ListN.{length};
 ghost use Rattle.row.specs.Lasso.{stepOf};
-ghost use Rattle.conflict.specs.Meaning.{placeAt};
-ghost use Rattle.conflict.specs.Table.{tableRoutes};
-ghost use Rattle.conflict.specs.Columns.{Decides, Latest, near};
+ghost use Rattle.conflict.specs.Table.{tableRoutes, LatestAbove};
+ghost use Rattle.conflict.specs.Columns.{Decides, near};
 ghost use Rattle.conflict.specs.Above.{Above, FirstMet};
 
 // Whether an entry of the table is of a counter that v is at most d ahead of.
@@ -38,7 +37,7 @@ fn meets_above(
     requires { ⌜ length (now block) ≡ 2048 ⌝ }
     requires { ⌜ (h .stem < h .steps) × (h .steps ≤ 64) × (h .drift ≤ 16) × (carts ≤ 32) × (a < carts) ⌝ }
     requires { ⌜ (sv ≡ stepOf (h .steps) (h .stem) v) × (sw ≡ stepOf (h .steps) (h .stem) (v + h .drift)) ⌝ }
-    requires { ⌜ Latest (suc a) carts (placeAt (tableRoutes (now bays) carts h (now block))) (suc (v + h .drift)) (now last) ⌝ }
+    requires { ⌜ LatestAbove (now block) carts h a (suc (v + h .drift)) (now last) ⌝ }
     ensures { λ r. ⌜ Decides (Above (tableRoutes (now (bays .entry)) carts h (now (block .entry))) (h .drift) a v) r ⌝ }
 {
     let p = columns::place_on(block, a, sv);
@@ -64,19 +63,11 @@ fn meets_above(
 }
 
 // Enters where those above cart a are at the counters below d; the step of counter d.
-fn lead(
-    last: &mut [u8; 256],
-    bays: &[u8; 256],
-    block: &[u8],
-    carts: usize,
-    h: Head,
-    a: usize,
-) -> usize
+fn lead(last: &mut [u8; 256], block: &[u8], carts: usize, h: Head, a: usize) -> usize
     requires { ⌜ length (now block) ≡ 2048 ⌝ }
     requires { ⌜ (h .stem < h .steps) × (h .steps ≤ 64) × (h .drift ≤ 16) × (carts ≤ 32) × (a < carts) ⌝ }
-    requires { ⌜ Latest (suc a) carts (placeAt (tableRoutes (now bays) carts h (now block))) 0 (now last) ⌝ }
-    ensures { λ r. ⌜ (r ≡ stepOf (h .steps) (h .stem) (h .drift))
-        × Latest (suc a) carts (placeAt (tableRoutes (now (bays .entry)) carts h (now (block .entry)))) (h .drift) (now (last .exit)) ⌝ }
+    requires { ⌜ LatestAbove (now block) carts h a 0 (now last) ⌝ }
+    ensures { λ r. ⌜ (r ≡ stepOf (h .steps) (h .stem) (h .drift)) × LatestAbove (now (block .entry)) carts h a (h .drift) (now (last .exit)) ⌝ }
 {
     let mut s = 0;
     let mut w = 0;
@@ -101,7 +92,7 @@ pub(crate) fn first_above(
     ensures { λ r. ⌜ FirstMet (tableRoutes (now (bays .entry)) carts h (now (block .entry))) (h .drift) a r ⌝ }
 {
     let mut last = [0u8; 256];
-    let mut sw = lead(&mut last, bays, block, carts, h, a);
+    let mut sw = lead(&mut last, block, carts, h, a);
     let mut sv = 0;
     let mut v = 0;
     while v < h.steps + h.drift {

@@ -9,7 +9,7 @@ ghost use Prim.Native.Nat.{ℕ, _≤_, _<_};
 ghost use lib.ListN.{length};
 ghost use Rattle.conflict.specs.declared.Meeting.the-variants.{On};
 ghost use Rattle.conflict.specs.Search.{narrowVerdict};
-ghost use Rattle.conflict.specs.Table.{Marks, heldRoutes};
+ghost use Rattle.conflict.specs.Table.{Flags, heldRoutes};
 ghost use Rattle.conflict.specs.Above.{verdictOf};
 
 // A cart's first meeting, as a verdict.
@@ -27,7 +27,7 @@ fn verdict_of(a: usize, m: Meeting) -> Verdict
 pub(crate) fn judge_carts(bays: &[u8; 256], carts: usize, h: Head, block: &[u8]) -> Verdict
     requires { ⌜ length (now block) ≡ 2048 ⌝ }
     requires { ⌜ (h .stem < h .steps) × (h .steps ≤ 64) × (h .drift ≤ 16) × (carts ≤ 32) ⌝ }
-    ensures { λ r. ⌜ ((narrow : ℕ → Bool) → Marks (now (bays .entry)) narrow
+    ensures { λ r. ⌜ ((narrow : ℕ → Bool) → Flags (now (bays .entry)) narrow
         → r ≡ narrowVerdict (heldRoutes narrow carts h (now (block .entry))) (h .drift)) ⌝ }
 {
     let mut c: usize = 0;

@@ -47,7 +47,7 @@ fn goes(block: &[u8], b: usize, step: usize, next: usize, q: usize, p: usize) ->
     place_on(block, b, next) == p
 }
 
-// Whether one of the carts from one on does.
+// Whether one of the carts from one on does so.
 pub(crate) fn exchanged(
     block: &[u8],
     from: usize,

@@ -1,13 +1,13 @@
 // The narrow places of a floor as a table.
 use floor::Floor;
 ghost use Rattle.floor.specs.Promises.{AcceptedFloor};
-ghost use Rattle.conflict.specs.Table.{Marks};
+ghost use Rattle.conflict.specs.Table.{Flags};
 ghost use Rattle.conflict.specs.OfPlan.{isNarrow};
 
-// Marks each place that a record of kind 6 names.
+// Flags each place that a record of kind 6 names.
 pub(crate) fn marked(floor: &[u8], f: Floor) -> [u8; 256]
     requires { ⌜ AcceptedFloor (now floor) f ⌝ }
-    ensures { λ r. ⌜ Marks r (isNarrow (now (floor .entry))) ⌝ }
+    ensures { λ r. ⌜ Flags r (isNarrow (now (floor .entry))) ⌝ }
 {
     let mut bays = [0u8; 256];
     let mut i: usize = 0;

@@ -1,5 +1,5 @@
 -- What a C caller concludes from the promises alone, by testing `number`.
-use Prim.Native.Nat.{ℕ, _≤_}
+use Prim.Native.Nat.{ℕ, _≤_, _<_}
 use native.Mathlib.Omega.{arith}
 use mathlib.Core.Path.{_≡_, ap, subst, _∙_}
 use mathlib.Core.Logic.{_⊎_, inl, inr, ⊎-elim, _↔_}
@@ -22,12 +22,15 @@ use Rattle.plan.specs.Plan.{PlanNumbers}
 use Rattle.plan.specs.After.{ReadAs}
 use Rattle.plan.specs.declared.Head.{Head}
 use Rattle.plan.specs.declared.PlanRead.{PlanRead}
-use Rattle.moves.specs.Promises.{CartDeparts}
+use Rattle.moves.specs.Promises.{Moving, CartDeparts}
 use Rattle.edit.specs.Replaced.{replaced}
 use Rattle.grammar.specs.Grammar.{Clause}
 use Rattle.cltl.specs.Meaning.{Run, TrueOf, TrueInStep}
+use Rattle.conflict.specs.Meaning.{Vertex, Swap, Conflict}
+use Rattle.conflict.specs.OfPlan.{planRoutes, ConflictFree}
 use Rattle.plancheck.specs.Check.{planRows}
 use Rattle.plancheck.specs.Meaning.{Plain, Kept, ReadAndOpen, NoneAhead}
+use Rattle.plancheck.specs.Demands.{never-meet, never-exchanged}
 use Rattle.controller.specs.Told.{read-both}
 use Rattle.controller.specs.Edge.{FloorReadCode, PlanReadCode, FloorWrittenCode, PlanWrittenCode, RulesReadCode, MovesCheckedCode, PlanCheckedCode, MovedOnCode, RowReplacedCode}
 
@@ -107,15 +110,30 @@ module _ (floor plan rules : List ℕ) (c : Code) (w : PlanCheckedCode floor pla
       let a = w .means .readable z in
       (a .0, a .1, a .2, a .3, λ plain r. w .means .runs z (a .0) (a .1) (a .2) (a .3 .readable) plain r)
 
+  -- and no run within the drift has two carts in one narrow place at a moment, nor exchanges two between narrow places in one tick
+  module _ (z : c .number ≡ 0) (f : Floor) (p : PlanNumbers) (files : ReadAs floor plan f p) (run : Run (f .carts) (p .head .drift)) (t a b : ℕ)
+      (here : a < f .carts) (there : b < f .carts) (two : a ≡ b → ⊥) where
+    pub zero-apart : Vertex (planRoutes floor f p) (run .at) t a b → ⊥
+    zero-apart = never-meet floor plan rules (c .number ≡ 0) (w .means) z f p files run t a b here there two
+
+    pub zero-unexchanged : Swap (planRoutes floor f p) (run .at) t a b → ⊥
+    zero-unexchanged = never-exchanged floor plan rules (c .number ≡ 0) (w .means) z f p files run t a b here there two
+
+  -- not 0 where the moves are open without end and some run within the drift has a conflict
+  pub not-zero : (m : Moving floor plan) (a k : ℕ) → Conflict (planRoutes floor (m .floor-is) (m .numbers)) (m .numbers .head .drift) a k
+      → c .number ≡ 0 → ⊥
+  not-zero m a k x z = let e = w .exists-20 m .1 (a, k, x) in omega arith
+
   -- 0 too for the plan with the bytes of a smaller drift
   pub zero-smaller : c .number ≡ 0 → (f : Floor) (p : PlanNumbers) → ReadAs floor plan f p → (d : ℕ) → d ≤ p .head .drift
       → (c′ : Code) → PlanCheckedCode floor (stored plan 8 (bytes 2 d)) rules c′ → c′ .number ≡ 0
   zero-smaller z f p files d less c′ w′ =
       ap (λ (x : Code). x .number) (w′ .coded .code) ∙ ap (λ (v : Verdict). codeOf v .number) (w .means .smaller z f p files d less .1)
 
-  -- at drift 0: 0 exactly if floor, plan and sheet are read, moves are open without end, and every clause is true in step
+  -- at drift 0: 0 exactly if floor, plan and sheet are read, moves are open without end, no run of drift 0 has a conflict, and every clause is true in
+  -- step
   pub zero-in-step : (f : Floor) (p : PlanNumbers) → ReadAs floor plan f p → p .head .drift ≡ 0
-      → (c .number ≡ 0) ↔ ((cs : List Clause) × ReadAndOpen floor plan rules f p cs × All (TrueInStep (planRows floor f p)) cs)
+      → (c .number ≡ 0) ↔ ((cs : List Clause) × ReadAndOpen floor plan rules f p cs × ConflictFree floor f p × All (TrueInStep (planRows floor f p)) cs)
   zero-in-step f p files none = w .means .in-step f p files none
 
   -- nothing refused ahead: 0 exactly if the drift rules keep every clause

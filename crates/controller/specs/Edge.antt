@@ -35,8 +35,10 @@ use Rattle.moves.specs.Promises.{AllUnending, CartUnending, LowestLeft, Moving,
 use Rattle.edit.specs.Moved.{moved, moveOn}
 use Rattle.edit.specs.Replaced.{replaced, replaceRow}
 use Rattle.edit.specs.Promises.{fileLength, Later, NewRow}
+use Rattle.conflict.specs.Meaning.{Conflict}
+use Rattle.conflict.specs.OfPlan.{planRoutes}
 use Rattle.plancheck.specs.Check.{checked}
-use Rattle.plancheck.specs.Meaning.{IsLineOf, Next16, Fails17, PlanRefused, SheetRefused}
+use Rattle.plancheck.specs.Meaning.{IsLineOf, Conflict20, Next16, Fails17, PlanRefused, SheetRefused}
 use Rattle.plancheck.specs.Promises.{Means}
 
 -- the refusal that four numbers tell
@@ -112,6 +114,13 @@ pub record PlanCheckedCode (floor plan rules : List ℕ) (c : Code) : Type 0 whe
   pub means : Means floor plan rules (c .number ≡ 0)
   -- 11, by the cart in `first` and the step in `second`, as for cartplan_check_moves
   pub shut-11 : (f : Floor) (p : PlanNumbers) → ReadAs floor plan f p → c .number ≡ 11 → LowestLeft floor p (c .first) (c .second)
+  -- 20, by the cart in `first` and the step in `second`: the moves are open without end, and they are the lowest cart in any conflict of a run within the
+  -- drift and the step of its earliest counter in one; and where that is so, it is told
+  pub conflict-20 : c .number ≡ 20 → Conflict20 floor plan (c .first) (c .second)
+  pub told-20 : (a s : ℕ) → Conflict20 floor plan a s → (c .about ≡ 2) × (c .number ≡ 20) × (c .first ≡ a) × (c .second ≡ s)
+  -- "Where no earlier refusal comes .., a plan is refused on this ground exactly if such a run exists."
+  pub exists-20 : (m : Moving floor plan) → let P = planRoutes floor (m .floor-is) (m .numbers) in let d = m .numbers .head .drift in
+      (c .number ≡ 20) ↔ ((a : ℕ) × (k : ℕ) × Conflict P d a k)
   -- 16 and 17, by the clause in `first` and the step in `second`
   pub next-16 : c .number ≡ 16 → (c .second ≡ 0) × Next16 floor plan rules (c .first)
   pub fails-17 : c .number ≡ 17 → Fails17 floor plan rules (c .first) (c .second)
@@ -120,7 +129,7 @@ pub record PlanCheckedCode (floor plan rules : List ℕ) (c : Code) : Type 0 whe
       → (c .first < length cs) × IsLineOf rules (c .first) (getD cs (c .first) top) p
   -- every other refusal is that of the floor, the plan, its moves or the sheet, in this order
   pub floor-refused : c .about ≡ 1 → readFloor floor ≡ FloorRefused (refusalIn c)
-  pub plan-refused : c .about ≡ 2 → PlanRefused floor plan (refusalIn c)
+  pub plan-refused : c .about ≡ 2 → (c .number ≡ 20 → ⊥) → PlanRefused floor plan (refusalIn c)
   pub sheet-refused : c .about ≡ 3 → (c .number ≡ 16 → ⊥) → (c .number ≡ 17 → ⊥) → SheetRefused floor plan rules (refusalIn c)
 
 -- cartplan_move_on

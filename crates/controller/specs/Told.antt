@@ -8,11 +8,9 @@ use mathlib.Core.List.{List, [], _∷_, _++_}
 use lib.Dec.{eqb, ltb}
 use lib.ListN.{length, take, drop}
 use lib.Seq.{drop-append-seam}
-use borrow.Author.Tests.{eqb-false}
 use Rattle.refusal.specs.Codes.{refused, codeOf}
-use Rattle.refusal.specs.Faults.{either-false}
 use Rattle.refusal.specs.Given.{OneOf, Refusals, Done, accepts, writes, Given, readingFloor, readingPlan, writingFloor, writingPlan, checkingMoves, readingSheet, checkingPlan, movingOn, replacingRow}
-use Rattle.refusal.specs.Numbered.{among, numbered, zero-accepts, zero-writes, answered}
+use Rattle.refusal.specs.Numbered.{among, not-among, numbered, zero-accepts, zero-writes, answered}
 use Rattle.refusal.specs.Outcome.{Outcome, unchanged, written, Gives}
 use Rattle.refusal.specs.Held.{about-floor, about-plan, written-if}
 use Rattle.refusal.specs.Stages.{isAccepted}
@@ -216,11 +214,6 @@ rules-read s v w g c q = subst (RulesReadCode s) (sym q) (record {
     )
 
 ---- The file that a number tells.
-not-among : (xs : List ℕ) (m n : ℕ) → among xs m ≡ false → OneOf xs n → n ≡ m → ⊥
-not-among [] m n e h q = h
-not-among (x ∷ xs) m n e (inl h) q = eqb-false m x (either-false (eqb m x) (among xs m) e .0) (sym q ∙ h)
-not-among (x ∷ xs) m n e (inr h) q = not-among xs m n (either-false (eqb m x) (among xs m) e .1) h q
-
 -- a number that no refusal of the floor has: the plan's if none of the sheet has it, the sheet's if none of the plan has it
 of-number : (t : Refusals) (m : ℕ) → among (0 ∷ t .floor) m ≡ false → (v : Verdict) → Given t v → num v ≡ m
     → (among (t .rules) m ≡ false → v ≡ AboutPlan (refused m (codeOf v .first) (codeOf v .second)))
@@ -310,11 +303,18 @@ plan-checked floor s sheet v w g c q = subst (PlanCheckedCode floor s sheet) (sy
   coded = coded-as checkingPlan refl v (checked floor s sheet) (w .verdict) g;
   means = means-as floor s sheet (λ e. ap num e, zero-accepts checkingPlan refl refl v g) (w .means);
   shut-11 = λ f p files e. check-11 floor s sheet v w f p files (codeOf v .first) (codeOf v .second) (of-number checkingPlan 11 refl v g e .0 refl);
+  conflict-20 = λ e. w .conflict-20 (codeOf v .first) (codeOf v .second) .0 (of-number checkingPlan 20 refl v g e .0 refl);
+  told-20 = λ a k x. let e = w .conflict-20 a k .1 x in
+      (ap (λ (u : Verdict). codeOf u .about) e, ap num e, ap (λ (u : Verdict). codeOf u .first) e, ap (λ (u : Verdict). codeOf u .second) e);
+  exists-20 = λ m. (
+    λ e. w .exists-20 m .0 (codeOf v .first, codeOf v .second, of-number checkingPlan 20 refl v g e .0 refl),
+    λ x. ap num (w .exists-20 m .1 x .2),
+  );
   next-16 = λ e. w .next-16 (codeOf v .first) (codeOf v .second) (of-number checkingPlan 16 refl v g e .1 refl);
   fails-17 = λ e. w .fails-17 (codeOf v .first) (codeOf v .second) (of-number checkingPlan 17 refl v g e .1 refl);
   shown = λ e cs a p picked. shown-clause floor s sheet v w cs a (codeOf v .first) (codeOf v .second)
       (⊎-elim (λ x. inl (of-number checkingPlan 16 refl v g x .1 refl)) (λ x. inr (of-number checkingPlan 17 refl v g x .1 refl)) e) p picked;
   floor-refused = λ e. w .floor-refused (refusalIn (codeOf v)) (of-floor v e);
-  plan-refused = λ e. w .plan-refused (refusalIn (codeOf v)) (of-plan v e);
+  plan-refused = λ e n20. w .plan-refused (refusalIn (codeOf v)) (of-plan v e) n20;
   sheet-refused = λ e. w .sheet-refused (refusalIn (codeOf v)) (of-rules v e);
 })

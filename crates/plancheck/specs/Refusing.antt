@@ -12,7 +12,7 @@ use Rattle.endian.specs.Little.{Bytes}
 use Rattle.refusal.specs.Codes.{refused}
 use Rattle.refusal.specs.Stages.{isAccepted, andThen}
 use Rattle.refusal.specs.Given.{OneOf, Given, planNumbers, movesNumbers, sheetNumbers, checkingMoves, checkingPlan}
-use Rattle.refusal.specs.Numbered.{one-left, one-right, among, among-one, one-of-more}
+use Rattle.refusal.specs.Numbered.{one-left, one-right, not-among, one-of-more}
 use Rattle.refusal.specs.Accepting.{accepted-is}
 use Rattle.refusal.specs.declared.Refusal.{Refusal}
 use Rattle.refusal.specs.declared.Verdict.{Verdict}
@@ -163,10 +163,7 @@ module _ (floor plan sheet : List ℕ) where
           (row-given checkingMoves refl refl floor (w .2 .cart) (getD (p .rows) (w .2 .cart) []) (p .head .steps) (p .head .stem))
 
   not-20 : (x : Refusal) → PlanRefused floor plan x → x .number ≡ 20 → ⊥
-  not-20 x m e =
-      let z : true ≡ false = sym (among-one movesNumbers (x .number) (plan-listed x m)) ∙ ap (among movesNumbers) e in
-      let y : _≡_ {A = ℕ} 0 1 = cc in
-      omega arith
+  not-20 x m e = not-among movesNumbers 20 (x .number) refl (plan-listed x m) e
 
   pub is-plan : (x : Refusal) → (x .number ≡ 20 → ⊥) → Meant (AboutPlan x) → PlanRefused floor plan x
   is-plan x n20 (inl w) = w

@@ -17,6 +17,8 @@ use Rattle.plan.specs.After.{afterReading}
 use Rattle.row.specs.Lasso.{nextStep, stepOf}
 use Rattle.row.specs.Moves.{someLaneOpens, isOpen, lowestShut, judgedMoves}
 use Rattle.moves.specs.Carts.{judgedCarts}
+use Rattle.conflict.specs.Search.{clear, cartVerdict, narrowVerdict}
+use Rattle.conflict.specs.OfPlan.{named}
 use Rattle.grammar.specs.Reader.{bind, node, skip, expectAt, expect, literal, digits, number, percent, chainAt, chainMore, chain, andChain, orChain, byKind, smallAt, smallOf, byOnward, untilAt, untilOf, deeper, smalls, untils, ors, markBy, marks, inners, countEnd, countBy, counts, clauses, clauseLine, lines, outcome, start, readSheet}
 use Rattle.sheet.specs.Rules.{rulesVerdict}
 use Rattle.cltl.specs.Threshold.{threshold, quota}
@@ -61,7 +63,7 @@ verdict = verdictOn floor
 computing : List ℕ → List ℕ → List ℕ → Verdict
 unfolding
     flatten value split recordsIn partsIn parts judged walk readFloor bodiesOf judgedHead judgedPlaces judgedRow readRows readPlan afterReading
-    nextStep stepOf someLaneOpens isOpen lowestShut judgedMoves judgedCarts
+    nextStep stepOf someLaneOpens isOpen lowestShut judgedMoves judgedCarts named clear cartVerdict narrowVerdict
     bind node skip expectAt expect literal digits number percent chainAt chainMore chain andChain orChain byKind
     smallAt smallOf byOnward untilAt untilOf deeper smalls untils ors markBy marks inners countEnd countBy counts clauses
     clauseLine lines outcome start readSheet rulesVerdict
@@ -93,11 +95,37 @@ pub parked : Cases (floorWith [])
 unfolding computing
 parked = (refl, refl, refl, refl, refl, refl, refl, refl, refl, refl, refl, refl)
 
----- Further cases, so that no definition here has another reading.
+---- Document 02, 2): document 01's plan where place 1 is narrow, before any sheet and behind the moves.
+abbrev narrowing : ℕ → List ℕ
+narrowing q = floor ++ (1 ∷ 0 ∷ 6 ∷ 0 ∷ q ∷ [])
+
 -- both carts from place 0, where the first row begins on place 1
 abbrev astray : List ℕ
 astray = 6 ∷ 0 ∷ 4 ∷ 0 ∷ 1 ∷ 0 ∷ 0 ∷ 0 ∷ 0 ∷ 0 ∷ 1 ∷ 0 ∷ 5 ∷ 0 ∷ 1 ∷ 1 ∷ 0 ∷ 5 ∷ 0 ∷ 0 ∷ []
 
+-- each cart goes to place 1 and back, the second two steps after the first
+abbrev trailing : ℕ → List ℕ
+trailing d =
+    6 ∷ 0 ∷ 4 ∷ 0 ∷ 4 ∷ 0 ∷ 0 ∷ 0 ∷ d ∷ 0 ∷
+    4 ∷ 0 ∷ 5 ∷ 0 ∷ 0 ∷ 1 ∷ 0 ∷ 0 ∷
+    4 ∷ 0 ∷ 5 ∷ 0 ∷ 0 ∷ 0 ∷ 0 ∷ 1 ∷ []
+
+pub narrowed :
+    (verdictOn (narrowing 1) "F [m1,1]" 0 ≡ AboutPlan (refused 20 0 2))
+    × (verdictOn (narrowing 1) "F [m1,1]" 1 ≡ AboutPlan (refused 20 0 1))
+    × (verdictOn (narrowing 0) "F [m1,1]" 1 ≡ AboutPlan (refused 20 0 0))
+    -- ahead of every refusal of the sheet, 16 and 17, and behind 10
+    × (checked (narrowing 1) (planFrom 0 1) [] ≡ AboutPlan (refused 20 0 1))
+    × (verdictOn (narrowing 1) "X [m0,3]" 1 ≡ AboutPlan (refused 20 0 1))
+    × (checked (narrowing 1) astray [] ≡ AboutPlan (refused 10 0 0))
+    -- two counters apart: one tick of drift keeps them apart, two do not, and without the record nothing is narrow
+    × (checked (narrowing 1) (trailing 1) (sheet "true") ≡ Accepted)
+    × (checked (narrowing 1) (trailing 2) (sheet "true") ≡ AboutPlan (refused 20 0 1))
+    × (checked floor (trailing 2) (sheet "true") ≡ Accepted)
+unfolding computing
+narrowed = (refl, refl, refl, refl, refl, refl, refl, refl, refl)
+
+---- Further cases, so that no definition here has another reading.
 -- the two places, lanes 1→0 and 0→1 for these classes, a cart of class 2 from place 1; and a plan that goes to place 0 and back
 abbrev another : ℕ → List ℕ
 another classes =

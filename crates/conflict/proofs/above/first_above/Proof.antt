@@ -1,8 +1,7 @@
 use Prim.Native.Nat.{suc, _+_, _-_, _<_}
 use native.Mathlib.Omega.{arith}
 use mathlib.Core.Path.{refl}
-use Rattle.conflict.specs.Meaning.{placeAt}
-use Rattle.conflict.specs.Table.{tableRoutes}
+use Rattle.conflict.specs.Table.{counterPlace}
 use Rattle.conflict.proofs.Tracking.{begun as none-yet}
 use Rattle.conflict.proofs.Searching.{Searching, zeros, begun, low, entered, stopped, onward, cleared}
 use Rattle.conflict.proofs.above.first_above.Statement.{statement}
@@ -24,8 +23,7 @@ lead-requires : tie.Need-lead-requires Inv-loop μ-loop
 lead-requires c κs =
     let a = c .before .before .args in
     let p = c .before .before .pre in
-    let place = placeAt (tableRoutes (a .bays .now) (a .carts) (a .h) (a .block .now)) in
-    (p .0, (p .1, none-yet (suc (a .a)) (a .carts) place _ refl (zeros 256)))
+    (p .0, (p .1, none-yet (suc (a .a)) (a .carts) (counterPlace (a .h) (a .block .now)) _ refl (zeros 256)))
 
 loop-holds : tie.Need-loop-holds Inv-loop μ-loop
 loop-holds c = begun _ (c .lead .result) (c .before .before .before .pre .1 .0) (c .lead .ensures .0) (c .lead .ensures .1)

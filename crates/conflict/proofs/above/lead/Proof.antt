@@ -1,19 +1,20 @@
-use Prim.Native.Nat.{ℕ, suc, _+_, _-_, _≤_, _<_}
+use Prim.Native.Nat.{ℕ, _-_, _≤_, _<_}
 use native.Mathlib.Omega.{arith}
 use native.Mathlib.Numerals.{add-one}
 use mathlib.Core.Path.{_≡_, sym, ap, subst, _∙_}
 use Rattle.row.specs.Lasso.{stepOf}
 use Rattle.row.specs.Round.{step-low, step-below}
-use Rattle.conflict.proofs.Tracking.{follows-next, LatestAbove, column}
+use Rattle.conflict.specs.Table.{LatestAbove}
+use Rattle.conflict.proofs.Tracking.{follows-next, column}
 use Rattle.conflict.proofs.above.lead.Statement.{statement}
 use Rattle.conflict.proofs.above.lead.Tie as tie
 
 abbrev Inv-loop : tie.InvT-loop
-Inv-loop last₀ bays block carts h a s₀ w₀ last s w =
-    (w ≤ h .drift) × (s ≡ stepOf (h .steps) (h .stem) w) × LatestAbove bays block carts h a w last
+Inv-loop last₀ block carts h a s₀ w₀ last s w =
+    (w ≤ h .drift) × (s ≡ stepOf (h .steps) (h .stem) w) × LatestAbove block carts h a w last
 
 abbrev μ-loop : tie.MeasureT-loop
-μ-loop last₀ bays block carts h a s₀ w₀ last s w = h .drift - w
+μ-loop last₀ block carts h a s₀ w₀ last s w = h .drift - w
 
 -- the step is one of the plan's
 low : (c : tie.At-loop Inv-loop μ-loop) → c .loop .s < c .before .before .args .h .steps
@@ -57,7 +58,7 @@ loop-again c =
     let l = c .before .before .before .before .before .loop in
     let e = l .inv .1 in
     let r = c .before .enter .ensures in
-    let t = column (a .bays .now) (a .block .now) (a .carts) (a .h) (a .a) (l .w) (l .s) _ (l .last) _ e (omega arith) r (l .inv .2) in
+    let t = column (a .block .now) (a .carts) (a .h) (a .a) (l .w) (l .s) _ (l .last) _ e (omega arith) r (l .inv .2) in
     (omega arith, follows-next (a .h) (s .pre .1 .0 .0) (l .w) e (c .next-step .ensures), rw (add-one (l .w)) t)
 
 returns : tie.Need-returns Inv-loop μ-loop
@@ -66,7 +67,7 @@ returns c =
     let l = c .before .before .loop in
     let e : l .w ≡ a .h .drift = omega (arith, c .if1 .left) in (
       l .inv .1 ∙ ap (stepOf (a .h .steps) (a .h .stem)) e,
-      subst (λ (n : ℕ). LatestAbove (a .bays .now) (a .block .now) (a .carts) (a .h) (a .a) n (l .last)) e (l .inv .2),
+      subst (λ (n : ℕ). LatestAbove (a .block .now) (a .carts) (a .h) (a .a) n (l .last)) e (l .inv .2),
     )
 
 pub lead-spec : {M : Type 1} → statement M

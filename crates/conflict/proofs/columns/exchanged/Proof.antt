@@ -3,8 +3,8 @@ use Prim.Native.Nat.{ℕ, _-_, _≤_}
 use native.Mathlib.Omega.{arith}
 use mathlib.Core.Path.{_≡_, subst}
 use Rattle.conflict.specs.Table.{Goes}
-use Rattle.conflict.specs.Columns.{Some, Decides}
-use Rattle.conflict.proofs.Entering.{none-yet, still, it, neither}
+use Rattle.conflict.specs.Columns.{Some}
+use Rattle.conflict.proofs.Entering.{none-yet, neither}
 use Rattle.conflict.proofs.columns.exchanged.Statement.{statement}
 use Rattle.conflict.proofs.columns.exchanged.Tie as tie
 

@@ -5,7 +5,7 @@ use mathlib.Core.List.{List}
 use lib.ListN.{length, take, getD, replicate, length-set}
 use lib.Seq.{take-length}
 use Rattle.floor.specs.Numbers.{numbersOf}
-use Rattle.conflict.specs.Table.{Marks}
+use Rattle.conflict.specs.Table.{Flags}
 use Rattle.conflict.specs.OfPlan.{named}
 use Rattle.conflict.proofs.Searching.{zeros}
 use Rattle.conflict.proofs.Marking.{none-named, one-marked, narrow-byte, narrow-inside}
@@ -14,7 +14,7 @@ use Rattle.conflict.proofs.narrow.marked.Statement.{statement}
 use Rattle.conflict.proofs.narrow.marked.Tie as tie
 
 abbrev Inv-loop : tie.InvT-loop
-Inv-loop floor f bays₀ i₀ bays i = (i ≤ f .narrow) × (length bays ≡ 256) × Marks bays (named (take i (numbersOf floor .narrow)))
+Inv-loop floor f bays₀ i₀ bays i = (i ≤ f .narrow) × (length bays ≡ 256) × Flags bays (named (take i (numbersOf floor .narrow)))
 
 abbrev μ-loop : tie.MeasureT-loop
 μ-loop floor f bays₀ i₀ bays i = f .narrow - i
@@ -77,7 +77,7 @@ returns c =
     let a = c .before .before .before .before .args in
     let w = c .before .before .before .before .pre in
     let n : v .i ≡ length (numbersOf (a .floor .now) .narrow) = omega (arith, w .valid .narrow) in
-    subst (λ (x : List ℕ). Marks (v .bays) (named x)) (ap (λ (k : ℕ). take k (numbersOf (a .floor .now) .narrow)) n ∙ take-length _) (v .inv .2)
+    subst (λ (x : List ℕ). Flags (v .bays) (named x)) (ap (λ (k : ℕ). take k (numbersOf (a .floor .now) .narrow)) n ∙ take-length _) (v .inv .2)
 
 pub marked-spec : {M : Type 1} → statement M
 marked-spec =
