@@ -4,7 +4,7 @@ use crate::RecordAnswer;
 ghost use mathlib.Core.Path.{_≡_};
 ghost use Rattle.floor.specs.Floor.{judged};
 
-fn judge_place(f: Floor, body: &[u8]) -> RecordAnswer
+pub(crate) fn judge_place(f: Floor, body: &[u8]) -> RecordAnswer
     ensures { λ r. ⌜ r ≡ judged f 1 (now (body .entry)) ⌝ }
 {
     if 0 < f.lanes {
@@ -30,7 +30,7 @@ fn judge_place(f: Floor, body: &[u8]) -> RecordAnswer
     })
 }
 
-fn judge_lane(f: Floor, body: &[u8]) -> RecordAnswer
+pub(crate) fn judge_lane(f: Floor, body: &[u8]) -> RecordAnswer
     ensures { λ r. ⌜ r ≡ judged f 2 (now (body .entry)) ⌝ }
 {
     if 0 < f.carts {
@@ -59,7 +59,7 @@ fn judge_lane(f: Floor, body: &[u8]) -> RecordAnswer
     })
 }
 
-fn judge_cart(f: Floor, body: &[u8]) -> RecordAnswer
+pub(crate) fn judge_cart(f: Floor, body: &[u8]) -> RecordAnswer
     ensures { λ r. ⌜ r ≡ judged f 3 (now (body .entry)) ⌝ }
 {
     if 0 < f.narrow {
@@ -85,7 +85,7 @@ fn judge_cart(f: Floor, body: &[u8]) -> RecordAnswer
     })
 }
 
-fn judge_narrow(f: Floor, body: &[u8]) -> RecordAnswer
+pub(crate) fn judge_narrow(f: Floor, body: &[u8]) -> RecordAnswer
     ensures { λ r. ⌜ r ≡ judged f 6 (now (body .entry)) ⌝ }
 {
     if body.len() != 1 {

@@ -91,21 +91,21 @@ returns-3 c =
 enum-known-kind : tie.Need-enum-known-kind Inv-loop μ-loop
 enum-known-kind c = search needs
 
-sub-judge : tie.Need-sub-judge Inv-loop μ-loop
-sub-judge c = opens c .order
+sub-judge-found : tie.Need-sub-judge-found Inv-loop μ-loop
+sub-judge-found c = opens c .order
 
-part-judge-start : tie.Need-part-judge-start Inv-loop μ-loop
-part-judge-start c =
+part-judge-found-start : tie.Need-part-judge-found-start Inv-loop μ-loop
+part-judge-found-start c =
     let o = opens c in
     omega arith
 
-part-judge-end : tie.Need-part-judge-end Inv-loop μ-loop
-part-judge-end c =
+part-judge-found-end : tie.Need-part-judge-found-end Inv-loop μ-loop
+part-judge-found-end c =
     let o = opens c in
     omega arith
 
-judge-requires : tie.Need-judge-requires Inv-loop μ-loop
-judge-requires c κs = search needs
+judge-found-requires : tie.Need-judge-found-requires Inv-loop μ-loop
+judge-found-requires c κs = search needs
 
 enum-known-g : tie.Need-enum-known-g Inv-loop μ-loop
 enum-known-g c = search needs
@@ -123,7 +123,7 @@ loop-again c =
       sym
           (at-good s (c .before .before .before .before .before .before .before .before .before .loop .f)
           (c .before .before .before .before .before .before .before .before .before .loop .at) _ _ _
-          (found (c .before .before .before .before .before)) _ (sym (c .before .before .before .judge .ensures) ∙ c .before .g .given .1))
+          (found (c .before .before .before .before .before)) _ (sym (c .before .before .before .judge-found .ensures) ∙ c .before .g .given .1))
           ∙ c .before .before .before .before .before .before .before .before .before .loop .inv .2,
     )
 
@@ -146,7 +146,7 @@ returns-4 c =
     (at-fault s (c .before .before .before .before .before .before .before .before .before .before .loop .f)
     (c .before .before .before .before .before .before .before .before .before .before .loop .at) _ _ _
     (found (c .before .before .before .before .before .before)) _
-    (sym (c .before .before .before .before .judge .ensures) ∙ c .before .before .n .given .1))
+    (sym (c .before .before .before .before .judge-found .ensures) ∙ c .before .before .n .given .1))
     ∙ c .before .before .before .before .before .before .before .before .before .before .loop .inv .2)
 
 pub read-spec : {M : Type 1} → statement M
@@ -167,10 +167,10 @@ read-spec =
     at-offset-requires-2
     returns-3
     enum-known-kind
-    sub-judge
-    part-judge-start
-    part-judge-end
-    judge-requires
+    sub-judge-found
+    part-judge-found-start
+    part-judge-found-end
+    judge-found-requires
     enum-known-g
     loop-less
     loop-again
