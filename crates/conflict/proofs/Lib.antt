@@ -3,5 +3,6 @@ pub mod Deciding
 pub mod Entering
 pub mod Tracking
 pub mod Finding
+pub mod Visiting
 pub mod Searching
 pub mod Judging

@@ -3,10 +3,11 @@ use crate::Meeting;
 use crate::columns;
 use plan::Head;
 ghost use mathlib.Core.Path.{_≡_};
-ghost use Prim.Native.Nat.{suc, _+_, _≤_, _<_};
+ghost use mathlib.Core.Bool.{false};
+ghost use Prim.Native.Nat.{ℕ, suc, _+_, _≤_, _<_};
 ghost use lib.ListN.{length};
 ghost use Rattle.row.specs.Lasso.{stepOf};
-ghost use Rattle.conflict.specs.Table.{tableRoutes, LatestAbove};
+ghost use Rattle.conflict.specs.Table.{flag, blockPlace, tableRoutes, LatestAbove};
 ghost use Rattle.conflict.specs.Columns.{Decides, near};
 ghost use Rattle.conflict.specs.Above.{Above, FirstMet};
 
@@ -79,14 +80,24 @@ fn lead(last: &mut [u8; 256], block: &[u8], carts: usize, h: Head, a: usize) -> 
     s
 }
 
+// Whether cart a stands on a narrow place on one of its steps.
+fn visits(bays: &[u8; 256], block: &[u8], steps: usize, a: usize) -> bool
+    requires { ⌜ length (now block) ≡ 2048 ⌝ }
+    requires { ⌜ (steps ≤ 64) × (a < 32) ⌝ }
+    ensures { λ r. ⌜ (r ≡ false → (s : ℕ) → s < steps → flag (now (bays .entry)) (blockPlace (now (block .entry)) a s) ≡ false) ⌝ }
+{
+    let mut s = 0;
+    while s < steps {
+        if bays[columns::place_on(block, a, s)] != 0 {
+            return true;
+        }
+        s += 1;
+    }
+    false
+}
+
 // The first meeting of cart a with one above it, its counters in order.
-pub(crate) fn first_above(
-    bays: &[u8; 256],
-    block: &[u8],
-    carts: usize,
-    h: Head,
-    a: usize,
-) -> Meeting
+fn first_above(bays: &[u8; 256], block: &[u8], carts: usize, h: Head, a: usize) -> Meeting
     requires { ⌜ length (now block) ≡ 2048 ⌝ }
     requires { ⌜ (h .stem < h .steps) × (h .steps ≤ 64) × (h .drift ≤ 16) × (carts ≤ 32) × (a < carts) ⌝ }
     ensures { λ r. ⌜ FirstMet (tableRoutes (now (bays .entry)) carts h (now (block .entry))) (h .drift) a r ⌝ }
@@ -105,4 +116,16 @@ pub(crate) fn first_above(
         v += 1;
     }
     Meeting::Clear
+}
+
+// The same, with no look at the others where cart a stands on no narrow place.
+pub(crate) fn first_met(bays: &[u8; 256], block: &[u8], carts: usize, h: Head, a: usize) -> Meeting
+    requires { ⌜ length (now block) ≡ 2048 ⌝ }
+    requires { ⌜ (h .stem < h .steps) × (h .steps ≤ 64) × (h .drift ≤ 16) × (carts ≤ 32) × (a < carts) ⌝ }
+    ensures { λ r. ⌜ FirstMet (tableRoutes (now (bays .entry)) carts h (now (block .entry))) (h .drift) a r ⌝ }
+{
+    if !visits(bays, block, h.steps, a) {
+        return Meeting::Clear;
+    }
+    first_above(bays, block, carts, h, a)
 }

@@ -32,7 +32,7 @@ pub(crate) fn judge_carts(bays: &[u8; 256], carts: usize, h: Head, block: &[u8])
 {
     let mut c: usize = 0;
     while c < carts {
-        let m = above::first_above(bays, block, carts, h, c);
+        let m = above::first_met(bays, block, carts, h, c);
         let v = verdict_of(c, m);
         if !refusal::accepts(v) {
             return v;

@@ -101,12 +101,11 @@ module _ (floor plan sheet : List ℕ) where
         let k = clauses-accepted (planRows floor f p) (p .head .drift) (clausesOf (readSheet sheet)) (r .1) in
         let cs = promises sheet .sound _ (sheet-read (readSheet sheet) (r .0)) in (
           clausesOf (readSheet sheet),
-          record
-              {
-                readable = record { files = files; moves = all-unending floor p stem-low f (m .0); clauses = cs };
-                no-20 = on-routes .free .0 (n .0);
-                no-16 = k .0;
-              },
+          record {
+            readable = record { files = files; moves = all-unending floor p stem-low f (m .0); clauses = cs };
+            no-20 = on-routes .free .0 (n .0);
+            no-16 = k .0;
+          },
           k .1,
         )
 

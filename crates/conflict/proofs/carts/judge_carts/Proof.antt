@@ -18,8 +18,8 @@ loop-holds c =
     let a = c .before .args in
     begun (tableRoutes (a .bays .now) (a .carts) (a .h) (a .block .now)) (a .h .drift) (c .before .pre .1 .0)
 
-first-above-requires : tie.Need-first-above-requires Inv-loop μ-loop
-first-above-requires c κs =
+first-met-requires : tie.Need-first-met-requires Inv-loop μ-loop
+first-met-requires c κs =
     let p = c .before .before .before .pre in
     (p .0, (p .1 .0, p .1 .1, p .1 .2, p .1 .3, c .loop-test .taken))
 
@@ -27,7 +27,7 @@ verdict-of-requires : tie.Need-verdict-of-requires Inv-loop μ-loop
 verdict-of-requires c κs =
     let p = c .before .before .before .before .pre in
     let w = c .before .before .loop .inv in
-    let f = c .first-above in
+    let f = c .first-met in
     (omega (arith, c .before .loop-test .taken, p .1 .3), λ s e. omega (arith, on-step w (f .result) s (f .ensures) e, p .1 .1))
 
 accepts-requires : tie.Need-accepts-requires Inv-loop μ-loop
@@ -37,7 +37,7 @@ returns : tie.Need-returns Inv-loop μ-loop
 returns c =
     let a = c .before .before .before .before .before .before .before .args in
     let w = c .before .before .before .before .before .loop .inv in
-    let f = c .before .before .before .first-above in
+    let f = c .before .before .before .first-met in
     let v = c .before .before .verdict-of in
     let bytes = c .before .before .before .before .before .before .shared-slice-known .given in
     answered (a .bays .now) (a .carts) (a .h) (a .block .now) (λ i. omega (arith, bytes i)) (w .lap) (v .result)
@@ -52,7 +52,7 @@ loop-less c = omega (arith, c .before .before .before .before .loop-test .taken)
 loop-again : tie.Need-loop-again Inv-loop μ-loop
 loop-again c =
     let w = c .before .before .before .before .before .loop .inv in
-    let f = c .before .before .before .first-above in
+    let f = c .before .before .before .first-met in
     let v = c .before .before .verdict-of in
     onward w (f .result) (f .ensures) (v .ensures) (c .before .accepts .ensures) (c .if1 .left)
     (omega (arith, c .before .before .before .before .loop-test .taken))
@@ -71,7 +71,7 @@ judge-carts-spec =
     Inv-loop
     μ-loop
     loop-holds
-    first-above-requires
+    first-met-requires
     verdict-of-requires
     accepts-requires
     returns
