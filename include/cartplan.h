@@ -57,7 +57,7 @@ struct cartplan_verdict cartplan_read_rules(const uint8_t *rules, size_t rules_l
 
 /* Checks the moves of a plan. The refusals of reading come first; then, carts in order: 10 (cart, 0) for a row that does not
  * begin at the cart's start, 11 (cart, step) for the lowest step that the cart leaves for another place by no lane open to its
- * class, the move from step h - 1 to l included. Any cart may park: a move from a place to the same place needs no lane. */
+ * class, the move from step h - 1 to l included. Any cart may park: a move from a place to the same place needs no lane. Narrow places are not looked at. */
 struct cartplan_verdict cartplan_check_moves(const uint8_t *floor, size_t floor_len,
                                              const uint8_t *plan, size_t plan_len);
 
@@ -74,7 +74,7 @@ struct cartplan_verdict cartplan_check(const uint8_t *floor, size_t floor_len,
 /* Moves a plan on by s steps and writes the result to out: each cart's place at counter v is that of the plan at counter
  * s + v. For s up to l the first s steps of each row go; beyond it l becomes 0 and each lap is turned by (s - l) mod (h - l);
  * d stays. The result is never longer than the plan, and bytes of out past it stay. The refusals of reading come first, then
- * 18 (needed length, 0) if out is shorter than the result. Starts and lanes are not judged. */
+ * 18 (needed length, 0) if out is shorter than the result. Starts, lanes and narrow places are not judged. */
 struct cartplan_verdict cartplan_move_on(const uint8_t *floor, size_t floor_len,
                                          const uint8_t *plan, size_t plan_len,
                                          uint16_t s, uint8_t *out, size_t out_len);

@@ -727,13 +727,13 @@ NARROW_EDITS = [
 def bays(rows, *places, count=4):
     """Places with lanes between any two, a cart at the beginning of each row, and narrow places."""
     lanes = b"".join(lane(start, end) for start in range(count) for end in range(count) if start != end)
-    return place() * count + lanes + b"".join(cart(0, places[0]) for places in rows) + narrow(*places)
+    return place() * count + lanes + b"".join(cart(0, steps[0]) for steps in rows) + narrow(*places)
 
 
 def met(name, rows, places, l, d, verdict, rules=sheet("true")):
     """A check of these rows with these narrow places."""
     numbers = verdict if verdict == "accepted" else "refused plan 20 " + verdict
-    return "narrow: " + name, bays(rows, *places), head(len(rows[0]), l, d) + b"".join(row(*places) for places in rows), rules, numbers
+    return "narrow: " + name, bays(rows, *places), head(len(rows[0]), l, d) + b"".join(row(*steps) for steps in rows), rules, numbers
 
 
 PAPER_ROWS = [(0, 1, 1, 0), (0, 0, 1, 1)]

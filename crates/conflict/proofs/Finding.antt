@@ -11,7 +11,7 @@ use borrow.Author.Tests.{eq-eqb, ne-eqb, ltb-true, ltb-false, eqb-false}
 use Rattle.row.specs.Lasso.{stepOf}
 use Rattle.row.specs.Round.{pick}
 use Rattle.plan.specs.declared.Head.{Head}
-use Rattle.conflict.specs.Meaning.{Routes, placeAt, Narrow}
+use Rattle.conflict.specs.Meaning.{Routes, standsOn, Narrow}
 use Rattle.conflict.specs.Met.{Same, Exchanged, Met, same-meets, exchange-meets, meets-cases}
 use Rattle.conflict.specs.Table.{flag, blockPlace, Goes, tableRoutes, LatestAbove}
 use Rattle.conflict.specs.Columns.{Decides, Some, LastOn, Latest, near}
@@ -37,7 +37,7 @@ marked bays p z = subst (λ (t : Bool). T (not t)) (sym (ne-eqb (getD bays p 0) 
 
 module _ (P : Routes) (d a v : ℕ) (there : a < P .carts) where
   abbrev p : ℕ
-  p = placeAt P a v
+  p = standsOn P a v
 
   -- one above a, at a counter within d of v, meets it
   pub above : (b w : ℕ) → a < b → b < P .carts → v ≤ w + d → w ≤ v + d → Same P a v b w ⊎ Exchanged P a v b w → Above P d a v
@@ -59,7 +59,7 @@ module _ (P : Routes) (d a v : ℕ) (there : a < P .carts) where
   not-narrow n x =
       ⊎-elim (λ s. n (s .narrow)) (λ e. n (e .1 .narrow)) (meets-cases P a v (x .other) (x .counter) (x .meeting .meeting))
 
-  module _ (last : List ℕ) (t : Latest (suc a) (P .carts) (placeAt P) (suc (v + d)) last) (m : ℕ) (is : m ≡ getD last p 0) where
+  module _ (last : List ℕ) (t : Latest (suc a) (P .carts) (standsOn P) (suc (v + d)) last) (m : ℕ) (is : m ≡ getD last p 0) where
     -- the table has one in a's narrow place
     pub near-above : Narrow P p → near m v d ≡ true → Above P d a v
     near-above n e = go (t .each p)
@@ -67,7 +67,7 @@ module _ (P : Routes) (d a v : ℕ) (there : a < P .carts) where
         k : (m ≡ 0 → ⊥) × (v < m + d)
         k = near-apart m v d e
 
-        go : LastOn (suc a) (P .carts) (placeAt P) p (suc (v + d)) (getD last p 0) → Above P d a v
+        go : LastOn (suc a) (P .carts) (standsOn P) p (suc (v + d)) (getD last p 0) → Above P d a v
         go (inl z) = absurd (k .0 (is ∙ z .0))
         go (inr l) =
             let c : m ≡ suc (l .counter) = is ∙ l .is in
@@ -75,13 +75,13 @@ module _ (P : Routes) (d a v : ℕ) (there : a < P .carts) where
             (inl (record { narrow = n; one = sym (l .on .has) }))
 
     -- it has none: no one above is there within d
-    none-there : near m v d ≡ false → (b w : ℕ) → a < b → b < P .carts → v ≤ w + d → w ≤ v + d → placeAt P b w ≡ p → ⊥
+    none-there : near m v d ≡ false → (b w : ℕ) → a < b → b < P .carts → v ≤ w + d → w ≤ v + d → standsOn P b w ≡ p → ⊥
     none-there e b w up in-fleet low high here = go (t .each p)
       where
-        one : Some (suc a) (P .carts) (λ i. placeAt P i w ≡ p)
+        one : Some (suc a) (P .carts) (λ i. standsOn P i w ≡ p)
         one = record { cart = b; low = omega arith; high = in-fleet; has = here }
 
-        go : LastOn (suc a) (P .carts) (placeAt P) p (suc (v + d)) (getD last p 0) → ⊥
+        go : LastOn (suc a) (P .carts) (standsOn P) p (suc (v + d)) (getD last p 0) → ⊥
         go (inl z) = z .1 (record { counter = w; since = omega arith; until = omega arith; on = one })
         go (inr l) =
             let c : m ≡ suc (l .counter) = is ∙ l .is in
@@ -110,7 +110,7 @@ module _ (P : Routes) (d a v : ℕ) (there : a < P .carts) where
 -- cart a is on p at counter v, and the table has where those above were up to counter v + d
 pub record Look (bays block last : List ℕ) (carts : ℕ) (h : Head) (a v p : ℕ) : Type 0 where
   pub there : a < carts
-  pub at : p ≡ placeAt (tableRoutes bays carts h block) a v
+  pub at : p ≡ standsOn (tableRoutes bays carts h block) a v
   pub latest : LatestAbove block carts h a (suc (v + h .drift)) last
 
 module _ {bays block last : List ℕ} {carts : ℕ} {h : Head} {a v p : ℕ} (k : Look bays block last carts h a v p) where
@@ -121,12 +121,12 @@ module _ {bays block last : List ℕ} {carts : ℕ} {h : Head} {a v p : ℕ} (k 
   d = h .drift
 
   pub plain : getD bays p 0 ≡ 0 → Above P d a v → ⊥
-  plain z = not-narrow P d a v (k .there) (unmarked bays (placeAt P a v) (ap (λ (n : ℕ). getD bays n 0) (sym (k .at)) ∙ z))
+  plain z = not-narrow P d a v (k .there) (unmarked bays (standsOn P a v) (ap (λ (n : ℕ). getD bays n 0) (sym (k .at)) ∙ z))
 
-  narrow-here : (getD bays p 0 ≡ 0 → ⊥) → Narrow P (placeAt P a v)
+  narrow-here : (getD bays p 0 ≡ 0 → ⊥) → Narrow P (standsOn P a v)
   narrow-here z = subst (Narrow P) (k .at) (marked bays p z)
 
-  is : getD last p 0 ≡ getD last (placeAt P a v) 0
+  is : getD last p 0 ≡ getD last (standsOn P a v) 0
   is = ap (λ (n : ℕ). getD last n 0) (k .at)
 
   pub found : (getD bays p 0 ≡ 0 → ⊥) → near (getD last p 0) v d ≡ true → Above P d a v
@@ -137,7 +137,7 @@ pub record Going (bays block last : List ℕ) (carts : ℕ) (h : Head) (a v p q 
   pub look : Look bays block last carts h a v p
   pub narrow : getD bays p 0 ≡ 0 → ⊥
   pub none : near (getD last p 0) v (h .drift) ≡ false
-  pub next : q ≡ placeAt (tableRoutes bays carts h block) a (suc v)
+  pub next : q ≡ standsOn (tableRoutes bays carts h block) a (suc v)
 
 module _ {bays block last : List ℕ} {carts : ℕ} {h : Head} {a v p q : ℕ} (g : Going bays block last carts h a v p q) where
   abbrev R : Routes
@@ -160,8 +160,8 @@ module _ {bays block last : List ℕ} {carts : ℕ} {h : Head} {a v p q : ℕ} (
     crossed : (getD bays q 0 ≡ 0 → ⊥) → Crossed → Above R e a v
     crossed u s =
         let b = s .cart in
-        let here : placeAt R b (v + e) ≡ q = ap (blockPlace block b) (sym on) ∙ s .has .here in
-        let back : placeAt R b (suc (v + e)) ≡ p = ap (blockPlace block b) (sym then) ∙ s .has .then in
+        let here : standsOn R b (v + e) ≡ q = ap (blockPlace block b) (sym on) ∙ s .has .here in
+        let back : standsOn R b (suc (v + e)) ≡ p = ap (blockPlace block b) (sym then) ∙ s .has .then in
         above R e a v (g .look .there) b (v + e) (omega (arith, s .low)) (s .high) (omega arith) (omega arith)
         (inr (record {
           narrow = narrow-here (g .look) (g .narrow);

@@ -10,15 +10,12 @@ use lib.Dec.{eqb}
 use lib.ListN.{length, take, drop, getD, set, length-take, length-drop}
 use lib.Seq.{getD-take, getD-drop, take-suc, getD-set-same, getD-set-other}
 use borrow.Author.Tests.{eqb-true, eqb-false, eq-eqb}
+use Rattle.refusal.specs.Faults.{or-true}
 use Rattle.floor.specs.Numbers.{numbersOf, narrowAt, bodyAt}
 use Rattle.floor.specs.Promises.{AcceptedFloor}
 use Rattle.floor.specs.declared.Floor.{Floor}
 use Rattle.conflict.specs.Table.{flag, Flags}
 use Rattle.conflict.specs.OfPlan.{named}
-
-or-true : (b : Bool) → b || true ≡ true
-or-true true = refl
-or-true false = refl
 
 or-false : (b : Bool) → b || false ≡ b
 or-false true = refl

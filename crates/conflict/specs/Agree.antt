@@ -7,7 +7,7 @@ use lib.Dec.{T}
 use Rattle.refusal.specs.declared.Verdict.{Verdict}
 use Rattle.row.specs.Lasso.{stepOf}
 use Rattle.row.specs.Round.{step-below}
-use Rattle.conflict.specs.Meaning.{Routes, placeAt, Narrow, Conflict, Earliest}
+use Rattle.conflict.specs.Meaning.{Routes, standsOn, Narrow, Conflict, Earliest}
 use Rattle.conflict.specs.Search.{meets}
 use Rattle.conflict.specs.Met.{same-meets, exchange-meets, meets-cases}
 use Rattle.conflict.specs.Reached.{reached, met}
@@ -32,10 +32,10 @@ module _ (carts h l d : ℕ) (lap : l < h) (place : ℕ → ℕ → ℕ) (narrow
   abbrev P′ : Routes
   P′ = of carts h l place′ narrow′
 
-  place-as : (i v : ℕ) → i < carts → placeAt P i v ≡ placeAt P′ i v
+  place-as : (i v : ℕ) → i < carts → standsOn P i v ≡ standsOn P′ i v
   place-as i v p = g i (stepOf h l v) p (step-below h l lap v) .0
 
-  narrow-as : (i v : ℕ) → i < carts → Narrow P (placeAt P i v) → Narrow P′ (placeAt P′ i v)
+  narrow-as : (i v : ℕ) → i < carts → Narrow P (standsOn P i v) → Narrow P′ (standsOn P′ i v)
   narrow-as i v p = subst T (g i (stepOf h l v) p (step-below h l lap v) .1)
 
   meets-as : (a v b w : ℕ) → a < carts → b < carts → T (meets P a v b w) → T (meets P′ a v b w)

@@ -12,7 +12,7 @@ abbrev pub Decides : Type 0 → Bool → Type 0
 Decides A true = A
 Decides A false = A → ⊥
 
--- carts from one on and below another
+-- numbers, as of carts, from one on and below another
 module _ (from top : ℕ) where
   -- one of them with Q
   pub record Some (Q : ℕ → Type 0) : Type 0 where

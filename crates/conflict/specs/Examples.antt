@@ -5,11 +5,11 @@ use mathlib.Core.Bool.{Bool, not}
 use mathlib.Core.List.{List, [], _∷_}
 use lib.Dec.{eqb}
 use lib.ListN.{length, getD}
-use Rattle.refusal.specs.Codes.{refused}
 use Rattle.refusal.specs.declared.Verdict.{Verdict}
-use Rattle.refusal.specs.declared.Verdict.the-variants.{Accepted, Plan as AboutPlan}
+use Rattle.refusal.specs.declared.Verdict.the-variants.{Accepted}
 use Rattle.row.specs.Lasso.{nextStep, stepOf}
 use Rattle.conflict.specs.Meaning.{Routes}
+use Rattle.conflict.specs.Outcomes.{refusal20}
 use Rattle.conflict.specs.Search.{allFrom, clear, cartVerdict, narrowVerdict}
 
 -- is a number among these
@@ -24,10 +24,7 @@ computing : List (List ℕ) → ℕ → ℕ → List ℕ → ℕ → Verdict
 unfolding nextStep stepOf clear cartVerdict narrowVerdict
 computing rows h l ns d = narrowVerdict (routes rows h l ns) d
 
-abbrev at20 : ℕ → ℕ → Verdict
-at20 a s = AboutPlan (refused 20 a s)
-
--- three rows of two carts, and the plan of document 01's cases
+-- rows of two carts, the last those of document 01's cases
 abbrev late : List (List ℕ)
 late = (1 ∷ 0 ∷ 0 ∷ []) ∷ (0 ∷ 0 ∷ 1 ∷ []) ∷ []
 
@@ -71,43 +68,47 @@ apart = (1 ∷ 0 ∷ 4 ∷ 4 ∷ []) ∷ (5 ∷ 5 ∷ 0 ∷ 1 ∷ []) ∷ []
 
 pub worked :
     -- met at counters 3 and 2 alone: counters below h are not enough, and the lowest cart is told
-    (narrowVerdict (routes late 3 0 (1 ∷ [])) 1 ≡ at20 0 0)
-    × (narrowVerdict (routes early 3 0 (1 ∷ [])) 1 ≡ at20 0 2)
+    (narrowVerdict (routes late 3 0 (1 ∷ [])) 1 ≡ refusal20 0 0)
+    × (narrowVerdict (routes early 3 0 (1 ∷ [])) 1 ≡ refusal20 0 2)
     × (narrowVerdict (routes late 3 0 (1 ∷ [])) 0 ≡ Accepted)
     -- the step of the earliest counter, not the lowest step
-    × (narrowVerdict (routes turned 4 0 (0 ∷ [])) 2 ≡ at20 0 1)
+    × (narrowVerdict (routes turned 4 0 (0 ∷ [])) 2 ≡ refusal20 0 1)
     -- an exchange comes before the meeting; both its places must be narrow
-    × (narrowVerdict (routes crossing 4 3 (0 ∷ 1 ∷ [])) 1 ≡ at20 0 0)
-    × (narrowVerdict (routes crossing 4 3 (0 ∷ [])) 1 ≡ at20 0 1)
-    × (narrowVerdict (routes swapping 2 0 (0 ∷ 1 ∷ [])) 0 ≡ at20 0 0)
+    × (narrowVerdict (routes crossing 4 3 (0 ∷ 1 ∷ [])) 1 ≡ refusal20 0 0)
+    × (narrowVerdict (routes crossing 4 3 (0 ∷ [])) 1 ≡ refusal20 0 1)
+    × (narrowVerdict (routes swapping 2 0 (0 ∷ 1 ∷ [])) 0 ≡ refusal20 0 0)
     × (narrowVerdict (routes swapping 2 0 (0 ∷ [])) 0 ≡ Accepted)
     × (narrowVerdict (routes swapping 2 0 (1 ∷ [])) 0 ≡ Accepted)
     -- document 01's case plan
-    × (narrowVerdict (routes cases 4 0 (1 ∷ [])) 0 ≡ at20 0 2)
-    × (narrowVerdict (routes cases 4 0 (1 ∷ [])) 1 ≡ at20 0 1)
+    × (narrowVerdict (routes cases 4 0 (1 ∷ [])) 0 ≡ refusal20 0 2)
+    × (narrowVerdict (routes cases 4 0 (1 ∷ [])) 1 ≡ refusal20 0 1)
     × (narrowVerdict (routes cases 4 0 (2 ∷ [])) 1 ≡ Accepted)
 unfolding computing
 worked = (refl, refl, refl, refl, refl, refl, refl, refl, refl, refl, refl, refl)
 
 pub edges :
     -- the lowest cart in a conflict need not be cart 0
-    (narrowVerdict (routes three 2 0 (1 ∷ [])) 1 ≡ at20 1 1)
+    (narrowVerdict (routes three 2 0 (1 ∷ [])) 1 ≡ refusal20 1 1)
     × (narrowVerdict (routes three 2 0 (1 ∷ [])) 0 ≡ Accepted)
     -- the move from the last step to the lap's first counts
-    × (narrowVerdict (routes closing 3 0 (0 ∷ 1 ∷ [])) 0 ≡ at20 0 2)
+    × (narrowVerdict (routes closing 3 0 (0 ∷ 1 ∷ [])) 0 ≡ refusal20 0 2)
     -- one that follows another exchanges nothing with it
     × (narrowVerdict (routes following 2 1 (0 ∷ 1 ∷ [])) 0 ≡ Accepted)
-    × (narrowVerdict (routes following 2 1 (0 ∷ 1 ∷ [])) 1 ≡ at20 0 1)
+    × (narrowVerdict (routes following 2 1 (0 ∷ 1 ∷ [])) 1 ≡ refusal20 0 1)
     -- d counters ahead and d behind, and no more
     × (narrowVerdict (routes ahead 4 3 (1 ∷ [])) 1 ≡ Accepted)
-    × (narrowVerdict (routes ahead 4 3 (1 ∷ [])) 2 ≡ at20 0 0)
+    × (narrowVerdict (routes ahead 4 3 (1 ∷ [])) 2 ≡ refusal20 0 0)
     × (narrowVerdict (routes behind 4 3 (1 ∷ [])) 1 ≡ Accepted)
-    × (narrowVerdict (routes behind 4 3 (1 ∷ [])) 2 ≡ at20 0 2)
-    × (narrowVerdict (routes apart 4 3 (0 ∷ 1 ∷ [])) 1 ≡ at20 0 1)
-    × (narrowVerdict (routes apart 4 3 (0 ∷ 1 ∷ [])) 2 ≡ at20 0 0)
+    × (narrowVerdict (routes behind 4 3 (1 ∷ [])) 2 ≡ refusal20 0 2)
+    × (narrowVerdict (routes apart 4 3 (0 ∷ 1 ∷ [])) 1 ≡ refusal20 0 1)
+    × (narrowVerdict (routes apart 4 3 (0 ∷ 1 ∷ [])) 2 ≡ refusal20 0 0)
+    -- the lap from step 1 on: step 0 does not come again
+    × (narrowVerdict (routes late 3 1 (1 ∷ [])) 1 ≡ Accepted)
+    -- not the next cart only
+    × (narrowVerdict (routes ((0 ∷ []) ∷ (1 ∷ []) ∷ (0 ∷ []) ∷ []) 1 0 (0 ∷ [])) 0 ≡ refusal20 0 0)
     -- one step, parked in one place or in two; one cart alone
-    × (narrowVerdict (routes ((0 ∷ []) ∷ (0 ∷ []) ∷ []) 1 0 (0 ∷ [])) 0 ≡ at20 0 0)
+    × (narrowVerdict (routes ((0 ∷ []) ∷ (0 ∷ []) ∷ []) 1 0 (0 ∷ [])) 0 ≡ refusal20 0 0)
     × (narrowVerdict (routes ((0 ∷ []) ∷ (1 ∷ []) ∷ []) 1 0 (0 ∷ 1 ∷ [])) 16 ≡ Accepted)
     × (narrowVerdict (routes ((0 ∷ []) ∷ []) 1 0 (0 ∷ [])) 3 ≡ Accepted)
 unfolding computing
-edges = (refl, refl, refl, refl, refl, refl, refl, refl, refl, refl, refl, refl, refl, refl)
+edges = (refl, refl, refl, refl, refl, refl, refl, refl, refl, refl, refl, refl, refl, refl, refl, refl)

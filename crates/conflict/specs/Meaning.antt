@@ -17,8 +17,8 @@ pub record Routes : Type 0 where
 
 module _ (P : Routes) where
   -- the place of cart i at counter v
-  abbrev pub placeAt : ℕ → ℕ → ℕ
-  placeAt i v = P .place i (stepOf (P .h) (P .l) v)
+  abbrev pub standsOn : ℕ → ℕ → ℕ
+  standsOn i v = P .place i (stepOf (P .h) (P .l) v)
 
   abbrev pub Narrow : ℕ → Type 0
   Narrow p = T (P .narrow p)
@@ -27,16 +27,16 @@ module _ (P : Routes) where
   module _ (at : ℕ → ℕ → ℕ) (t a b : ℕ) where
     -- "two carts in one narrow place at a moment": a vertex conflict
     pub record Vertex : Type 0 where
-      pub same : placeAt a (at t a) ≡ placeAt b (at t b)
-      pub narrow : Narrow (placeAt a (at t a))
+      pub same : standsOn a (at t a) ≡ standsOn b (at t b)
+      pub narrow : Narrow (standsOn a (at t a))
 
     -- "exchange two carts between two narrow places in one tick": a swap conflict
     pub record Swap : Type 0 where
-      pub differ : placeAt a (at t a) ≡ placeAt b (at t b) → ⊥
-      pub narrow : Narrow (placeAt a (at t a))
-      pub other-narrow : Narrow (placeAt b (at t b))
-      pub there : placeAt a (at (suc t) a) ≡ placeAt b (at t b)
-      pub back : placeAt b (at (suc t) b) ≡ placeAt a (at t a)
+      pub differ : standsOn a (at t a) ≡ standsOn b (at t b) → ⊥
+      pub narrow : Narrow (standsOn a (at t a))
+      pub other-narrow : Narrow (standsOn b (at t b))
+      pub there : standsOn a (at (suc t) a) ≡ standsOn b (at t b)
+      pub back : standsOn b (at (suc t) b) ≡ standsOn a (at t a)
 
     abbrev pub Conflicting : Type 0
     Conflicting = Vertex ⊎ Swap

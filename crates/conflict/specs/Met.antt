@@ -7,7 +7,7 @@ use mathlib.Core.Logic.{_⊎_, inl, inr}
 use lib.Dec.{T, eqb, eqb→eq}
 use borrow.Author.Tests.{eqb-true, eqb-false, eq-eqb}
 use Rattle.cltl.specs.Basics.{or-l, or-r, and-l, and-r, and-i}
-use Rattle.conflict.specs.Meaning.{Routes, placeAt, Narrow}
+use Rattle.conflict.specs.Meaning.{Routes, standsOn, Narrow}
 use Rattle.conflict.specs.Search.{meets}
 
 pub true-T : (t : Bool) → t ≡ true → T t
@@ -20,26 +20,26 @@ T-true false h = absurd h
 
 module _ (P : Routes) (a v b w : ℕ) where
   abbrev p : ℕ
-  p = placeAt P a v
+  p = standsOn P a v
 
   abbrev q : ℕ
-  q = placeAt P b w
+  q = standsOn P b w
 
   -- both in one narrow place
   pub record Same : Type 0 where
-    pub narrow : Narrow P (placeAt P a v)
-    pub one : placeAt P a v ≡ placeAt P b w
+    pub narrow : Narrow P (standsOn P a v)
+    pub one : standsOn P a v ≡ standsOn P b w
 
   -- each goes next to the other's narrow place
   pub record Exchanged : Type 0 where
-    pub narrow : Narrow P (placeAt P a v)
-    pub other-narrow : Narrow P (placeAt P b w)
-    pub there : placeAt P a (suc v) ≡ placeAt P b w
-    pub back : placeAt P b (suc w) ≡ placeAt P a v
+    pub narrow : Narrow P (standsOn P a v)
+    pub other-narrow : Narrow P (standsOn P b w)
+    pub there : standsOn P a (suc v) ≡ standsOn P b w
+    pub back : standsOn P b (suc w) ≡ standsOn P a v
 
   -- the parts of the test
   abbrev moved : Bool
-  moved = eqb (placeAt P a (suc v)) q && eqb (placeAt P b (suc w)) p
+  moved = eqb (standsOn P a (suc v)) q && eqb (standsOn P b (suc w)) p
 
   abbrev changed : Bool
   changed = P .narrow q && moved
@@ -49,15 +49,15 @@ module _ (P : Routes) (a v b w : ℕ) where
 
   pub exchange-meets : Exchanged → T (meets P a v b w)
   exchange-meets x =
-      let next = placeAt P a (suc v) in
-      let next′ = placeAt P b (suc w) in
+      let next = standsOn P a (suc v) in
+      let next′ = standsOn P b (suc w) in
       let there = true-T (eqb next q) (eq-eqb next q (x .there)) in
       let back = true-T (eqb next′ p) (eq-eqb next′ p (x .back)) in
       and-i (P .narrow p) (eqb p q || changed) (x .narrow)
       (or-r (eqb p q) changed (and-i (P .narrow q) moved (x .other-narrow) (and-i (eqb next q) (eqb next′ p) there back)))
 
   -- the place decides: in one place they are in it, else they exchange
-  pub meets-cases : T (meets P a v b w) → Same ⊎ (((placeAt P a v ≡ placeAt P b w) → ⊥) × Exchanged)
+  pub meets-cases : T (meets P a v b w) → Same ⊎ (((standsOn P a v ≡ standsOn P b w) → ⊥) × Exchanged)
   meets-cases m = go (eqb p q) refl (and-r (P .narrow p) (eqb p q || changed) m)
     where
       here : Narrow P p
@@ -65,8 +65,8 @@ module _ (P : Routes) (a v b w : ℕ) where
 
       exchanged : T changed → Exchanged
       exchanged n =
-          let next = placeAt P a (suc v) in
-          let next′ = placeAt P b (suc w) in
+          let next = standsOn P a (suc v) in
+          let next′ = standsOn P b (suc w) in
           let k = and-r (P .narrow q) moved n in
           record {
             narrow = here;

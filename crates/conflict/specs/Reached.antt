@@ -8,7 +8,7 @@ use lib.Dec.{T, eqb}
 use borrow.Author.Tests.{eq-eqb, ne-eqb}
 use Rattle.cltl.specs.Meaning.{Run}
 use Rattle.cltl.specs.Standing.{highest, gather, gathered}
-use Rattle.conflict.specs.Meaning.{Routes, placeAt, Narrow, Vertex, Swap, Conflicting, Conflict}
+use Rattle.conflict.specs.Meaning.{Routes, standsOn, Narrow, Vertex, Swap, Conflicting, Conflict}
 use Rattle.conflict.specs.Search.{meets}
 use Rattle.conflict.specs.Met.{Same, Exchanged, same-meets, exchange-meets, meets-cases, Met}
 
@@ -52,22 +52,22 @@ module _ (P : Routes) (d : ℕ) where
     b-now : run .at moment b ≡ w
     b-now = at-moment b (m .other-there) ∙ of-b
 
-    place-a : placeAt P a (run .at moment a) ≡ placeAt P a v
-    place-a = ap (placeAt P a) a-now
+    place-a : standsOn P a (run .at moment a) ≡ standsOn P a v
+    place-a = ap (standsOn P a) a-now
 
-    place-b : placeAt P b (run .at moment b) ≡ placeAt P b w
-    place-b = ap (placeAt P b) b-now
+    place-b : standsOn P b (run .at moment b) ≡ standsOn P b w
+    place-b = ap (standsOn P b) b-now
 
-    next-a : placeAt P a (run .at (suc moment) a) ≡ placeAt P a (suc v)
-    next-a = ap (placeAt P a) (at-next a (m .cart-there) ∙ ap suc of-a)
+    next-a : standsOn P a (run .at (suc moment) a) ≡ standsOn P a (suc v)
+    next-a = ap (standsOn P a) (at-next a (m .cart-there) ∙ ap suc of-a)
 
-    next-b : placeAt P b (run .at (suc moment) b) ≡ placeAt P b (suc w)
-    next-b = ap (placeAt P b) (at-next b (m .other-there) ∙ ap suc of-b)
+    next-b : standsOn P b (run .at (suc moment) b) ≡ standsOn P b (suc w)
+    next-b = ap (standsOn P b) (at-next b (m .other-there) ∙ ap suc of-b)
 
     vertex : Same P a v b w → Vertex P (run .at) moment a b
     vertex s = record { same = place-a ∙ s .one ∙ sym place-b; narrow = subst (Narrow P) (sym place-a) (s .narrow) }
 
-    swap : (placeAt P a v ≡ placeAt P b w → ⊥) → Exchanged P a v b w → Swap P (run .at) moment a b
+    swap : (standsOn P a v ≡ standsOn P b w → ⊥) → Exchanged P a v b w → Swap P (run .at) moment a b
     swap apart x = record {
       differ = λ e. apart (sym place-a ∙ e ∙ place-b);
       narrow = subst (Narrow P) (sym place-a) (x .narrow);
@@ -96,9 +96,9 @@ module _ (P : Routes) (d : ℕ) where
       narrow = s .narrow;
       other-narrow = s .other-narrow;
       there =
-          ⊎-elim (λ e. absurd (s .differ (ap (placeAt P a) (sym e) ∙ s .there))) (λ e. ap (placeAt P a) (sym e) ∙ s .there) (r .tick t a p);
+          ⊎-elim (λ e. absurd (s .differ (ap (standsOn P a) (sym e) ∙ s .there))) (λ e. ap (standsOn P a) (sym e) ∙ s .there) (r .tick t a p);
       back =
-          ⊎-elim (λ e. absurd (s .differ (sym (ap (placeAt P b) (sym e) ∙ s .back)))) (λ e. ap (placeAt P b) (sym e) ∙ s .back) (r .tick t b q);
+          ⊎-elim (λ e. absurd (s .differ (sym (ap (standsOn P b) (sym e) ∙ s .back)))) (λ e. ap (standsOn P b) (sym e) ∙ s .back) (r .tick t b q);
     }
 
     pub conflict-meets : Conflicting P (r .at) t a b → T (meets P a (r .at t a) b (r .at t b))

@@ -8,7 +8,7 @@ use Rattle.refusal.specs.declared.Verdict.{Verdict}
 use Rattle.refusal.specs.declared.Verdict.the-variants.{Accepted, Plan as AboutPlan}
 use Rattle.row.specs.First.{firstFailing}
 use Rattle.row.specs.Lasso.{stepOf}
-use Rattle.conflict.specs.Meaning.{Routes, placeAt}
+use Rattle.conflict.specs.Meaning.{Routes, standsOn}
 
 -- all n numbers from s on pass a test
 abbrev pub allFrom : (ℕ → Bool) → ℕ → ℕ → Bool
@@ -18,9 +18,9 @@ module _ (P : Routes) where
   -- cart a at counter v and cart b at counter w: in one narrow place, or exchanged between two by their next moves
   abbrev pub meets : ℕ → ℕ → ℕ → ℕ → Bool
   meets a v b w =
-      P .narrow (placeAt P a v)
-      && (eqb (placeAt P a v) (placeAt P b w)
-      || (P .narrow (placeAt P b w) && (eqb (placeAt P a (suc v)) (placeAt P b w) && eqb (placeAt P b (suc w)) (placeAt P a v))))
+      P .narrow (standsOn P a v)
+      && (eqb (standsOn P a v) (standsOn P b w)
+      || (P .narrow (standsOn P b w) && (eqb (standsOn P a (suc v)) (standsOn P b w) && eqb (standsOn P b (suc w)) (standsOn P a v))))
 
   module _ (d : ℕ) where
     -- cart a at counter v meets cart b at none of the counters that are at most d away

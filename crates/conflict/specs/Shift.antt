@@ -6,15 +6,15 @@ use mathlib.Core.Logic.{⊎-elim}
 use lib.Dec.{T}
 use Rattle.row.specs.Lasso.{stepOf}
 use Rattle.row.specs.Round.{pick, step-lap}
-use Rattle.conflict.specs.Meaning.{Routes, placeAt, Narrow, Conflict}
+use Rattle.conflict.specs.Meaning.{Routes, standsOn, Narrow, Conflict}
 use Rattle.conflict.specs.Search.{meets}
 use Rattle.conflict.specs.Met.{Met, same-meets, exchange-meets, meets-cases}
 use Rattle.conflict.specs.Reached.{reached, met}
 
 -- what two carts' places are at two counters each, and next, decides whether they meet
 pub meets-as : (P : Routes) (a v b w v′ w′ : ℕ)
-    → placeAt P a v′ ≡ placeAt P a v → placeAt P b w′ ≡ placeAt P b w → placeAt P a (suc v′) ≡ placeAt P a (suc v)
-    → placeAt P b (suc w′) ≡ placeAt P b (suc w) → T (meets P a v b w) → T (meets P a v′ b w′)
+    → standsOn P a v′ ≡ standsOn P a v → standsOn P b w′ ≡ standsOn P b w → standsOn P a (suc v′) ≡ standsOn P a (suc v)
+    → standsOn P b (suc w′) ≡ standsOn P b (suc w) → T (meets P a v b w) → T (meets P a v′ b w′)
 meets-as P a v b w v′ w′ p q p′ q′ m =
     ⊎-elim
     (λ s. same-meets P a v′ b w′ (record { narrow = subst (Narrow P) (sym p) (s .narrow); one = p ∙ s .one ∙ sym q }))
@@ -28,17 +28,17 @@ meets-as P a v b w v′ w′ p q p′ q′ m =
 
 module _ (P : Routes) (lap : P .l < P .h) (d : ℕ) where
   -- a lap before a counter that is not below h a cart is in the same place
-  place-lap : (i v : ℕ) → P .h ≤ v → placeAt P i (v - (P .h - P .l)) ≡ placeAt P i v
+  place-lap : (i v : ℕ) → P .h ≤ v → standsOn P i (v - (P .h - P .l)) ≡ standsOn P i v
   place-lap i v p =
       let e : v - (P .h - P .l) + (P .h - P .l) ≡ v = omega arith in
       let back : stepOf (P .h) (P .l) (v - (P .h - P .l)) ≡ stepOf (P .h) (P .l) v =
       sym (step-lap (P .h) (P .l) lap (v - (P .h - P .l)) (omega arith)) ∙ ap (stepOf (P .h) (P .l)) e in
       ap (P .place i) back
 
-  next-lap : (i v : ℕ) → P .h ≤ v → placeAt P i (suc (v - (P .h - P .l))) ≡ placeAt P i (suc v)
+  next-lap : (i v : ℕ) → P .h ≤ v → standsOn P i (suc (v - (P .h - P .l))) ≡ standsOn P i (suc v)
   next-lap i v p =
       let e : suc (v - (P .h - P .l)) ≡ suc v - (P .h - P .l) = omega arith in
-      ap (placeAt P i) e ∙ place-lap i (suc v) (omega arith)
+      ap (standsOn P i) e ∙ place-lap i (suc v) (omega arith)
 
   met-earlier : (a v b w : ℕ) → P .h + d ≤ v → Met P d a v b w → Met P d a (v - (P .h - P .l)) b (w - (P .h - P .l))
   met-earlier a v b w far m =

@@ -3,12 +3,12 @@ use crate::Meeting;
 use crate::columns;
 use plan::Head;
 ghost use mathlib.Core.Path.{_≡_};
-ghost use mathlib.Core.Bool.{false};
-ghost use Prim.Native.Nat.{ℕ, suc, _+_, _≤_, _<_};
+ghost use Prim.Native.Nat.{suc, _+_, _≤_, _<_};
+ghost use lib.Dec.{T};
 ghost use lib.ListN.{length};
 ghost use Rattle.row.specs.Lasso.{stepOf};
 ghost use Rattle.conflict.specs.Table.{flag, blockPlace, tableRoutes, LatestAbove};
-ghost use Rattle.conflict.specs.Columns.{Decides, near};
+ghost use Rattle.conflict.specs.Columns.{Decides, Some, near};
 ghost use Rattle.conflict.specs.Above.{Above, FirstMet};
 
 // Whether an entry of the table is of a counter that v is at most d ahead of.
@@ -84,7 +84,7 @@ fn lead(last: &mut [u8; 256], block: &[u8], carts: usize, h: Head, a: usize) -> 
 fn visits(bays: &[u8; 256], block: &[u8], steps: usize, a: usize) -> bool
     requires { ⌜ length (now block) ≡ 2048 ⌝ }
     requires { ⌜ (steps ≤ 64) × (a < 32) ⌝ }
-    ensures { λ r. ⌜ (r ≡ false → (s : ℕ) → s < steps → flag (now (bays .entry)) (blockPlace (now (block .entry)) a s) ≡ false) ⌝ }
+    ensures { λ r. ⌜ Decides (Some 0 steps (λ s. T (flag (now (bays .entry)) (blockPlace (now (block .entry)) a s)))) r ⌝ }
 {
     let mut s = 0;
     while s < steps {

@@ -1,7 +1,7 @@
 -- What a C caller concludes from the promises alone, by testing `number`.
 use Prim.Native.Nat.{ℕ, _≤_, _<_}
 use native.Mathlib.Omega.{arith}
-use mathlib.Core.Path.{_≡_, ap, subst, _∙_}
+use mathlib.Core.Path.{_≡_, refl, ap, subst, subst₂, _∙_}
 use mathlib.Core.Logic.{_⊎_, inl, inr, ⊎-elim, _↔_}
 use mathlib.Core.Bool.{Bool, cond}
 use mathlib.Core.List.{List, _++_, flatten}
@@ -23,10 +23,11 @@ use Rattle.plan.specs.After.{ReadAs}
 use Rattle.plan.specs.declared.Head.{Head}
 use Rattle.plan.specs.declared.PlanRead.{PlanRead}
 use Rattle.moves.specs.Promises.{Moving, CartDeparts}
+use Rattle.moves.specs.Demands.{read-once}
 use Rattle.edit.specs.Replaced.{replaced}
 use Rattle.grammar.specs.Grammar.{Clause}
 use Rattle.cltl.specs.Meaning.{Run, TrueOf, TrueInStep}
-use Rattle.conflict.specs.Meaning.{Vertex, Swap, Conflict}
+use Rattle.conflict.specs.Meaning.{Vertex, Swap, Conflict, Earliest}
 use Rattle.conflict.specs.OfPlan.{planRoutes, ConflictFree}
 use Rattle.plancheck.specs.Check.{planRows}
 use Rattle.plancheck.specs.Meaning.{Plain, Kept, ReadAndOpen, NoneAhead}
@@ -119,10 +120,32 @@ module _ (floor plan rules : List ℕ) (c : Code) (w : PlanCheckedCode floor pla
     pub zero-unexchanged : Swap (planRoutes floor f p) (run .at) t a b → ⊥
     zero-unexchanged = never-exchanged floor plan rules (c .number ≡ 0) (w .means) z f p files run t a b here there two
 
-  -- not 0 where the moves are open without end and some run within the drift has a conflict
-  pub not-zero : (m : Moving floor plan) (a k : ℕ) → Conflict (planRoutes floor (m .floor-is) (m .numbers)) (m .numbers .head .drift) a k
-      → c .number ≡ 0 → ⊥
-  not-zero m a k x z = let e = w .exists-20 m .1 (a, k, x) in omega arith
+  -- 20: cartplan_check_moves says 0, and in the caller's own reading of floor and plan `first` is the lowest cart in any conflict and `second` the step of its
+  -- earliest counter in one
+  pub twenty-moves : c .number ≡ 20 → (c′ : Code) → MovesCheckedCode floor plan c′ → c′ .number ≡ 0
+  twenty-moves e c′ m = m .accepted .1 (w .conflict-20 e .moving)
+
+  pub twenty-earliest : c .number ≡ 20 → (f : Floor) (p : PlanNumbers) → ReadAs floor plan f p
+      → Earliest (planRoutes floor f p) (p .head .drift) (c .first) (c .second)
+  twenty-earliest e f p files =
+      let x = w .conflict-20 e in
+      let m = x .moving in
+      let same = read-once floor plan (m .floor-is) f (m .numbers) p (m .read) files in
+      subst₂ (λ (g : Floor) (q : PlanNumbers). Earliest (planRoutes floor g q) (q .head .drift) (c .first) (c .second)) (same .0) (same .1) (x .earliest)
+
+  -- moves open without end: 20 about the plan, with those numbers, where some run within the drift has a conflict; and where it is not 20 no run has one
+  module _ (m : Moving floor plan) where
+    pub earliest-twenty : (a s : ℕ) → Earliest (planRoutes floor (m .floor-is) (m .numbers)) (m .numbers .head .drift) a s
+        → (c .about ≡ 2) × (c .number ≡ 20) × (c .first ≡ a) × (c .second ≡ s)
+    earliest-twenty a s e = w .told-20 a s (record { moving = m; earliest = e })
+
+    pub conflict-twenty : (a k : ℕ) → Conflict (planRoutes floor (m .floor-is) (m .numbers)) (m .numbers .head .drift) a k → c .number ≡ 20
+    conflict-twenty a k x = w .exists-20 m .1 (a, k, x)
+
+    pub not-twenty : (c .number ≡ 20 → ⊥) → ConflictFree floor (m .floor-is) (m .numbers)
+    not-twenty n r t a b here there two x =
+        n (conflict-twenty a (r .at t a)
+        (record { run = r; moment = t; other = b; cart-there = here; other-there = there; two = two; counter = refl; conflicting = x }))
 
   -- 0 too for the plan with the bytes of a smaller drift
   pub zero-smaller : c .number ≡ 0 → (f : Floor) (p : PlanNumbers) → ReadAs floor plan f p → (d : ℕ) → d ≤ p .head .drift

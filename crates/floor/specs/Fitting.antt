@@ -1,4 +1,4 @@
--- Bodies of each kind, of its length, not too many, with fields in range: records in the table's order are counted, every one. Over any table.
+-- Bodies of each kind, of its length, not too many, with fields in range: records in the table's order are counted, every one.
 use Prim.Native.Nat.{ℕ, suc, _+_, _≤_, _<_}
 use native.Mathlib.Omega.{arith}
 use mathlib.Core.Path.{_≡_, refl, sym, ap, ap₂, subst, _∙_}
@@ -7,13 +7,14 @@ use mathlib.Core.Logic.{_⊎_, inl, inr}
 use mathlib.Core.List.{List, [], _∷_, _++_, map, append-assoc}
 use lib.Dec.{eqb}
 use lib.ListN.{length, length-append}
-use borrow.Author.Tests.{eq-eqb, lt-leb}
+use borrow.Author.Tests.{eq-eqb, lt-leb, not-true}
 use Rattle.record.specs.Record.{Record}
 use Rattle.record.specs.Parts.{ofKind}
 use Rattle.record.specs.All.{All, AllOf}
+use Rattle.record.specs.Opened.{both-true}
 use Rattle.floor.specs.Floor.{Kind, kinds, counts, floorOf, seen, judgedAs, judgedBy, judged, onward, walk}
 use Rattle.floor.specs.Numbers.{inOrder}
-use Rattle.floor.specs.Kinds.{apart, distinct, kinds-distinct, both-true, not-true, eqb-turned, counts-of, Passed}
+use Rattle.floor.specs.Kinds.{unlisted, distinct, kinds-distinct, eqb-turned, counts-of, Passed}
 use Rattle.floor.specs.Sorted.{Group, Groups}
 use Rattle.floor.specs.InOrder.{none}
 use Rattle.floor.specs.Walked.{walkOn}
@@ -42,12 +43,12 @@ abbrev Among : ℕ → List Kind → Type 0
 Among n [] = ⊥
 Among n (k ∷ ks) = (n ≡ k .number) ⊎ Among n ks
 
-among-apart : (n m : ℕ) (ks : List Kind) → apart m ks ≡ true → Among n ks → eqb n m ≡ false
+among-apart : (n m : ℕ) (ks : List Kind) → unlisted m ks ≡ true → Among n ks → eqb n m ≡ false
 among-apart n m [] d a = absurd a
 among-apart n m (k ∷ ks) d (inl q) =
-    let t = both-true (not (eqb m (k .number))) (apart m ks) d in
+    let t = both-true (not (eqb m (k .number))) (unlisted m ks) d in
     eqb-turned m n (ap (eqb m) q ∙ not-true _ (t .0))
-among-apart n m (k ∷ ks) d (inr a) = among-apart n m ks (both-true (not (eqb m (k .number))) (apart m ks) d .1) a
+among-apart n m (k ∷ ks) d (inr a) = among-apart n m ks (both-true (not (eqb m (k .number))) (unlisted m ks) d .1) a
 
 -- behind so many records of the kinds before it, the rest of the table judges as the whole
 abbrev Rest : List Kind → List ℕ → Type 0
@@ -55,7 +56,7 @@ Rest ks before = (ns body : List ℕ) (n : ℕ) → length ns ≡ length ks → 
 
 rest-on : (k : Kind) (ks : List Kind) (before : List ℕ) (m : ℕ) → distinct (k ∷ ks) ≡ true → Rest (k ∷ ks) before → Rest ks (before ++ (m ∷ []))
 rest-on k ks before m d rest ns body n e a =
-    let t = both-true (apart (k .number) ks) (distinct ks) d in
+    let t = both-true (unlisted (k .number) ks) (distinct ks) d in
     ap (λ (x : List ℕ). judgedBy kinds [] x n body) (append-assoc before (m ∷ []) ns) ∙ rest (m ∷ ns) body n (ap suc e) (inr a)
     ∙ ap (λ (b : Bool). cond b (judgedAs k before m ns body) (judgedBy ks (before ++ (m ∷ [])) ns n body)) (among-apart n (k .number) ks (t .0) a)
 
@@ -96,7 +97,7 @@ fits-from [] before (n ∷ ms) groups at d whole rest g = absurd g
 fits-from (k ∷ ks) before [] groups at d whole rest g = absurd g
 fits-from (k ∷ ks) before (n ∷ ms) [] at d whole rest g = absurd g
 fits-from (k ∷ ks) before (n ∷ ms) (bodies ∷ groups) at d whole rest g =
-    let t = both-true (apart (k .number) ks) (distinct ks) d in
+    let t = both-true (unlisted (k .number) ks) (distinct ks) d in
     let group = g .0 in
     let count : 0 + length bodies ≡ n = omega (arith, group .count) in
     let here = kind-fits k ks before whole rest bodies 0 at (omega (arith, group .few (omega arith), count)) (group .sizes) (group .fields) in

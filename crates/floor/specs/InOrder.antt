@@ -8,16 +8,17 @@ use mathlib.Core.List.{List, [], _∷_, _++_, map, append-assoc, append-nil}
 use lib.Dec.{eqb}
 use lib.ListN.{length, take, drop, getD, length-append}
 use lib.Seq.{take-at, drop-append-add}
-use borrow.Author.Tests.{eq-eqb}
+use borrow.Author.Tests.{eq-eqb, not-true}
 use Rattle.endian.specs.Little.{bytes}
 use Rattle.record.specs.Record.{Record, encoded, layout}
 use Rattle.record.specs.Parts.{ofKind}
 use Rattle.record.specs.All.{AllOf}
 use Rattle.record.specs.Laid.{layout-append, length-bodies}
 use Rattle.record.specs.RoundTrip.{AllEncodable, encodable-append, length-encoded}
+use Rattle.record.specs.Opened.{both-true}
 use Rattle.floor.specs.Floor.{Kind}
 use Rattle.floor.specs.Numbers.{inOrder, bodiesOf, bodyAt}
-use Rattle.floor.specs.Kinds.{apart, distinct, both-true, not-true, eqb-turned}
+use Rattle.floor.specs.Kinds.{unlisted, distinct, eqb-turned}
 use Rattle.floor.specs.Sorted.{Groups, groupsOf, other-kind}
 
 ---- The bodies of each kind are found again.
@@ -33,19 +34,19 @@ bodies-other k j [] rs e = refl
 bodies-other k j (x ∷ xs) rs e = other-kind (ofKind j x) (map (ofKind j) xs ++ rs) k e ∙ bodies-other k j xs rs e
 
 -- none of a kind that is not in the table
-none-of : (n : ℕ) (ks : List Kind) (groups : List (List (List ℕ))) → apart n ks ≡ true → bodiesOf n (inOrder ks groups) ≡ []
+none-of : (n : ℕ) (ks : List Kind) (groups : List (List (List ℕ))) → unlisted n ks ≡ true → bodiesOf n (inOrder ks groups) ≡ []
 unfolding bodiesOf
 none-of n [] groups e = refl
 none-of n (k ∷ ks) [] e = refl
 none-of n (k ∷ ks) (bodies ∷ groups) e =
-    let t = both-true (not (eqb n (k .number))) (apart n ks) e in
+    let t = both-true (not (eqb n (k .number))) (unlisted n ks) e in
     bodies-other n (k .number) bodies (inOrder ks groups) (eqb-turned n (k .number) (not-true _ (t .0))) ∙ none-of n ks groups (t .1)
 
-others-same : (n : ℕ) (xs : List (List ℕ)) (rs : List Record) (ks : List Kind) → apart n ks ≡ true
+others-same : (n : ℕ) (xs : List (List ℕ)) (rs : List Record) (ks : List Kind) → unlisted n ks ≡ true
     → groupsOf ks (map (ofKind n) xs ++ rs) ≡ groupsOf ks rs
 others-same n xs rs [] e = refl
 others-same n xs rs (k ∷ ks) e =
-    let t = both-true (not (eqb n (k .number))) (apart n ks) e in
+    let t = both-true (not (eqb n (k .number))) (unlisted n ks) e in
     ap₂ _∷_ (bodies-other (k .number) n xs rs (not-true _ (t .0))) (others-same n xs rs ks (t .1))
 
 pub groups-back : (ks : List Kind) (groups : List (List (List ℕ))) → distinct ks ≡ true → length groups ≡ length ks
@@ -54,7 +55,7 @@ groups-back [] [] d e = refl
 groups-back [] (bodies ∷ groups) d e = absurd (omega arith)
 groups-back (k ∷ ks) [] d e = absurd (omega arith)
 groups-back (k ∷ ks) (bodies ∷ groups) d e =
-    let t = both-true (apart (k .number) ks) (distinct ks) d in
+    let t = both-true (unlisted (k .number) ks) (distinct ks) d in
     ap₂ _∷_
     (bodies-own (k .number) bodies (inOrder ks groups) ∙ ap (λ (x : List (List ℕ)). bodies ++ x) (none-of (k .number) ks groups (t .0)) ∙ append-nil bodies)
     (others-same (k .number) bodies (inOrder ks groups) ks (t .0) ∙ groups-back ks groups (t .1) (omega arith))
@@ -104,11 +105,11 @@ row-at k size (x ∷ xs) t (suc i) h l =
     ∙ row-at k size xs t i (h .1) (omega arith)
 
 -- the offset behind the first kinds of the table, so many records of each
-abbrev pub startOf : List Kind → List ℕ → ℕ → ℕ
-startOf ks ns zero = 0
-startOf [] ns (suc i) = 0
-startOf (k ∷ ks) [] (suc i) = 0
-startOf (k ∷ ks) (n ∷ ns) (suc i) = (4 + k .size) * n + startOf ks ns i
+abbrev pub offsetOf : List Kind → List ℕ → ℕ → ℕ
+offsetOf ks ns zero = 0
+offsetOf [] ns (suc i) = 0
+offsetOf (k ∷ ks) [] (suc i) = 0
+offsetOf (k ∷ ks) (n ∷ ns) (suc i) = (4 + k .size) * n + offsetOf ks ns i
 
 abbrev pub sizeAt : List Kind → ℕ → ℕ
 sizeAt [] i = 0
@@ -122,7 +123,7 @@ none ks = map (λ (k : Kind). 0) ks
 -- the j-th body of the i-th kind
 pub located : (ks : List Kind) (before ms : List ℕ) (groups : List (List (List ℕ))) → Groups ks before (none ks) ms groups → (i j : ℕ)
     → i < length ks → j < length (getD groups i [])
-    → bodyAt (sizeAt ks i) (startOf ks ms i + (4 + sizeAt ks i) * j) (layout (inOrder ks groups)) ≡ getD (getD groups i []) j []
+    → bodyAt (sizeAt ks i) (offsetOf ks ms i + (4 + sizeAt ks i) * j) (layout (inOrder ks groups)) ≡ getD (getD groups i []) j []
 located [] before ms groups g i j l m = absurd (omega arith)
 located (k ∷ ks) before [] groups g i j l m = absurd g
 located (k ∷ ks) before (n ∷ ms) [] g i j l m = absurd g
@@ -136,7 +137,7 @@ located (k ∷ ks) before (n ∷ ms) (bodies ∷ groups) g (suc i) j l m =
     let here = length-bodies (k .number) (k .size) bodies (g .0 .sizes) in
     let count : n ≡ length bodies = omega (arith, g .0 .count) in
     let turned : (4 + k .size) * n ≡ length bodies * (4 + k .size) = ap (λ (x : ℕ). (4 + k .size) * x) count ∙ mul-comm (4 + k .size) (length bodies) in
-    let at : (4 + k .size) * n + startOf ks ms i + (4 + size) * j + 4 ≡ length front + (startOf ks ms i + (4 + size) * j + 4) = omega (arith, here, turned) in
+    let at : (4 + k .size) * n + offsetOf ks ms i + (4 + size) * j + 4 ≡ length front + (offsetOf ks ms i + (4 + size) * j + 4) = omega (arith, here, turned) in
     ap (take size) (ap₂ drop at (layout-append (map (ofKind (k .number)) bodies) (inOrder ks groups))
-    ∙ drop-append-add front (layout (inOrder ks groups)) (startOf ks ms i + (4 + size) * j + 4))
+    ∙ drop-append-add front (layout (inOrder ks groups)) (offsetOf ks ms i + (4 + size) * j + 4))
     ∙ located ks (before ++ (n ∷ [])) ms groups (g .1) i j (omega arith) m

@@ -1,4 +1,4 @@
--- The table of kinds: a floor and its counts, and a record looked up and counted in. Every law is over any table.
+-- The table of kinds: a floor and its counts, and, over any table, a record looked up and counted in.
 use Prim.Native.Nat.{ℕ, zero, suc, _+_, _≤_, _<_}
 use native.Mathlib.Omega.{arith}
 use mathlib.Core.Path.{_≡_, refl, sym, ap, _∙_}
@@ -8,7 +8,7 @@ use mathlib.Core.List.{List, [], _∷_, _++_, append-assoc}
 use lib.Dec.{eqb, leb, ltb}
 use lib.ListN.{length, getD}
 use borrow.Author.Tests.{eqb-true, eqb-false, ne-eqb, leb-false, lt-ltb}
-use Rattle.refusal.specs.Faults.{none-holds, no-fault, not-not}
+use Rattle.refusal.specs.Faults.{none-holds, no-fault, not-not, or-true}
 use Rattle.floor.specs.Floor.{Kind, kinds, counts, floorOf, seen, faultOf, judgedAs, judgedBy}
 use Rattle.floor.specs.declared.Floor.{Floor}
 use Rattle.floor.specs.declared.RecordAnswer.{RecordAnswer}
@@ -32,28 +32,16 @@ pub counts-of : (ns : List ℕ) → length ns ≡ length kinds → counts (floor
 counts-of ns e = ap (λ (n : ℕ). spelled ns n 0) (sym e) ∙ spelled-all ns
 
 -- no two kinds of a table have one number
-abbrev pub apart : ℕ → List Kind → Bool
-apart n [] = true
-apart n (k ∷ ks) = not (eqb n (k .number)) && apart n ks
+abbrev pub unlisted : ℕ → List Kind → Bool
+unlisted n [] = true
+unlisted n (k ∷ ks) = not (eqb n (k .number)) && unlisted n ks
 
 abbrev pub distinct : List Kind → Bool
 distinct [] = true
-distinct (k ∷ ks) = apart (k .number) ks && distinct ks
+distinct (k ∷ ks) = unlisted (k .number) ks && distinct ks
 
 pub kinds-distinct : distinct kinds ≡ true
 kinds-distinct = refl
-
-pub both-true : (a b : Bool) → a && b ≡ true → (a ≡ true) × (b ≡ true)
-both-true true b e = (refl, e)
-both-true false b e = let z : _≡_ {A = ℕ} 0 1 = cc in absurd (omega arith)
-
-or-true : (b : Bool) → b || true ≡ true
-or-true true = refl
-or-true false = refl
-
-pub not-true : (b : Bool) → not b ≡ true → b ≡ false
-not-true true e = sym e
-not-true false e = refl
 
 pub eqb-turned : (a b : ℕ) → eqb a b ≡ false → eqb b a ≡ false
 eqb-turned a b e = ne-eqb b a (λ q. eqb-false a b e (sym q))

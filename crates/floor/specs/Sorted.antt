@@ -7,13 +7,14 @@ use mathlib.Core.Logic.{_⊎_, inl, inr}
 use mathlib.Core.List.{List, [], _∷_, _++_, map}
 use lib.Dec.{eqb}
 use lib.ListN.{length}
-use borrow.Author.Tests.{eq-eqb}
+use borrow.Author.Tests.{eq-eqb, not-true}
 use Rattle.record.specs.Record.{Record}
 use Rattle.record.specs.Parts.{ofKind}
 use Rattle.record.specs.All.{All, AllOf}
+use Rattle.record.specs.Opened.{both-true}
 use Rattle.floor.specs.Floor.{Kind, kinds, counts, floorOf, seen, judged, onward, walk}
 use Rattle.floor.specs.Numbers.{inOrder, bodiesOf}
-use Rattle.floor.specs.Kinds.{apart, distinct, kinds-distinct, both-true, not-true, Counted, counts-of, counted-in, counted-length, counted-seen}
+use Rattle.floor.specs.Kinds.{unlisted, distinct, kinds-distinct, Counted, counts-of, counted-in, counted-length, counted-seen}
 use Rattle.floor.specs.declared.Floor.{Floor}
 use Rattle.floor.specs.declared.RecordAnswer.{RecordAnswer}
 use Rattle.floor.specs.declared.RecordAnswer.the-variants.{Good, Fault}
@@ -50,10 +51,10 @@ module _ (r : Record) (rs : List Record) where
   unfolding bodiesOf
   own-kind n e = ap (λ (b : Bool). cond b (r .body ∷ bodiesOf n rs) (bodiesOf n rs)) (eq-eqb _ _ e)
 
-  pub other-kinds : (ks : List Kind) → apart (r .kind) ks ≡ true → groupsOf ks (r ∷ rs) ≡ groupsOf ks rs
+  pub other-kinds : (ks : List Kind) → unlisted (r .kind) ks ≡ true → groupsOf ks (r ∷ rs) ≡ groupsOf ks rs
   other-kinds [] e = refl
   other-kinds (k ∷ ks) e =
-      let t = both-true (not (eqb (r .kind) (k .number))) (apart (r .kind) ks) e in
+      let t = both-true (not (eqb (r .kind) (k .number))) (unlisted (r .kind) ks) e in
       ap₂ _∷_ (other-kind (k .number) (not-true _ (t .0))) (other-kinds ks (t .1))
 
 -- nothing judged
@@ -81,9 +82,9 @@ module _ (r : Record) (rs : List Record) where
   step (k ∷ ks) before (n ∷ ns) (h ∷ hs) (m ∷ ms) d (inl c) j =
       let g = j .0 .0 in
       let p = c .1 in
-      let t = both-true (apart (k .number) ks) (distinct ks) d in
+      let t = both-true (unlisted (k .number) ks) (distinct ks) d in
       let own = own-kind r rs (k .number) (c .0) in
-      let rest : groupsOf ks (r ∷ rs) ≡ groupsOf ks rs = other-kinds r rs ks (ap (λ (x : ℕ). apart x ks) (c .0) ∙ t .0) in
+      let rest : groupsOf ks (r ∷ rs) ≡ groupsOf ks rs = other-kinds r rs ks (ap (λ (x : ℕ). unlisted x ks) (c .0) ∙ t .0) in
       let is : r ≡ ofKind (k .number) (r .body) = ap (λ (x : ℕ). ofKind x (r .body)) (c .0) in
       let group : Group k before n m ns (r .body ∷ bodiesOf (k .number) rs) = record {
         sizes = (p .size, g .sizes);
@@ -101,7 +102,7 @@ module _ (r : Record) (rs : List Record) where
       clash ns a b = let z : true ≡ false = sym a ∙ b in let y : _≡_ {A = ℕ} 0 1 = cc in omega arith
   step (k ∷ ks) before (n ∷ ns) (h ∷ hs) (m ∷ ms) d (inr c) j =
       let g = j .0 .0 in
-      let t = both-true (apart (k .number) ks) (distinct ks) d in
+      let t = both-true (unlisted (k .number) ks) (distinct ks) d in
       let other = other-kind r rs (k .number) (c .0) in
       let none : bodiesOf (k .number) rs ≡ [] = g .none (counted-seen ks (before ++ (n ∷ [])) ns (r .kind) (r .body) hs (c .2)) in
       let same : m ≡ n = omega (arith, g .count, c .1, ap length none) in

@@ -1,7 +1,7 @@
 -- What the promise gives, clause by clause and byte by byte: a reader of it alone can conclude this.
 use Prim.Native.Nat.{ℕ, _≤_, _<_}
 use native.Mathlib.Omega.{arith}
-use mathlib.Core.Path.{_≡_, subst, subst₂, subst₃}
+use mathlib.Core.Path.{_≡_, refl, subst, subst₂, subst₃}
 use mathlib.Core.Logic.{_⊎_, inl, inr}
 use mathlib.Core.List.{List}
 use lib.Dec.{T}
@@ -19,7 +19,7 @@ use Rattle.plan.specs.Plan.{PlanNumbers, rejected, readPlan}
 use Rattle.plan.specs.After.{ReadAs}
 use Rattle.moves.specs.Promises.{Moving, LowestLeft, FirstRefused}
 use Rattle.moves.specs.Demands.{read-once, first-11}
-use Rattle.conflict.specs.Meaning.{Vertex, Swap, Conflict, Earliest}
+use Rattle.conflict.specs.Meaning.{Routes, Vertex, Swap, Conflict, Earliest}
 use Rattle.conflict.specs.OfPlan.{planRoutes, ConflictFree}
 use Rattle.grammar.specs.Grammar.{top, Clause}
 use Rattle.cltl.specs.Meaning.{Run, TrueOf, TrueInStep}
@@ -70,9 +70,10 @@ module _ (floor plan sheet : List ℕ) (yes : Type 0) (w : Means floor plan shee
     pub reads-with : yes → ReadAs floor (stored plan 8 (bytes 2 d)) f (drifted p d)
     reads-with a = w .smaller a f p files d less .0
 
-  -- what could not be read, or has "next" outside a count under drift, is not accepted
-  pub no-next : yes → (f : Floor) × (p : PlanNumbers) × (cs : List Clause) × ReadAndOpen floor plan sheet f p cs × ((p .head .drift ≡ 0) ⊎ All Plain cs)
-  no-next e = let a = w .readable e in (a .0, a .1, a .2, a .3 .readable, a .3 .no-16)
+  -- what could not be read, has a conflict, or has "next" outside a count under drift, is not accepted
+  pub no-next : yes → (f : Floor) × (p : PlanNumbers) × (cs : List Clause) × ReadAndOpen floor plan sheet f p cs × ConflictFree floor f p
+      × ((p .head .drift ≡ 0) ⊎ All Plain cs)
+  no-next e = let a = w .readable e in (a .0, a .1, a .2, a .3 .readable, a .3 .no-20, a .3 .no-16)
 
 ---- Refused by 11, 20, 16 or 17, in the caller's own reading of floor, plan and sheet.
 -- 11: step k is the lowest that cart c leaves by a move that is not open, and the cart is on another place after it
@@ -97,10 +98,29 @@ check-20 floor plan sheet v w f p files c s e =
     let same = read-once floor plan (m .floor-is) f (m .numbers) p (m .read) files in
     subst₂ (λ (g : Floor) (q : PlanNumbers). Earliest (planRoutes floor g q) (q .head .drift) c s) (same .0) (same .1) (x .earliest)
 
--- a plan whose moves go on without end and that some run within its drift brings into a conflict is not accepted
-pub conflict-refused : (floor plan sheet : List ℕ) (v : Verdict) → PlanChecked floor plan sheet v → (m : Moving floor plan) (a k : ℕ)
-    → Conflict (planRoutes floor (m .floor-is) (m .numbers)) (m .numbers .head .drift) a k → (c : ℕ) × (s : ℕ) × (v ≡ AboutPlan (refused 20 c s))
-conflict-refused floor plan sheet v w m a k x = w .exists-20 m .1 (a, k, x)
+-- moves that go on without end: 20 has those numbers and no others, is given where some run within the drift has a conflict, and where it is not
+-- given no such run has one
+module _ (floor plan sheet : List ℕ) (v : Verdict) (w : PlanChecked floor plan sheet v) (m : Moving floor plan) where
+  abbrev P : Routes
+  P = planRoutes floor (m .floor-is) (m .numbers)
+
+  abbrev d : ℕ
+  d = m .numbers .head .drift
+
+  pub earliest-told : (c s : ℕ) → Earliest P d c s → v ≡ AboutPlan (refused 20 c s)
+  earliest-told c s e = w .conflict-20 c s .1 (record { moving = m; earliest = e })
+
+  pub conflict-refused : (a k : ℕ) → Conflict P d a k → (c : ℕ) × (s : ℕ) × (v ≡ AboutPlan (refused 20 c s))
+  conflict-refused a k x = w .exists-20 m .1 (a, k, x)
+
+  pub refused-conflict : (c s : ℕ) → v ≡ AboutPlan (refused 20 c s) → (a : ℕ) × (k : ℕ) × Conflict P d a k
+  refused-conflict c s e = w .exists-20 m .0 (c, s, e)
+
+  pub not-20-free : ((c s : ℕ) → v ≡ AboutPlan (refused 20 c s) → ⊥) → ConflictFree floor (m .floor-is) (m .numbers)
+  not-20-free n r t a b here there two x =
+      let found = conflict-refused a (r .at t a)
+      (record { run = r; moment = t; other = b; cart-there = here; other-there = there; two = two; counter = refl; conflicting = x }) in
+      n (found .0) (found .1) (found .2)
 
 module _ (floor plan sheet : List ℕ) (v : Verdict) (w : PlanChecked floor plan sheet v) (f : Floor) (p : PlanNumbers) (cs : List Clause)
     (r : ReadAndOpen floor plan sheet f p cs) (k s : ℕ) where

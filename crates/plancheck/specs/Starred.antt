@@ -110,6 +110,19 @@ trailing d =
     4 ∷ 0 ∷ 5 ∷ 0 ∷ 0 ∷ 1 ∷ 0 ∷ 0 ∷
     4 ∷ 0 ∷ 5 ∷ 0 ∷ 0 ∷ 0 ∷ 0 ∷ 1 ∷ []
 
+-- the two places, both lanes, carts from place 0 and from place 1, and narrow places; each goes to the other's place and back
+abbrev facing : List ℕ → List ℕ
+facing narrow =
+    4 ∷ 0 ∷ 1 ∷ 0 ∷ 1 ∷ 0 ∷ 0 ∷ 0 ∷
+    4 ∷ 0 ∷ 1 ∷ 0 ∷ 2 ∷ 0 ∷ 0 ∷ 0 ∷
+    3 ∷ 0 ∷ 2 ∷ 0 ∷ 0 ∷ 1 ∷ 255 ∷
+    3 ∷ 0 ∷ 2 ∷ 0 ∷ 1 ∷ 0 ∷ 255 ∷
+    2 ∷ 0 ∷ 3 ∷ 0 ∷ 0 ∷ 0 ∷
+    2 ∷ 0 ∷ 3 ∷ 0 ∷ 0 ∷ 1 ∷ narrow
+
+abbrev changing : List ℕ
+changing = 6 ∷ 0 ∷ 4 ∷ 0 ∷ 2 ∷ 0 ∷ 0 ∷ 0 ∷ 0 ∷ 0 ∷ 2 ∷ 0 ∷ 5 ∷ 0 ∷ 0 ∷ 1 ∷ 2 ∷ 0 ∷ 5 ∷ 0 ∷ 1 ∷ 0 ∷ []
+
 pub narrowed :
     (verdictOn (narrowing 1) "F [m1,1]" 0 ≡ AboutPlan (refused 20 0 2))
     × (verdictOn (narrowing 1) "F [m1,1]" 1 ≡ AboutPlan (refused 20 0 1))
@@ -122,8 +135,13 @@ pub narrowed :
     × (checked (narrowing 1) (trailing 1) (sheet "true") ≡ Accepted)
     × (checked (narrowing 1) (trailing 2) (sheet "true") ≡ AboutPlan (refused 20 0 1))
     × (checked floor (trailing 2) (sheet "true") ≡ Accepted)
+    -- every record names its place, the same one as often as it likes; both places of an exchange must be named
+    × (verdictOn (narrowing 1 ++ (1 ∷ 0 ∷ 6 ∷ 0 ∷ 1 ∷ [])) "true" 0 ≡ AboutPlan (refused 20 0 2))
+    × (checked (facing (1 ∷ 0 ∷ 6 ∷ 0 ∷ 0 ∷ 1 ∷ 0 ∷ 6 ∷ 0 ∷ 1 ∷ [])) changing (sheet "true") ≡ AboutPlan (refused 20 0 0))
+    × (checked (facing (1 ∷ 0 ∷ 6 ∷ 0 ∷ 0 ∷ 1 ∷ 0 ∷ 6 ∷ 0 ∷ 0 ∷ [])) changing (sheet "true") ≡ Accepted)
+    × (checked (facing (1 ∷ 0 ∷ 6 ∷ 0 ∷ 1 ∷ [])) changing (sheet "true") ≡ Accepted)
 unfolding computing
-narrowed = (refl, refl, refl, refl, refl, refl, refl, refl, refl)
+narrowed = (refl, refl, refl, refl, refl, refl, refl, refl, refl, refl, refl, refl, refl)
 
 ---- Further cases, so that no definition here has another reading.
 -- the two places, lanes 1→0 and 0→1 for these classes, a cart of class 2 from place 1; and a plan that goes to place 0 and back

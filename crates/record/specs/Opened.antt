@@ -23,7 +23,7 @@ goes-on (b ∷ l) h = records-open b l
 pub past-end : (s : List ℕ) (at : ℕ) → length s ≤ at → recordsIn (drop at s) ≡ ended
 past-end s at h = ap recordsIn (drop-of-length-le s h) ∙ records-none
 
-both-true : (a b : Bool) → a && b ≡ true → (a ≡ true) × (b ≡ true)
+pub both-true : (a b : Bool) → a && b ≡ true → (a ≡ true) × (b ≡ true)
 both-true true b e = (refl, e)
 both-true false b e = let z : true ≡ false = sym e in (e, cc)
 

@@ -26,3 +26,7 @@ either-false false b e = (refl, e)
 pub not-is : (x b : Bool) → not x ≡ b → x ≡ not b
 not-is true b e = ap not e
 not-is false b e = ap not e
+
+pub or-true : (b : Bool) → b || true ≡ true
+or-true true = refl
+or-true false = refl

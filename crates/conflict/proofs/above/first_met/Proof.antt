@@ -1,5 +1,6 @@
 use mathlib.Core.Bool.{true}
 use Rattle.refusal.specs.Faults.{not-is}
+use Rattle.conflict.proofs.Deciding.{if-false}
 use Rattle.conflict.proofs.Visiting.{never-there}
 use borrow.Author.Needs.{needs}
 use Rattle.conflict.proofs.above.first_met.Statement.{statement}
@@ -12,7 +13,7 @@ returns : tie.Need-returns
 returns c =
     let a = c .before .before .before .args in
     λ v l. never-there (a .bays .now) (a .block .now) (a .carts) (a .h) (a .a) (c .before .before .before .pre .1 .0)
-    (c .before .visits .ensures (not-is _ true (c .if1 .taken))) v
+    (if-false _ (c .before .visits .result) (c .before .visits .ensures) (not-is _ true (c .if1 .taken))) v
 
 first-above-requires : tie.Need-first-above-requires
 first-above-requires c κs = search needs
