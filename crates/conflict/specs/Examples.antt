@@ -10,7 +10,7 @@ use Rattle.refusal.specs.declared.Verdict.the-variants.{Accepted}
 use Rattle.row.specs.Lasso.{nextStep, stepOf}
 use Rattle.conflict.specs.Meaning.{Routes}
 use Rattle.conflict.specs.Outcomes.{refusal20}
-use Rattle.conflict.specs.Search.{allFrom, clear, cartVerdict, narrowVerdict}
+use Rattle.conflict.specs.Search.{allFrom, clear, earliestVerdict, narrowVerdict}
 
 -- is a number among these
 abbrev among : List ℕ → ℕ → Bool
@@ -21,7 +21,7 @@ abbrev routes : List (List ℕ) → ℕ → ℕ → List ℕ → Routes
 routes rows h l ns = record { carts = length rows; h = h; l = l; place = λ i s. getD (getD rows i []) s 0; narrow = among ns }
 
 computing : List (List ℕ) → ℕ → ℕ → List ℕ → ℕ → Verdict
-unfolding nextStep stepOf clear cartVerdict narrowVerdict
+unfolding nextStep stepOf clear earliestVerdict narrowVerdict
 computing rows h l ns d = narrowVerdict (routes rows h l ns) d
 
 -- rows of two carts, the last those of document 01's cases

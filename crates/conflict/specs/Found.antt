@@ -11,7 +11,7 @@ use Rattle.row.specs.Lasso.{stepOf}
 use Rattle.row.specs.Round.{step-below}
 use Rattle.row.specs.Firsts.{AllPass, FirstAnswer, searched}
 use Rattle.conflict.specs.Meaning.{Routes, Conflict}
-use Rattle.conflict.specs.Search.{clear, cartVerdict, narrowVerdict}
+use Rattle.conflict.specs.Search.{clear, earliestVerdict, narrowVerdict}
 use Rattle.conflict.specs.Shift.{early}
 use Rattle.conflict.specs.Cleared.{apart, not-clear, clear-none}
 use Rattle.conflict.specs.Outcomes.{refusal20, Told, Outcome, none-free}
@@ -33,8 +33,8 @@ module _ (P : Routes) (lap : P .l < P .h) (d : ℕ) where
   abbrev CartOutcome : ℕ → Verdict → Type 0
   CartOutcome a v = (((u : ℕ) → Conflict P d a u → ⊥) × (v ≡ Accepted)) ⊎ CartTold a v
 
-  cart-found : (a : ℕ) → a < P .carts → CartOutcome a (cartVerdict P d a)
-  unfolding cartVerdict
+  cart-found : (a : ℕ) → a < P .carts → CartOutcome a (earliestVerdict P d a)
+  unfolding earliestVerdict
   cart-found a p =
       let top = P .h + d in
       ⊎-elim (λ w. inl (all-clear a (0 + top) (omega arith) (w .0), w .1))
@@ -47,18 +47,18 @@ module _ (P : Routes) (lap : P .l < P .h) (d : ℕ) where
       (searched (clear P d a) (λ v. refusal20 a (stepOf (P .h) (P .l) v)) (λ end. Accepted) top 0)
 
   -- a cart that is accepted is in no conflict
-  cart-free : (a : ℕ) → a < P .carts → isAccepted (cartVerdict P d a) ≡ true → (u : ℕ) → Conflict P d a u → ⊥
+  cart-free : (a : ℕ) → a < P .carts → isAccepted (earliestVerdict P d a) ≡ true → (u : ℕ) → Conflict P d a u → ⊥
   cart-free a p e =
-      ⊎-elim (λ w. w .0) (λ w. absurd (apart (isAccepted (cartVerdict P d a)) e (ap isAccepted (w .is)))) (cart-found a p)
+      ⊎-elim (λ w. w .0) (λ w. absurd (apart (isAccepted (earliestVerdict P d a)) e (ap isAccepted (w .is)))) (cart-found a p)
 
-  cart-told : (a : ℕ) → a < P .carts → isAccepted (cartVerdict P d a) ≡ false → CartTold a (cartVerdict P d a)
+  cart-told : (a : ℕ) → a < P .carts → isAccepted (earliestVerdict P d a) ≡ false → CartTold a (earliestVerdict P d a)
   cart-told a p e =
-      ⊎-elim (λ w. absurd (apart (isAccepted (cartVerdict P d a)) (ap isAccepted (w .1)) e)) (λ w. w) (cart-found a p)
+      ⊎-elim (λ w. absurd (apart (isAccepted (earliestVerdict P d a)) (ap isAccepted (w .1)) e)) (λ w. w) (cart-found a p)
 
   abbrev accepted : ℕ → Bool
-  accepted a = isAccepted (cartVerdict P d a)
+  accepted a = isAccepted (earliestVerdict P d a)
 
-  first-told : FirstAnswer accepted (cartVerdict P d) (λ end. Accepted) 0 (0 + P .carts) (narrowVerdict P d) → Told P d (narrowVerdict P d)
+  first-told : FirstAnswer accepted (earliestVerdict P d) (λ end. Accepted) 0 (0 + P .carts) (narrowVerdict P d) → Told P d (narrowVerdict P d)
   first-told w =
       let a = w .at in
       let there : a < P .carts = omega (arith, w .first .below) in
@@ -83,4 +83,4 @@ module _ (P : Routes) (lap : P .l < P .h) (d : ℕ) where
   found =
       ⊎-elim
       (λ w. inl (none-free P d (λ a v c. cart-free a (c .cart-there) (w .0 a (omega arith) (omega (arith, c .cart-there))) v c), w .1))
-      (λ w. inr (first-told w)) (searched accepted (cartVerdict P d) (λ end. Accepted) (P .carts) 0)
+      (λ w. inr (first-told w)) (searched accepted (earliestVerdict P d) (λ end. Accepted) (P .carts) 0)

@@ -32,9 +32,9 @@ module _ (P : Routes) where
     clear a v = allFrom (λ b. eqb a b || passes a v b) (P .carts) 0
 
     -- the earliest counter of cart a in a conflict: it is below h + d if there is one
-    unfoldable pub cartVerdict : ℕ → Verdict
-    cartVerdict a = firstFailing (clear a) (λ v. AboutPlan (refused 20 a (stepOf (P .h) (P .l) v))) (λ end. Accepted) (P .h + d) 0
+    unfoldable pub earliestVerdict : ℕ → Verdict
+    earliestVerdict a = firstFailing (clear a) (λ v. AboutPlan (refused 20 a (stepOf (P .h) (P .l) v))) (λ end. Accepted) (P .h + d) 0
 
     -- "lowest cart in any conflict": carts in order
     unfoldable pub narrowVerdict : Verdict
-    narrowVerdict = firstFailing (λ a. isAccepted (cartVerdict a)) cartVerdict (λ end. Accepted) (P .carts) 0
+    narrowVerdict = firstFailing (λ a. isAccepted (earliestVerdict a)) earliestVerdict (λ end. Accepted) (P .carts) 0

@@ -31,11 +31,12 @@ spelled-all (m ∷ ns) = ap (λ (x : List ℕ). m ∷ x) (spelled-on m ns (lengt
 pub counts-of : (ns : List ℕ) → length ns ≡ length kinds → counts (floorOf ns) ≡ ns
 counts-of ns e = ap (λ (n : ℕ). spelled ns n 0) (sym e) ∙ spelled-all ns
 
--- no two kinds of a table have one number
+-- a number that no kind of a table has
 abbrev pub unlisted : ℕ → List Kind → Bool
 unlisted n [] = true
 unlisted n (k ∷ ks) = not (eqb n (k .number)) && unlisted n ks
 
+-- no two kinds of a table have one number
 abbrev pub distinct : List Kind → Bool
 distinct [] = true
 distinct (k ∷ ks) = unlisted (k .number) ks && distinct ks

@@ -68,13 +68,14 @@ none-judged (k ∷ ks) before (n ∷ ns) e = (
   none-judged ks (before ++ (n ∷ [])) ns (omega arith),
 )
 
--- one record more in front
-abbrev Judged : List Kind → List ℕ → List ℕ → List ℕ → List Record → Type 0
-Judged ks before ns ms rs = Groups ks before ns ms (groupsOf ks rs) × (rs ≡ inOrder ks (groupsOf ks rs))
+-- records judged: each kind's bodies, and the records that these make up in the table's order
+abbrev Arranged : List Kind → List ℕ → List ℕ → List ℕ → List Record → Type 0
+Arranged ks before ns ms rs = Groups ks before ns ms (groupsOf ks rs) × (rs ≡ inOrder ks (groupsOf ks rs))
 
+-- one record more in front
 module _ (r : Record) (rs : List Record) where
-  step : (ks : List Kind) (before ns hs ms : List ℕ) → distinct ks ≡ true → Counted ks before ns (r .kind) (r .body) hs → Judged ks before hs ms rs
-      → Judged ks before ns ms (r ∷ rs)
+  step : (ks : List Kind) (before ns hs ms : List ℕ) → distinct ks ≡ true → Counted ks before ns (r .kind) (r .body) hs → Arranged ks before hs ms rs
+      → Arranged ks before ns ms (r ∷ rs)
   step [] before ns hs ms d c j = absurd c
   step (k ∷ ks) before [] hs ms d c j = absurd c
   step (k ∷ ks) before (n ∷ ns) [] ms d c j = absurd c
@@ -114,7 +115,7 @@ module _ (r : Record) (rs : List Record) where
 
 -- records judged from f on without a refusal, up to g
 abbrev pub Sorted : Floor → Floor → List Record → Type 0
-Sorted f g rs = Judged kinds [] (counts f) (counts g) rs
+Sorted f g rs = Arranged kinds [] (counts f) (counts g) rs
 
 pub sorted : (rs : List Record) (f : Floor) (at : ℕ) (g : Floor) (n : ℕ) → walk f at rs ≡ At g n → Sorted f g rs
 unfolding walk judged bodiesOf

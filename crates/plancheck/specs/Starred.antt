@@ -17,7 +17,7 @@ use Rattle.plan.specs.After.{afterReading}
 use Rattle.row.specs.Lasso.{nextStep, stepOf}
 use Rattle.row.specs.Moves.{someLaneOpens, isOpen, lowestShut, judgedMoves}
 use Rattle.moves.specs.Carts.{judgedCarts}
-use Rattle.conflict.specs.Search.{clear, cartVerdict, narrowVerdict}
+use Rattle.conflict.specs.Search.{clear, earliestVerdict, narrowVerdict}
 use Rattle.conflict.specs.OfPlan.{named}
 use Rattle.grammar.specs.Reader.{bind, node, skip, expectAt, expect, literal, digits, number, percent, chainAt, chainMore, chain, andChain, orChain, byKind, smallAt, smallOf, byOnward, untilAt, untilOf, deeper, smalls, untils, ors, markBy, marks, inners, countEnd, countBy, counts, clauses, clauseLine, lines, outcome, start, readSheet}
 use Rattle.sheet.specs.Rules.{rulesVerdict}
@@ -63,7 +63,7 @@ verdict = verdictOn floor
 computing : List ℕ → List ℕ → List ℕ → Verdict
 unfolding
     flatten value split recordsIn partsIn parts judged walk readFloor bodiesOf judgedHead judgedPlaces judgedRow readRows readPlan afterReading
-    nextStep stepOf someLaneOpens isOpen lowestShut judgedMoves judgedCarts named clear cartVerdict narrowVerdict
+    nextStep stepOf someLaneOpens isOpen lowestShut judgedMoves judgedCarts named clear earliestVerdict narrowVerdict
     bind node skip expectAt expect literal digits number percent chainAt chainMore chain andChain orChain byKind
     smallAt smallOf byOnward untilAt untilOf deeper smalls untils ors markBy marks inners countEnd countBy counts clauses
     clauseLine lines outcome start readSheet rulesVerdict
