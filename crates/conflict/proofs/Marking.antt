@@ -45,7 +45,8 @@ one-marked bays ns i q size low there e m p l =
     by : (b : Bool) → eqb (getD ns i 0) p ≡ b → flag (set bays q 1) p ≡ named (take i ns) p || b
     by true h =
         let same : p ≡ q = sym (e ∙ eqb-true _ _ h) in
-        ap (λ (k : ℕ). flag (set bays q 1) k) same ∙ ap (λ (n : ℕ). not (eqb n 0)) (getD-set-same bays q 1 0 (omega arith)) ∙ sym (or-true (named (take i ns) p))
+        ap (λ (k : ℕ). flag (set bays q 1) k) same ∙ ap (λ (n : ℕ). not (eqb n 0)) (getD-set-same bays q 1 0 (omega arith))
+        ∙ sym (or-true (named (take i ns) p))
     by false h =
         let other : (p ≡ q → ⊥) = λ x. eqb-false _ _ h (sym (x ∙ e)) in
         ap (λ (n : ℕ). not (eqb n 0)) (getD-set-other bays q p 1 0 other) ∙ m p l ∙ sym (or-false (named (take i ns) p))

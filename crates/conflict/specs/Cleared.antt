@@ -3,7 +3,6 @@ use Prim.Native.Nat.{ℕ, suc, _+_, _-_, _<_}
 use native.Mathlib.Omega.{arith}
 use mathlib.Core.Path.{_≡_, refl, sym, _∙_}
 use mathlib.Core.Bool.{Bool, true, false, not, _||_}
-use mathlib.Core.Logic.{_↔_}
 use lib.Dec.{eqb}
 use borrow.Author.Tests.{ne-eqb, eqb-false, not-false, not-true}
 use Rattle.refusal.specs.Faults.{either-false}
@@ -16,10 +15,6 @@ use Rattle.conflict.specs.Reached.{reached, met}
 
 pub apart : (t : Bool) → t ≡ true → t ≡ false → ⊥
 apart t p q = let z : true ≡ false = sym p ∙ q in let y : _≡_ {A = ℕ} 0 1 = cc in omega arith
-
-pub by-false : (t : Bool) → (t ≡ true → ⊥) → t ≡ false
-by-false true f = absurd (f refl)
-by-false false f = refl
 
 -- of n numbers from s on, all pass, or the first that does not
 module _ (ok : ℕ → Bool) (n s : ℕ) where
@@ -63,9 +58,3 @@ module _ (P : Routes) (d a v : ℕ) where
       let y = or-false (eqb a b) (passes P d a v b) (ne-eqb a b (k .two)) x in
       let z = all-of (λ u. not (meets P a v b u)) (suc (v + d) - (v - d)) (v - d) y w (omega (arith, k .behind)) (omega (arith, k .behind, k .ahead)) in
       apart (meets P a v b w) (T-true (meets P a v b w) (k .meeting)) (not-true (meets P a v b w) z)
-
-  pub conflict-shown : Conflict P d a v → clear P d a v ≡ false
-  conflict-shown c = by-false (clear P d a v) (λ e. clear-none e c)
-
-  pub clear-exact : a < P .carts → (clear P d a v ≡ false) ↔ Conflict P d a v
-  clear-exact p = (not-clear P d a v p, conflict-shown)

@@ -33,7 +33,8 @@ pub extern "C" fn cartplan_write_floor(
     narrow: &[u8],
     out: &mut [u8],
 ) -> Code
-    ensures { λ c. ⌜ FloorWrittenCode (numbers (now (places .entry)) (now (lanes .entry)) (now (carts .entry)) (now (narrow .entry))) (now (out .entry)) c (now (out .exit)) ⌝ }
+    ensures { λ c. ⌜ FloorWrittenCode (numbers (now (places .entry)) (now (lanes .entry)) (now (carts .entry)) (now (narrow .entry)))
+        (now (out .entry)) c (now (out .exit)) ⌝ }
 {
     refusal::code_of(floor::write(places, lanes, carts, narrow, out))
 }

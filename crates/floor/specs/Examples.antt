@@ -81,4 +81,32 @@ pub floors :
     × (writing (1 ∷ []) [] (0 ∷ 0 ∷ []) (0 ∷ []) 20 ≡ record { answer = Written 19; out = place ++ (cart ++ (narrow ++ (9 ∷ []))) })
     × (writing (1 ∷ []) [] (0 ∷ 0 ∷ []) (0 ∷ 1 ∷ []) 99 ≡ unchanged (AboutFloor (refused 6 19 0)) (blank 99))
 unfolding computing
-floors = (refl, refl, refl, refl, refl, refl, refl, refl, refl, refl, refl, refl, refl, refl, refl, refl, refl, refl, refl, refl, refl, refl, refl, refl, refl, refl, refl)
+floors = (
+  refl,
+  refl,
+  refl,
+  refl,
+  refl,
+  refl,
+  refl,
+  refl,
+  refl,
+  refl,
+  refl,
+  refl,
+  refl,
+  refl,
+  refl,
+  refl,
+  refl,
+  refl,
+  refl,
+  refl,
+  refl,
+  refl,
+  refl,
+  refl,
+  refl,
+  refl,
+  refl,
+)

@@ -106,7 +106,8 @@ fits-from (k ∷ ks) before (n ∷ ms) (bodies ∷ groups) at d whole rest g =
       more .0,
       walk-append (floorOf (before ++ none (k ∷ ks))) at (map (ofKind (k .number)) bodies) (inOrder ks groups)
           ∙ ap (λ (w : Walked). walkOn w (inOrder ks groups))
-          (here .1 ∙ ap (λ (x : List ℕ). At (floorOf x) (here .0)) (ap (λ (i : ℕ). before ++ (i ∷ none ks)) count ∙ sym (append-assoc before (n ∷ []) (none ks))))
+          (here .1 ∙ ap (λ (x : List ℕ). At (floorOf x) (here .0))
+          (ap (λ (i : ℕ). before ++ (i ∷ none ks)) count ∙ sym (append-assoc before (n ∷ []) (none ks))))
           ∙ more .1 ∙ ap (λ (x : List ℕ). At (floorOf x) (more .0)) (append-assoc before (n ∷ []) ms),
     )
 

@@ -82,7 +82,8 @@ module _ (s : List ℕ) (f : Floor) (b : Bytes s) (e : readFloor s ≡ Read f) w
 
   -- the j-th body of the i-th kind, wherever its offset is worked out
   body-at : (i j at : ℕ) → i < length kinds → j < length (getD (groupsOf kinds (recordsIn s .records)) i [])
-      → at ≡ offsetOf kinds (counts f) i + (4 + sizeAt kinds i) * j → bodyAt (sizeAt kinds i) at s ≡ getD (getD (groupsOf kinds (recordsIn s .records)) i []) j []
+      → at ≡ offsetOf kinds (counts f) i + (4 + sizeAt kinds i) * j
+      → bodyAt (sizeAt kinds i) at s ≡ getD (getD (groupsOf kinds (recordsIn s .records)) i []) j []
   body-at i j at k l q = ap₂ (bodyAt (sizeAt kinds i)) q file ∙ located kinds [] (counts f) (groupsOf kinds (recordsIn s .records)) (ordered .0) i j k l
 
   place-located : (i : ℕ) → i < f .places → value (bodyAt 4 (placeAt i) s) ≡ getD (numbersOf s .places) i 0

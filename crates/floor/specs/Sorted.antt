@@ -110,7 +110,8 @@ module _ (r : Record) (rs : List Record) where
       let rest : rs ≡ inOrder ks (groupsOf ks rs) = j .1 ∙ ap (λ (x : List (List ℕ)). map (ofKind (k .number)) x ++ inOrder ks (groupsOf ks rs)) none in
       let more = step ks (before ++ (m ∷ [])) ns hs ms (t .1)
       (subst (λ (x : ℕ). Counted ks (before ++ (x ∷ [])) ns (r .kind) (r .body) hs) (sym same) (c .2)) (j .0 .1, rest) in
-      let group : Group k before n m ns [] = record { sizes = tt; count = omega (arith, same); few = λ l. omega (arith, same); fields = tt; none = λ s. refl } in
+      let group : Group k before n m ns [] =
+      record { sizes = tt; count = omega (arith, same); few = λ l. omega (arith, same); fields = tt; none = λ s. refl } in
       rw (other ∙ none) ((group, more .0), more .1)
 
 -- records judged from f on without a refusal, up to g

@@ -106,7 +106,8 @@ module _ (n : FloorNumbers) where
   length-kinds = length-order kinds (bodies n)
 
   pub length-floor : length (floorBytes n)
-      ≡ 8 * length (n .places) + (length (n .lanes) + 4 * partCount 3 (length (n .lanes)) + (length (n .carts) + 4 * partCount 2 (length (n .carts)) + 5 * length (n .narrow)))
+      ≡ 8 * length (n .places) + (length (n .lanes) + 4 * partCount 3 (length (n .lanes))
+      + (length (n .carts) + 4 * partCount 2 (length (n .carts)) + 5 * length (n .narrow)))
   length-floor =
       let p = length-words 1 (n .places) in
       let l = length-laid 2 3 (n .lanes) (omega arith) in

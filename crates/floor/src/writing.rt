@@ -110,7 +110,8 @@ fn judge_numbers(places: &[u32], lanes: &[u8], carts: &[u8], narrow: &[u8]) -> F
 
 // Writes a floor's numbers as a file, or refuses them as reading that file would.
 pub fn write(places: &[u32], lanes: &[u8], carts: &[u8], narrow: &[u8], out: &mut [u8]) -> Verdict
-    ensures { λ v. ⌜ FloorWritten (numbers (now (places .entry)) (now (lanes .entry)) (now (carts .entry)) (now (narrow .entry))) (now (out .entry)) v (now (out .exit)) ⌝ }
+    ensures { λ v. ⌜ FloorWritten (numbers (now (places .entry)) (now (lanes .entry)) (now (carts .entry)) (now (narrow .entry)))
+        (now (out .entry)) v (now (out .exit)) ⌝ }
 {
     match judge_numbers(places, lanes, carts, narrow) {
         FloorAnswer::Refused(r) => Verdict::Floor(r),
@@ -121,7 +122,8 @@ pub fn write(places: &[u32], lanes: &[u8], carts: &[u8], narrow: &[u8], out: &mu
 // Writes a floor's numbers that reading would accept, if there is room.
 fn put_numbers(places: &[u32], lanes: &[u8], carts: &[u8], narrow: &[u8], out: &mut [u8]) -> Verdict
     requires { ⌜ length (floorBytes (numbers (now places) (now lanes) (now carts) (now narrow))) ≤ 65536 ⌝ }
-    ensures { λ v. ⌜ Gives (written AboutFloor (floorBytes (numbers (now (places .entry)) (now (lanes .entry)) (now (carts .entry)) (now (narrow .entry)))) (now (out .entry))) v (now (out .exit)) ⌝ }
+    ensures { λ v. ⌜ Gives (written AboutFloor (floorBytes (numbers (now (places .entry)) (now (lanes .entry)) (now (carts .entry)) (now (narrow .entry))))
+        (now (out .entry))) v (now (out .exit)) ⌝ }
 {
     let n = laid_size(places.len(), lanes.len(), carts.len(), narrow.len());
     if out.len() < n {

@@ -22,7 +22,8 @@ judge-carts-requires : tie.Need-judge-carts-requires
 judge-carts-requires c κs = search needs
 
 returns-2 : tie.Need-returns-2
-returns-2 c = c .judge-carts .ensures (isNarrow (c .before .before .before .before .before .before .before .args .floor .now)) (c .before .before .marked .ensures)
+returns-2 c =
+    c .judge-carts .ensures (isNarrow (c .before .before .before .before .before .before .before .args .floor .now)) (c .before .before .marked .ensures)
 
 pub judge-plan-spec : {M : Type 1} → statement M
 judge-plan-spec = tie.close (tie.spec returns marked-requires judge-carts-requires returns-2)

@@ -20,10 +20,12 @@ abbrev μ-loop : tie.MeasureT-loop
 μ-loop floor f bays₀ i₀ bays i = f .narrow - i
 
 -- the byte that is read names the i-th narrow place
-names : (c : tie.After-wide Inv-loop μ-loop) → c .wide .result ≡ getD (numbersOf (c .before .before .before .before .before .before .before .args .floor .now) .narrow) (c .before .before .before .before .before .loop .i) 0
+names : (c : tie.After-wide Inv-loop μ-loop)
+    → c .wide .result ≡ getD (numbersOf (c .before .before .before .before .before .before .before .args .floor .now) .narrow) (c .before .before .before .before .before .loop .i) 0
 names c =
-    c .wide .ensures ∙ ap (λ (k : ℕ). getD (c .before .before .before .before .before .before .before .args .floor .now) (k + 4) 0) (c .before .before .narrow-at .ensures)
-    ∙ narrow-byte _ _ (c .before .before .before .before .before .before .before .pre) (c .before .before .before .before .before .loop .i) (c .before .before .before .if1 .taken)
+    let s = c .before .before .before .before .before .before .before in
+    c .wide .ensures ∙ ap (λ (k : ℕ). getD (s .args .floor .now) (k + 4) 0) (c .before .before .narrow-at .ensures)
+    ∙ narrow-byte _ _ (s .pre) (c .before .before .before .before .before .loop .i) (c .before .before .before .if1 .taken)
 
 named-low : (c : tie.After-wide Inv-loop μ-loop) → c .wide .result < 256
 named-low c =
