@@ -33,6 +33,10 @@ places = record { carts = 2; h = 4; l = 0; bears = λ i s k. eqb k (cond (leb (i
 abbrev atLeast : ℕ → ℕ → Clause
 atLeast k m = leaf (counted (leaf k) m false)
 
+-- `[mk,p%]`
+abbrev share : ℕ → ℕ → Clause
+share k p = leaf (counted (leaf k) p true)
+
 -- whether it is kept with drift d, and the step that a refusal has
 abbrev judged : ℕ → Clause → Bool × ℕ
 judged d c = (rules places d c 0, failing places d c)
@@ -69,13 +73,20 @@ pub worked :
     × (quota false 2 2 ≡ 1)
     × (quota false 0 2 ≡ 3)
     × (quota false 4 2 ≡ 0)
-    -- percentages are rounded up
-    × (threshold 25 true 12 ≡ 3)
-    × (threshold 25 true 13 ≡ 4)
-    × (threshold 100 true 32 ≡ 32)
+    -- "25% of 5 is 1, 30% of 5 is 2, 50% of 5 is 3"
+    × (threshold 25 true 5 ≡ 1)
+    × (threshold 30 true 5 ≡ 2)
+    × (threshold 50 true 5 ≡ 3)
+    -- below a half and a half of one cart; below and above a half of the last of 32; none, all, and a number as it stands
+    × (threshold 49 true 1 ≡ 0)
+    × (threshold 50 true 1 ≡ 1)
+    × (threshold 98 true 32 ≡ 31)
+    × (threshold 99 true 32 ≡ 32)
     × (threshold 0 true 32 ≡ 0)
-    × (threshold 1 true 1 ≡ 1)
+    × (threshold 100 true 32 ≡ 32)
     × (threshold 3 false 2 ≡ 3)
+    -- rounded before it is negated: 5 + 1 − 3, where 5 + 1 − 2.5 would give 4
+    × (quota false (threshold 50 true 5) 5 ≡ 3)
     -- "X outside a count": X at any depth, and neither true, U, R nor an X inside a count
     × (hasNext (neg (gl (until top (next (atLeast 1 1))))) ≡ true)
     × (hasNext (ev (release (next (atLeast 1 1)) top)) ≡ true)
@@ -93,8 +104,29 @@ pub worked :
     × (judged 0 (next (atLeast 0 2)) ≡ (false, 0))
     -- a kept clause, by the all-carts case at step 2
     × (judged 2 (ev (atLeast 1 1)) ≡ (true, 0))
+    -- percentages of two carts: 24 is no cart, true always and its negation never; 25 is one, and its negation asks for two
+    × (judged 2 (share 1 24) ≡ (true, 0))
+    × (judged 0 (neg (share 1 24)) ≡ (false, 0))
+    × (judged 0 (share 1 25) ≡ (false, 0))
+    × (judged 0 (neg (share 1 25)) ≡ (true, 0))
+    -- 74 is one and has the all-carts case, 75 is two and hasn't
+    × (judged 2 (ev (share 1 74)) ≡ (true, 0))
+    × (judged 2 (ev (share 1 75)) ≡ (false, 0))
+    × (judged 0 (ev (share 1 75)) ≡ (true, 0))
 unfolding computing
 worked = (
+  refl,
+  refl,
+  refl,
+  refl,
+  refl,
+  refl,
+  refl,
+  refl,
+  refl,
+  refl,
+  refl,
+  refl,
   refl,
   refl,
   refl,

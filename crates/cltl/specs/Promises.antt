@@ -9,11 +9,11 @@ use Rattle.cltl.specs.Globally.{globally-broken}
 use Rattle.grammar.specs.Grammar.{top, leaf, neg, and, or, next, until, release, ev, gl, Inner, Counted, counted, Clause}
 use Rattle.row.specs.Lasso.{nextStep, stepOf}
 use Rattle.row.specs.Round.{step-low}
-use Rattle.cltl.specs.Threshold.{threshold, quota}
+use Rattle.cltl.specs.Threshold.{threshold, Nearest, quota}
 use Rattle.cltl.specs.Meaning.{Rows, Proper, Until, AtLeast, Run, Satisfies, TrueOf, InStepAt, TrueInStep}
 use Rattle.cltl.specs.Rules.{judge, inner, count, rules, hasNext}
 use Rattle.cltl.specs.Lap.{fix-law, reach, forever}
-use Rattle.cltl.specs.Wording.{rounded-up, count-holds}
+use Rattle.cltl.specs.Wording.{nearest, count-holds, asks-none}
 use Rattle.cltl.specs.Inner.{inner-sound, inner-complete}
 use Rattle.cltl.specs.Sound.{rules-sound}
 use Rattle.cltl.specs.Monotone.{rules-mono}
@@ -23,9 +23,9 @@ use Rattle.cltl.specs.Broken.{countOr, Broken}
 use Rattle.cltl.specs.Complete.{count-complete}
 
 ---- 'The sheet' and 'Drift rules', in document 01's words.
--- "A percentage becomes a number of carts: percent × carts ÷ 100, rounded up": the least that is not below it. A number is itself.
-pub percentage : (k N : ℕ) → (k * N ≤ 100 * threshold k true N) × ((n : ℕ) → k * N ≤ 100 * n → threshold k true N ≤ n)
-percentage = rounded-up
+-- "A percentage becomes a number of carts", "rounded to the nearest cart, a half going up": its threshold is that number, and no other is. A number is itself.
+pub percentage : (k N m : ℕ) → (m ≡ threshold k true N) ↔ Nearest k N m
+percentage = nearest
 
 pub plain-number : (k N : ℕ) → threshold k false N ≡ k
 unfolding threshold
@@ -84,6 +84,11 @@ module _ (P : Rows) (d s : ℕ) where
         (AtLeast (λ i. (j : ℕ) → j ≤ d → Satisfies P i a (s + j)) m (P .carts) ⊎
         ((m ≡ 1) × ((i : ℕ) → i < P .carts → Satisfies P i a s)))
     count-rule a k percent = count-holds P proper d s low a k percent
+
+    -- a share can be less than half a cart; a count that asks for no cart is true always, and its negation never
+    pub no-carts : (a : Inner) (k : ℕ) (percent : Bool) → threshold k percent (P .carts) ≡ 0
+        → T (Here (leaf (counted a k percent))) × (T (Here (neg (leaf (counted a k percent)))) → ⊥)
+    no-carts a k percent none = asks-none P proper d s low a k percent none
 
     module _ (a b : Clause) where
       -- "a U b: b here, or a here and a U b at the step after, with b reached": at a counter from s on, and a up to there

@@ -1,23 +1,35 @@
 -- What the rules' words for a percentage and a count need a proof for.
-use Prim.Native.Nat.{ℕ, _+_, _*_, _≤_, _<_}
+use Prim.Native.Nat.{ℕ, _+_, _≤_, _<_}
 use mathlib.Core.Path.{_≡_, sym}
-use mathlib.Core.Bool.{Bool, true, not, Bool·not-not}
+use mathlib.Core.Bool.{Bool, true, false, not, Bool·not-not}
 use mathlib.Core.Logic.{_⊎_, inl, inr, ⊎-elim, _↔_}
 use native.Mathlib.Omega.{arith}
 use lib.Dec.{T, T-not}
-use Rattle.grammar.specs.Grammar.{leaf, Inner, counted}
+use Rattle.grammar.specs.Grammar.{leaf, neg, Inner, counted}
 use Rattle.row.specs.Round.{step-low}
-use Rattle.cltl.specs.Threshold.{threshold, quota}
+use Rattle.cltl.specs.Threshold.{threshold, apart, Nearest, quota}
 use Rattle.cltl.specs.Meaning.{Rows, Proper, AtLeast, Satisfies}
 use Rattle.cltl.specs.Rules.{window, judge, inner, count, rules}
 use Rattle.cltl.specs.Inner.{inner-sound, inner-complete}
 use Rattle.cltl.specs.Quorum.{throughout, window-at, window-of, quorum-cases, throughout-quorum, all-quorum}
-use Rattle.cltl.specs.Tally.{tally-least, tally-most, tally-not}
+use Rattle.cltl.specs.Tally.{tally-least, tally-le, tally-most, tally-not}
 
--- the lowest number of carts that is not less than the percentage
-pub rounded-up : (k N : ℕ) → (k * N ≤ 100 * threshold k true N) × ((n : ℕ) → k * N ≤ 100 * n → threshold k true N ≤ n)
+threshold-nearest : (k N : ℕ) → Nearest k N (threshold k true N)
 unfolding threshold
-rounded-up k N = (omega arith, λ n q. omega arith)
+threshold-nearest k N n = (omega arith, λ e. omega arith)
+
+-- no other number is the nearest, since of two that are neither is higher
+pub nearest : (k N m : ℕ) → (m ≡ threshold k true N) ↔ Nearest k N m
+nearest k N m = (
+  λ e. rw e (threshold-nearest k N),
+  λ x.
+      let y = x (threshold k true N) in
+      let z = threshold-nearest k N m in
+      let e : apart k N m ≡ apart k N (threshold k true N) = omega arith in
+      let high = y .1 (sym e) in
+      let low = z .1 e in
+      omega arith,
+)
 
 module _ (P : Rows) (proper : Proper P) (d s : ℕ) (low : s < P .h) (a : Inner) (k : ℕ) (percent : Bool) where
   -- cart i satisfies the text at all of counters s to s + d
@@ -54,4 +66,16 @@ module _ (P : Rows) (proper : Proper P) (d s : ℕ) (low : s < P .h) (a : Inner)
         (λ x.
         all-quorum (P .h) (P .l) (P .carts) m at d s (x .0)
         (λ i p. rw (step-low (P .h) (P .l) s low) at (inner-complete P proper i true a s (x .1 i p)))),
+  )
+
+  -- asking for no cart: there are enough always, and the negation asks for one more than there are
+  pub asks-none : m ≡ 0 → T (rules P d (leaf (counted a k percent)) s) × (T (rules P d (neg (leaf (counted a k percent))) s) → ⊥)
+  unfolding rules judge count quota
+  asks-none e = (
+    throughout-quorum (P .h) (P .l) (P .carts) m at d s (omega (arith, e)),
+    λ x.
+        let but : ℕ → ℕ → Bool = λ i v. inner P i false a v in
+        let some = proper .some in
+        let few = tally-le (λ i. window (P .h) (P .l) (but i) d s) (P .carts) in
+        ⊎-elim (λ q. omega (arith, e)) (λ q. let o = q .0 in omega (arith, e)) (quorum-cases (P .h) (P .l) (P .carts) _ but d s x),
   )

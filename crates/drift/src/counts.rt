@@ -10,27 +10,27 @@ ghost use Rattle.mask.specs.Mask.{Row};
 ghost use Rattle.marks.specs.Table.{Tabled, tableRows};
 ghost use Rattle.drift.specs.Tree.{Ordered, innerTree};
 
-// The number of carts that a count asks for.
-pub fn threshold(number: usize, percent: bool, carts: usize) -> usize
-    requires { ⌜ (number < 65536) × (carts ≤ 32) ⌝ }
-    ensures { λ r. ⌜ r ≡ «threshold_of» number percent carts ⌝ }
+// The number of carts that a count over so many carts asks for: a share is rounded to the nearest, a half going up.
+pub fn threshold(number: usize, percent: bool, size: usize) -> usize
+    requires { ⌜ (number < 65536) × (size ≤ 32) ⌝ }
+    ensures { λ r. ⌜ r ≡ «threshold_of» number percent size ⌝ }
 {
     if percent {
-        (number * carts + 99) / 100
+        (number * size + 50) / 100
     } else {
         number
     }
 }
 
 // The threshold of the count (p), or of its negation.
-pub fn quota(p: bool, m: usize, carts: usize) -> usize
-    requires { ⌜ carts ≤ 32 ⌝ }
-    ensures { λ r. ⌜ r ≡ «quota_of» p m carts ⌝ }
+pub fn quota(p: bool, m: usize, size: usize) -> usize
+    requires { ⌜ size ≤ 32 ⌝ }
+    ensures { λ r. ⌜ r ≡ «quota_of» p m size ⌝ }
 {
     if p {
         return m;
     }
-    if m <= carts { carts + 1 - m } else { 0 }
+    if m <= size { size + 1 - m } else { 0 }
 }
 
 // More than 32 carts there are not.

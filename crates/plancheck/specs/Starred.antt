@@ -143,6 +143,42 @@ pub narrowed :
 unfolding computing
 narrowed = (refl, refl, refl, refl, refl, refl, refl, refl, refl, refl, refl, refl, refl)
 
+---- Document 02, 3): percentages to the nearest cart, a half going up.
+-- five carts from place 0; each goes to the place given for it and back
+abbrev fiveCarts : List ℕ
+fiveCarts = floor ++ (2 ∷ 0 ∷ 3 ∷ 0 ∷ 0 ∷ 0 ∷ 2 ∷ 0 ∷ 3 ∷ 0 ∷ 0 ∷ 0 ∷ 2 ∷ 0 ∷ 3 ∷ 0 ∷ 0 ∷ 0 ∷ [])
+
+abbrev going : (a b c d e : ℕ) → List ℕ
+going a b c d e =
+    6 ∷ 0 ∷ 4 ∷ 0 ∷ 2 ∷ 0 ∷ 0 ∷ 0 ∷ 0 ∷ 0 ∷
+    2 ∷ 0 ∷ 5 ∷ 0 ∷ 0 ∷ a ∷
+    2 ∷ 0 ∷ 5 ∷ 0 ∷ 0 ∷ b ∷
+    2 ∷ 0 ∷ 5 ∷ 0 ∷ 0 ∷ c ∷
+    2 ∷ 0 ∷ 5 ∷ 0 ∷ 0 ∷ d ∷
+    2 ∷ 0 ∷ 5 ∷ 0 ∷ 0 ∷ e ∷ []
+
+pub percentages :
+    -- "25% of 5 is 1, 30% of 5 is 2, 50% of 5 is 3": so many on place 1, and one less
+    (checked fiveCarts (going 0 0 0 0 1) (sheet "X [m1,25%]") ≡ Accepted)
+    × (checked fiveCarts (going 0 0 0 0 0) (sheet "X [m1,25%]") ≡ AboutRules (refused 17 0 0))
+    × (checked fiveCarts (going 1 0 0 0 1) (sheet "X [m1,30%]") ≡ Accepted)
+    × (checked fiveCarts (going 1 0 0 0 0) (sheet "X [m1,30%]") ≡ AboutRules (refused 17 0 0))
+    × (checked fiveCarts (going 0 1 1 1 0) (sheet "X [m1,50%]") ≡ Accepted)
+    × (checked fiveCarts (going 0 1 1 0 0) (sheet "X [m1,50%]") ≡ AboutRules (refused 17 0 0))
+    -- rounded, then negated: three of the five carts elsewhere are enough
+    × (checked fiveCarts (going 0 1 1 0 0) (sheet "X ![m1,50%]") ≡ Accepted)
+    × (checked fiveCarts (going 0 1 1 1 0) (sheet "X ![m1,50%]") ≡ AboutRules (refused 17 0 0))
+    -- less than half a cart of two is none: true always, its negation never
+    × (verdict "G [!true,24%]" 16 ≡ Accepted)
+    × (verdict "F ![!true,24%]" 0 ≡ AboutRules (refused 17 0 0))
+    × (verdict "F [!true,25%]" 0 ≡ AboutRules (refused 17 0 0))
+    -- less than one and a half is one, with the all-carts case; one and a half is two, without it
+    × (verdict "F [m1,74%]" 2 ≡ Accepted)
+    × (verdict "F [m1,75%]" 0 ≡ Accepted)
+    × (verdict "F [m1,75%]" 2 ≡ AboutRules (refused 17 0 0))
+unfolding computing
+percentages = (refl, refl, refl, refl, refl, refl, refl, refl, refl, refl, refl, refl, refl, refl)
+
 ---- Further cases, so that no definition here has another reading.
 -- the two places, lanes 1→0 and 0→1 for these classes, a cart of class 2 from place 1; and a plan that goes to place 0 and back
 abbrev another : ℕ → List ℕ

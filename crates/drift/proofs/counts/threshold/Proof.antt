@@ -7,8 +7,8 @@ use Rattle.drift.proofs.counts.threshold.Tie as tie
 use Rattle.drift.proofs.counts.threshold.Reads as reads
 use Rattle.drift.proofs.counts.threshold.Lts as lts
 
-small : (c : lts.Then1 reads.Pre reads.Post) → c .before .args .number * c .before .args .carts ≤ 65535 * 32
-small c = mul-le-mul {n₁ = c .before .args .number} {m₁ = c .before .args .carts} {n₂ = 65535} {m₂ = 32} (omega arith) (omega arith)
+small : (c : lts.Then1 reads.Pre reads.Post) → c .before .args .number * c .before .args .size ≤ 65535 * 32
+small c = mul-le-mul {n₁ = c .before .args .number} {m₁ = c .before .args .size} {n₂ = 65535} {m₂ = 32} (omega arith) (omega arith)
 
 -- src/counts.rt:17:19
 mul-result : tie.Need-mul-result
