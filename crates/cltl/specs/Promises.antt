@@ -1,6 +1,6 @@
 -- What is claimed of cLTL+, for any rows with a cart and a lap, any clauses and drifts.
 use Prim.Native.Nat.{ℕ, suc, _+_, _*_, _-_, _≤_, _<_}
-use mathlib.Core.Path.{_≡_, refl}
+use mathlib.Core.Path.{_≡_, refl, subst}
 use mathlib.Core.Bool.{Bool, true, false, _&&_, _||_}
 use mathlib.Core.Logic.{_⊎_, _↔_}
 use native.Mathlib.Omega.{arith}
@@ -10,7 +10,7 @@ use Rattle.grammar.specs.Grammar.{top, leaf, neg, and, or, next, until, release
 use Rattle.row.specs.Lasso.{nextStep, stepOf}
 use Rattle.row.specs.Round.{step-low}
 use Rattle.cltl.specs.Threshold.{threshold, Nearest, quota}
-use Rattle.cltl.specs.Meaning.{Rows, Proper, Until, AtLeast, Run, Satisfies, TrueOf, InStepAt, TrueInStep}
+use Rattle.cltl.specs.Meaning.{Rows, Proper, Until, AtLeast, Run, Satisfies, Counts, TrueOf, InStepAt, TrueInStep}
 use Rattle.cltl.specs.Rules.{judge, inner, count, rules, hasNext}
 use Rattle.cltl.specs.Lap.{fix-law, reach, forever}
 use Rattle.cltl.specs.Wording.{nearest, count-holds, asks-none}
@@ -22,8 +22,8 @@ use Rattle.cltl.specs.Standing.{gather, gathered, highest}
 use Rattle.cltl.specs.Broken.{countOr, Broken}
 use Rattle.cltl.specs.Complete.{count-complete}
 
----- 'The sheet' and 'Drift rules', in document 01's words.
--- "A percentage becomes a number of carts", "rounded to the nearest cart, a half going up": its threshold is that number, and no other is. A number is itself.
+---- 'The sheet' and 'Drift rules', in document 01's words, and percentages in document 02's.
+-- "A percentage becomes a number of carts", "rounded to the nearest cart, a half going up": its threshold is that number and no other. A number is itself.
 pub percentage : (k N m : ℕ) → (m ≡ threshold k true N) ↔ Nearest k N m
 percentage = nearest
 
@@ -110,6 +110,14 @@ module _ (P : Rows) (d s : ℕ) where
       release-unended f = rw (step-low (P .h) (P .l) s low) at (forever (P .h) (P .l) (proper .lap) (λ v. rules P d a v) (λ v. rules P d b v) (P .h) s f)
 
 ---- Runs.
+-- "A count holds if at least its threshold of carts satisfy the inner text at their counters of moment t": a percentage if the nearest number of carts do
+pub share-holds : (P : Rows) (at : ℕ → ℕ → ℕ) (a : Inner) (k t : ℕ)
+    → Counts P at (counted a k true) t ↔ ((m : ℕ) × Nearest k (P .carts) m × AtLeast (λ i. Satisfies P i a (at t i)) m (P .carts))
+share-holds P at a k t = (
+  λ x. (threshold k true (P .carts), percentage k (P .carts) (threshold k true (P .carts)) .0 refl, x),
+  λ x. subst (λ (m : ℕ). AtLeast (λ i. Satisfies P i a (at t i)) m (P .carts)) (percentage k (P .carts) (x .0) .1 (x .1)) (x .2),
+)
+
 module _ (P : Rows) (proper : Proper P) where
   -- inner text on a row is decided exactly, at every counter
   pub inner-exact : (i : ℕ) (a : Inner) (v : ℕ) → T (inner P i true a (stepOf (P .h) (P .l) v)) ↔ Satisfies P i a v

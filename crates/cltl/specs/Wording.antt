@@ -7,7 +7,7 @@ use native.Mathlib.Omega.{arith}
 use lib.Dec.{T, T-not}
 use Rattle.grammar.specs.Grammar.{leaf, neg, Inner, counted}
 use Rattle.row.specs.Round.{step-low}
-use Rattle.cltl.specs.Threshold.{threshold, apart, Nearest, quota}
+use Rattle.cltl.specs.Threshold.{threshold, distance, Nearest, quota}
 use Rattle.cltl.specs.Meaning.{Rows, Proper, AtLeast, Satisfies}
 use Rattle.cltl.specs.Rules.{window, judge, inner, count, rules}
 use Rattle.cltl.specs.Inner.{inner-sound, inner-complete}
@@ -25,7 +25,7 @@ nearest k N m = (
   λ x.
       let y = x (threshold k true N) in
       let z = threshold-nearest k N m in
-      let e : apart k N m ≡ apart k N (threshold k true N) = omega arith in
+      let e : distance k N m ≡ distance k N (threshold k true N) = omega arith in
       let high = y .1 (sym e) in
       let low = z .1 e in
       omega arith,

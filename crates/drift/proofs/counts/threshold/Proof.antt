@@ -21,7 +21,7 @@ add-result c = let m = small c in omega arith
 -- src/counts.rt:13:1
 returns : tie.Need-returns
 unfolding threshold
-returns c = rw (c .if1 .taken)
+returns c = rw (c .if1 .taken) (omega arith)
 
 -- src/counts.rt:13:1
 returns-2 : tie.Need-returns-2
