@@ -66,7 +66,8 @@ struct cartplan_verdict cartplan_check_moves(const uint8_t *floor, size_t floor_
  * cart in any such conflict, and the step of its earliest counter in one, for an exchange the counter before the tick. Then the
  * refusals of cartplan_read_rules; then, about the rules: with a drift above 0, 16 (clause, 0) for the lowest clause with X
  * outside a count; then 17 (clause, step) for the lowest clause that is not true, the step being the lowest at which its body
- * fails if its outermost operator is G, else 0. A percentage is of the floor's carts, to the nearest cart, a half going up. */
+ * fails if its outermost operator is G, else 0. A percentage is of the floor's carts, to the nearest cart, a half going up; less
+ * than half a cart is none, and such a count is always true. */
 struct cartplan_verdict cartplan_check(const uint8_t *floor, size_t floor_len,
                                        const uint8_t *plan, size_t plan_len,
                                        const uint8_t *rules, size_t rules_len);

@@ -77,7 +77,8 @@ pub worked :
     × (threshold 25 true 5 ≡ 1)
     × (threshold 30 true 5 ≡ 2)
     × (threshold 50 true 5 ≡ 3)
-    -- below a half and a half of one cart; below and above a half of the last of 32; none, all, and a number as it stands
+    × (threshold 90 true 5 ≡ 5)
+    -- one cart: 0.49 and 0.5; 32 carts: 31.36 and 31.68; none, all, and a number as it stands
     × (threshold 49 true 1 ≡ 0)
     × (threshold 50 true 1 ≡ 1)
     × (threshold 98 true 32 ≡ 31)
@@ -85,8 +86,6 @@ pub worked :
     × (threshold 0 true 32 ≡ 0)
     × (threshold 100 true 32 ≡ 32)
     × (threshold 3 false 2 ≡ 3)
-    -- rounded before it is negated: 5 + 1 − 3, where 5 + 1 − 2.5 would give 4
-    × (quota false (threshold 50 true 5) 5 ≡ 3)
     -- "X outside a count": X at any depth, and neither true, U, R nor an X inside a count
     × (hasNext (neg (gl (until top (next (atLeast 1 1))))) ≡ true)
     × (hasNext (ev (release (next (atLeast 1 1)) top)) ≡ true)
@@ -104,7 +103,8 @@ pub worked :
     × (judged 0 (next (atLeast 0 2)) ≡ (false, 0))
     -- a kept clause, by the all-carts case at step 2
     × (judged 2 (ev (atLeast 1 1)) ≡ (true, 0))
-    -- percentages of two carts: 24 is no cart, true always and its negation never; 25 is one, and its negation asks for two
+    -- percentages of two carts: 24 is no cart, true always and its negation never; 25 is one, and its negation asks for 2 + 1 − 1 (rounded after the
+    -- negation, 2 + 1 − 0.5 would go up to 3)
     × (judged 2 (share 1 24) ≡ (true, 0))
     × (judged 0 (neg (share 1 24)) ≡ (false, 0))
     × (judged 0 (share 1 25) ≡ (false, 0))
@@ -113,8 +113,13 @@ pub worked :
     × (judged 2 (ev (share 1 74)) ≡ (true, 0))
     × (judged 2 (ev (share 1 75)) ≡ (false, 0))
     × (judged 0 (ev (share 1 75)) ≡ (true, 0))
+    -- their negations ask for two, without the all-carts case, and for one, with it
+    × (judged 2 (ev (neg (share 0 74))) ≡ (false, 0))
+    × (judged 2 (ev (neg (share 0 75))) ≡ (true, 0))
 unfolding computing
 worked = (
+  refl,
+  refl,
   refl,
   refl,
   refl,

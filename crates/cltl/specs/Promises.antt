@@ -13,7 +13,7 @@ use Rattle.cltl.specs.Threshold.{threshold, Nearest, quota}
 use Rattle.cltl.specs.Meaning.{Rows, Proper, Until, AtLeast, Run, Satisfies, Counts, TrueOf, InStepAt, TrueInStep}
 use Rattle.cltl.specs.Rules.{judge, inner, count, rules, hasNext}
 use Rattle.cltl.specs.Lap.{fix-law, reach, forever}
-use Rattle.cltl.specs.Wording.{nearest, count-holds, asks-none}
+use Rattle.cltl.specs.Wording.{nearest, none-below-half, count-holds, asks-none}
 use Rattle.cltl.specs.Inner.{inner-sound, inner-complete}
 use Rattle.cltl.specs.Sound.{rules-sound}
 use Rattle.cltl.specs.Monotone.{rules-mono}
@@ -23,10 +23,15 @@ use Rattle.cltl.specs.Broken.{countOr, Broken}
 use Rattle.cltl.specs.Complete.{count-complete}
 
 ---- 'The sheet' and 'Drift rules', in document 01's words, and percentages in document 02's.
--- "A percentage becomes a number of carts", "rounded to the nearest cart, a half going up": its threshold is that number and no other. A number is itself.
+-- "A percentage becomes a number of carts", "rounded to the nearest cart, a half going up": its threshold is that number and no other
 pub percentage : (k N m : ℕ) → (m ≡ threshold k true N) ↔ Nearest k N m
 percentage = nearest
 
+-- so it is 0 exactly if the share is less than half a cart
+pub below-half : (k N : ℕ) → (threshold k true N ≡ 0) ↔ (2 * (k * N) < 100)
+below-half = none-below-half
+
+-- a number is itself
 pub plain-number : (k N : ℕ) → threshold k false N ≡ k
 unfolding threshold
 plain-number k N = refl
@@ -85,7 +90,7 @@ module _ (P : Rows) (d s : ℕ) where
         ((m ≡ 1) × ((i : ℕ) → i < P .carts → Satisfies P i a s)))
     count-rule a k percent = count-holds P proper d s low a k percent
 
-    -- a share can be less than half a cart; a count that asks for no cart is true always, and its negation never
+    -- a count that asks for no cart, as a share of less than half a cart does, is true always, and its negation never
     pub no-carts : (a : Inner) (k : ℕ) (percent : Bool) → threshold k percent (P .carts) ≡ 0
         → T (Here (leaf (counted a k percent))) × (T (Here (neg (leaf (counted a k percent)))) → ⊥)
     no-carts a k percent none = asks-none P proper d s low a k percent none
@@ -110,7 +115,8 @@ module _ (P : Rows) (d s : ℕ) where
       release-unended f = rw (step-low (P .h) (P .l) s low) at (forever (P .h) (P .l) (proper .lap) (λ v. rules P d a v) (λ v. rules P d b v) (P .h) s f)
 
 ---- Runs.
--- "A count holds if at least its threshold of carts satisfy the inner text at their counters of moment t": a percentage if the nearest number of carts do
+-- "A count holds if at least its threshold of carts satisfy the inner text at their counters of moment t": for a
+-- percentage, if at least the nearest number of carts do
 pub share-holds : (P : Rows) (at : ℕ → ℕ → ℕ) (a : Inner) (k t : ℕ)
     → Counts P at (counted a k true) t ↔ ((m : ℕ) × Nearest k (P .carts) m × AtLeast (λ i. Satisfies P i a (at t i)) m (P .carts))
 share-holds P at a k t = (

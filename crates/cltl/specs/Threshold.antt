@@ -1,4 +1,4 @@
--- How many carts a count asks for. `size` is how many carts it counts.
+-- How many carts a count asks for. `size` is how many carts it is over.
 use Prim.Native.Nat.{ℕ, suc, _+_, _*_, _-_, _/_, _≤_}
 use mathlib.Core.Path.{_≡_}
 use mathlib.Core.Bool.{Bool, true, false}
@@ -7,13 +7,13 @@ use mathlib.Core.Bool.{Bool, true, false}
 -- cart, a half going up".
 unfoldable pub threshold : ℕ → Bool → ℕ → ℕ
 threshold number false size = number
-threshold percent true size = (percent * size + 50) / 100
+threshold number true size = (number * size + 50) / 100
 
--- The same without the division.
-module _ (percent size : ℕ) where
-  -- how far n carts are from percent × size ÷ 100, in hundredths of a cart
+-- What the threshold of k percent means, without the division.
+module _ (k size : ℕ) where
+  -- how far n carts are from k × size ÷ 100, in hundredths of a cart
   abbrev pub distance : ℕ → ℕ
-  distance n = (100 * n - percent * size) + (percent * size - 100 * n)
+  distance n = (100 * n - k * size) + (k * size - 100 * n)
 
   -- m is "the nearest cart, a half going up": no number of carts is nearer, and none that is as near is higher
   abbrev pub Nearest : ℕ → Type 0

@@ -1,5 +1,5 @@
 -- What the rules' words for a percentage and a count need a proof for.
-use Prim.Native.Nat.{ℕ, _+_, _≤_, _<_}
+use Prim.Native.Nat.{ℕ, _+_, _*_, _≤_, _<_}
 use mathlib.Core.Path.{_≡_, sym}
 use mathlib.Core.Bool.{Bool, true, false, not, Bool·not-not}
 use mathlib.Core.Logic.{_⊎_, inl, inr, ⊎-elim, _↔_}
@@ -18,7 +18,7 @@ threshold-nearest : (k N : ℕ) → Nearest k N (threshold k true N)
 unfolding threshold
 threshold-nearest k N n = (omega arith, λ e. omega arith)
 
--- no other number is the nearest, since of two that are neither is higher
+-- no other number is the nearest: of two that are, each would be at least as high as the other
 pub nearest : (k N m : ℕ) → (m ≡ threshold k true N) ↔ Nearest k N m
 nearest k N m = (
   λ e. rw e (threshold-nearest k N),
@@ -30,6 +30,11 @@ nearest k N m = (
       let low = z .1 e in
       omega arith,
 )
+
+-- less than half a cart is none, and nothing else is
+pub none-below-half : (k N : ℕ) → (threshold k true N ≡ 0) ↔ (2 * (k * N) < 100)
+unfolding threshold
+none-below-half k N = (λ e. omega arith, λ q. omega arith)
 
 module _ (P : Rows) (proper : Proper P) (d s : ℕ) (low : s < P .h) (a : Inner) (k : ℕ) (percent : Bool) where
   -- cart i satisfies the text at all of counters s to s + d

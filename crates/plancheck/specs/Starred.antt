@@ -168,16 +168,21 @@ pub percentages :
     -- rounded, then negated: three of the five carts elsewhere are enough
     × (checked fiveCarts (going 0 1 1 0 0) (sheet "X ![m1,50%]") ≡ Accepted)
     × (checked fiveCarts (going 0 1 1 1 0) (sheet "X ![m1,50%]") ≡ AboutRules (refused 17 0 0))
-    -- less than half a cart of two is none: true always, its negation never
+    -- 24% of two carts is less than half a cart, so none: true always, its negation never; 25% is half a cart, so one
     × (verdict "G [!true,24%]" 16 ≡ Accepted)
     × (verdict "F ![!true,24%]" 0 ≡ AboutRules (refused 17 0 0))
     × (verdict "F [!true,25%]" 0 ≡ AboutRules (refused 17 0 0))
-    -- less than one and a half is one, with the all-carts case; one and a half is two, without it
+    × (verdict "G [m0,25%]" 1 ≡ AboutRules (refused 17 0 1))
+    -- up to 74% is one, with the all-carts case; 75% is one and a half, so two, without it
+    × (verdict "F [m1,50%]" 2 ≡ Accepted)
     × (verdict "F [m1,74%]" 2 ≡ Accepted)
     × (verdict "F [m1,75%]" 0 ≡ Accepted)
     × (verdict "F [m1,75%]" 2 ≡ AboutRules (refused 17 0 0))
+    -- their negations ask for two, without the all-carts case, and for one, with it
+    × (verdict "F ![m0,74%]" 2 ≡ AboutRules (refused 17 0 0))
+    × (verdict "F ![m0,75%]" 2 ≡ Accepted)
 unfolding computing
-percentages = (refl, refl, refl, refl, refl, refl, refl, refl, refl, refl, refl, refl, refl, refl)
+percentages = (refl, refl, refl, refl, refl, refl, refl, refl, refl, refl, refl, refl, refl, refl, refl, refl, refl, refl)
 
 ---- Further cases, so that no definition here has another reading.
 -- the two places, lanes 1→0 and 0→1 for these classes, a cart of class 2 from place 1; and a plan that goes to place 0 and back
