@@ -24,14 +24,22 @@ pub struct Threshold {
 }
 
 impl Threshold {
-    /// The number of carts that is asked for.
+    /// The number of carts that is asked for: of a percentage the whole carts, and one more where at least half a cart is left.
     pub fn of(self, carts: usize) -> usize {
-        let number = self.number as usize;
-        if self.percent {
-            (number * carts + 99) / 100
-        } else {
-            number
+        if !self.percent {
+            return self.number as usize;
         }
+        let (whole, rest) = (self.share(carts) / 100, self.share(carts) % 100);
+        if 2 * rest < 100 {
+            whole
+        } else {
+            whole + 1
+        }
+    }
+
+    /// A percentage of so many carts, in hundredths of a cart.
+    pub fn share(self, carts: usize) -> usize {
+        self.number as usize * carts
     }
 }
 
