@@ -125,7 +125,7 @@ impl<'a> Clauses<'a> {
             4 => carts,
             _ => self.telling(clause, inner),
         };
-        if number <= carts && self.random.chance(25) {
+        if number <= carts && self.random.chance(35) {
             return self.percentage(number);
         }
         let number = number as u32;
@@ -150,13 +150,23 @@ impl<'a> Clauses<'a> {
         (number + self.random.pick(&[1, 1, 1, 0, 2])).saturating_sub(1)
     }
 
-    /// A percentage that rounds up to this number, or one beside it.
+    /// A percentage beside the half at which this number is reached: the lowest that gives it, the one below, or the nearest of those
+    /// that leave half a cart over; now and then any.
     fn percentage(&mut self, number: usize) -> Threshold {
-        let percent = number * 100 / self.collection.carts();
-        let number = (percent + self.random.pick(&[0, 0, 1])).min(100) as u32;
-        Threshold {
+        let carts = self.collection.carts();
+        let percent = |number| Threshold {
             number,
             percent: true,
-        }
+        };
+        let reaches = |p: &u32| percent(*p).of(carts) >= number;
+        let lowest = (0..=100).find(reaches).expect("all of the carts");
+        let halves = (0..=100).filter(|p| percent(*p).share(carts) % 100 == 50);
+        let half = halves.min_by_key(|p| p.abs_diff(lowest));
+        percent(match self.random.below(20) {
+            0 => self.random.below(101) as u32,
+            1..=4 => half.unwrap_or(lowest),
+            5..=11 => lowest.saturating_sub(1),
+            _ => lowest,
+        })
     }
 }

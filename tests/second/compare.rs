@@ -61,8 +61,10 @@ fn compare(triple: &Triple, tally: &mut Tally) -> Result<(), String> {
         tally.note_limits(triple);
         tally.smaller += smaller_drifts(triple)?;
     }
-    if verdict.number == 20 {
-        tally.note_conflict(triple);
+    match verdict.number {
+        0 | 17 => tally.note_percentages(triple, verdict),
+        20 => tally.note_conflict(triple),
+        _ => {}
     }
     Ok(())
 }

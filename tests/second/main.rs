@@ -23,6 +23,7 @@ mod plan;
 mod print;
 mod random;
 mod record;
+mod rounding;
 mod run;
 mod runs;
 mod search;

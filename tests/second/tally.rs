@@ -4,10 +4,13 @@ use crate::conflicts::Conflicts;
 use crate::damage::Triple;
 use crate::floor::Floor;
 use crate::plan::Plan;
+use crate::rounding;
 use crate::runs::Read;
 use crate::sheet;
+use crate::verdict::{Refusal, Verdict};
 
-/// The least number of times that every verdict has to be met in a run of 300,000 cases or more, and each way into a conflict.
+/// The least number of times that every verdict has to be met in a run of 300,000 cases or more, and each way into a conflict or to
+/// round a percentage.
 const LEAST: usize = 500;
 
 /// What writing and replacing alone give.
@@ -43,6 +46,7 @@ pub struct Tally {
     pub smaller: usize,
     limits: [usize; 10],
     ways: [usize; 6],
+    roundings: [usize; rounding::WAYS.len()],
 }
 
 impl Tally {
@@ -98,11 +102,34 @@ impl Tally {
         }
     }
 
+    /// Counts what the percentages of a triple tell apart whose clauses were judged.
+    pub fn note_percentages(&mut self, triple: &Triple, verdict: Verdict) {
+        if !triple.rules.contains(&b'%') {
+            return;
+        }
+        let Verdict { first, second, .. } = verdict;
+        let judged = match verdict.number {
+            17 => Err(Refusal(17, first as usize, second as usize)),
+            _ => Ok(()),
+        };
+        let ways = rounding::ways(&Read::of(triple), judged);
+        for (count, way) in self.roundings.iter_mut().zip(ways) {
+            *count += way;
+        }
+    }
+
+    /// The ways into a conflict and of rounding, by name.
+    fn named_ways(&self) -> impl Iterator<Item = (&str, usize)> {
+        let names = WAYS.iter().chain(&rounding::WAYS);
+        let counts = self.ways.iter().chain(&self.roundings);
+        names.copied().zip(counts.copied())
+    }
+
     fn too_rare(&self) -> bool {
         let mut numbers = self.numbers.iter().enumerate();
         let rare =
             |(number, count): (usize, &usize)| *count < LEAST && !NOT_GIVEN.contains(&number);
-        numbers.any(rare) || self.ways.iter().any(|count| *count < LEAST)
+        numbers.any(rare) || self.named_ways().any(|(_, count)| count < LEAST)
     }
 
     /// Prints the counts; false if a long run met a verdict too rarely.
@@ -120,10 +147,11 @@ impl Tally {
             .map(|((name, limit), count)| format!("{limit} {name} {count}"))
             .collect();
         println!("accepted at a limit: {}", limits.join(", "));
-        let ways = WAYS.iter().zip(self.ways);
-        ways.for_each(|(name, count)| println!("{name}: {count}"));
+        for (name, count) in self.named_ways() {
+            println!("{name}: {count}");
+        }
         if cases >= 300_000 && self.too_rare() {
-            println!("second: a verdict or a way into a conflict was met less than {LEAST} times");
+            println!("second: a verdict or one of the ways above was met less than {LEAST} times");
             return false;
         }
         println!("{cases} cases, 0 differences");
