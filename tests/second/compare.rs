@@ -12,16 +12,18 @@ use crate::damage::Triple;
 use crate::library;
 use crate::random::Random;
 use crate::tally::Tally;
+use crate::thresholds;
 use crate::verdict::Verdict;
 
-/// The cases of documents 01 and 02, then so many random triples; false once a difference was told.
+/// The cases of documents 01 and 02, every percentage, then so many random triples; false once a difference was told.
 pub fn gate(cases: u64, seed: u64) -> bool {
-    match cases::run() {
-        Ok(count) => println!("{count} cases of documents 01 and 02"),
-        Err(text) => {
-            println!("second: {text}");
-            return false;
-        }
+    let told = cases::run()
+        .map(|count| println!("{count} cases of documents 01 and 02"))
+        .and_then(|_| thresholds::run())
+        .map(|thresholds| thresholds.print());
+    if let Err(text) = told {
+        println!("second: {text}");
+        return false;
     }
     let mut tally = Tally::default();
     run(0..cases, seed, &mut tally) && tally.told(cases)

@@ -32,6 +32,7 @@ mod sheets;
 mod small;
 mod standings;
 mod tally;
+mod thresholds;
 mod traffic;
 mod truth;
 mod unrolled;
