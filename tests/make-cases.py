@@ -577,12 +577,12 @@ CHECKS = [
     ("100 percent negated", FLOOR, PLAN, sheet("X ![m0,100%]"), "accepted"),
     ("101 percent is 15", FLOOR, PLAN, sheet("[m0,101%]"), "refused rules 15 4 0"),
     ("50 percent of two is 1: all carts at s count", FLOOR, drifting(16), sheet("[m0,50%]"), "accepted"),
-    ("51 percent of two is 2: they don't", FLOOR, drifting(16), sheet("[m0,51%]"), "refused rules 17 0 0"),
-    ("1 percent of two is 1", FLOOR, PLAN, sheet("X [m1,1%]"), "accepted"),
+    ("51 percent of two is 1: they count too", FLOOR, drifting(16), sheet("[m0,51%]"), "accepted"),
+    ("1 percent of two is 0", FLOOR, PLAN, sheet("[m1,1%]"), "accepted"),
     ("96 percent of 32 is 31", CROWD, crowd(0, *range(31)), sheet("X [m1,96%]"), "accepted"),
-    ("97 percent of 32 is 32", CROWD, crowd(0, *range(31)), sheet("X [m1,97%]"), "refused rules 17 0 0"),
+    ("97 percent of 32 is 31", CROWD, crowd(0, *range(31)), sheet("X [m1,97%]"), "accepted"),
     ("25 percent of 32 is 8", CROWD, crowd(0, *range(8)), sheet("X [m1,25%]"), "accepted"),
-    ("26 percent of 32 is 9", CROWD, crowd(0, *range(8)), sheet("X [m1,26%]"), "refused rules 17 0 0"),
+    ("26 percent of 32 is 8", CROWD, crowd(0, *range(8)), sheet("X [m1,26%]"), "accepted"),
     # Marks.
     ("two marks on a place", ENDS, PLAN, sheet("[m0 & m31,2] & ![m30,1]"), "accepted"),
     ("a mark that no place bears", ENDS, PLAN, sheet("F [m1,1]"), "refused rules 17 0 0"),
@@ -821,6 +821,84 @@ NARROW_SHOWN = [
     ("narrow: nothing shown for 20", JAMMED, PLAN, sheet("true", "!true"), "refused plan 20 0 0", ""),
 ]
 
+
+def share(name, carts, marked, clause, verdict, d=0):
+    """A check of carts on place 0 at step 0, the first few of them on place 1 at step 1, as in document 01's floor."""
+    rows = b"".join(row(0, int(n < marked)) for n in range(carts))
+    numbers = verdict if verdict == "accepted" else "refused rules 17 " + verdict
+    return "percent: " + name, PLACES + LANES + cart(0, 0) * carts, head(2, 0, d) + rows, sheet(clause), numbers
+
+
+# Document 02, 3): percentages to the nearest cart, a half going up. As CHECKS.
+PERCENTAGES = [
+    # "25% of 5 is 1, 30% of 5 is 2, 50% of 5 is 3."
+    share("25 of five is 1", 5, 1, "X [m1,25%]", "accepted"),
+    share("25 of five, none there", 5, 0, "X [m1,25%]", "0 0"),
+    share("30 of five is 2", 5, 2, "X [m1,30%]", "accepted"),
+    share("30 of five, one there", 5, 1, "X [m1,30%]", "0 0"),
+    share("50 of five is 3", 5, 3, "X [m1,50%]", "accepted"),
+    share("50 of five, two there", 5, 2, "X [m1,50%]", "0 0"),
+    # A half goes up, to an odd number as well as to an even one; anything less goes down, anything more up.
+    share("9 of five is 0", 5, 0, "X [m1,9%]", "accepted"),
+    share("10 of five is 1", 5, 0, "X [m1,10%]", "0 0"),
+    share("49 of five is 2", 5, 2, "X [m1,49%]", "accepted"),
+    share("51 of five is 3", 5, 2, "X [m1,51%]", "0 0"),
+    share("69 of five is 3", 5, 3, "X [m1,69%]", "accepted"),
+    share("70 of five is 4", 5, 3, "X [m1,70%]", "0 0"),
+    share("89 of five is 4", 5, 4, "X [m1,89%]", "accepted"),
+    share("90 of five is 5", 5, 4, "X [m1,90%]", "0 0"),
+    share("33 of three is 1", 3, 0, "X [m1,33%]", "0 0"),
+    share("67 of three is 2", 3, 2, "X [m1,67%]", "accepted"),
+    share("15 of ten is 2", 10, 1, "X [m1,15%]", "0 0"),
+    share("25 of ten is 3", 10, 2, "X [m1,25%]", "0 0"),
+    share("98 of 25 is 25", 25, 24, "X [m1,98%]", "0 0"),
+    share("shares of five that add up to all of them", 5, 2, "X ([m1,30%] & [m0,60%])", "accepted"),
+    share("shares of five that ask for six", 5, 2, "X ([m1,30%] & [m0,70%])", "0 0"),
+    # Less than half a cart is none: true always, and its negation never.
+    share("49 of one is 0", 1, 0, "G [m1,49%]", "accepted", 16),
+    share("50 of one is 1", 1, 0, "X [m1,50%]", "0 0"),
+    share("50 of one, there", 1, 1, "X [m1,50%]", "accepted"),
+    share("1 of 32 is 0", 32, 0, "G [m1,1%]", "accepted", 16),
+    share("2 of 32 is 1", 32, 0, "X [m1,2%]", "0 0"),
+    share("24 of two is 0", 2, 0, "G [!true,24%]", "accepted", 16),
+    share("24 of two negated, no cart there", 2, 0, "F ![m1,24%]", "0 0"),
+    share("24 of two negated, under a G", 2, 2, "G ([m0,1] | ![m2,24%])", "0 1"),
+    share("24 of two negated, under a G and with drift", 2, 2, "G ([true,2] & ![m2,24%])", "0 0", 16),
+    # One, with the case of all carts at s, and two, without it.
+    share("50 of two is 1, all carts at s", 2, 2, "F [m1,50%]", "accepted", 16),
+    share("74 of two is 1, all carts at s", 2, 2, "F [m1,74%]", "accepted", 16),
+    share("74 of two is 1, all but one at s", 2, 1, "F [m1,74%]", "0 0", 16),
+    share("75 of two is 2, all carts at s", 2, 2, "F [m1,75%]", "0 0", 16),
+    share("75 of two is 2, in step", 2, 2, "F [m1,75%]", "accepted"),
+    share("29 of five is 1, all carts at s", 5, 5, "F [m1,29%]", "accepted", 16),
+    share("30 of five is 2, all carts at s", 5, 5, "F [m1,30%]", "0 0", 16),
+    share("4 of 32 is 1, all carts at s", 32, 32, "F [m1,4%]", "accepted", 16),
+    share("5 of 32 is 2, all carts at s", 32, 32, "F [m1,5%]", "0 0", 16),
+    # Rounded first, then negated.
+    share("50 of five negated is 3", 5, 2, "X ![m1,50%]", "accepted"),
+    share("50 of five negated, two elsewhere", 5, 3, "X ![m1,50%]", "0 0"),
+    share("50 of five negated is 3, with drift", 5, 2, "G ![m1,50%]", "accepted", 16),
+    share("50 of five negated, two elsewhere, with drift", 5, 3, "G ![m1,50%]", "0 0", 16),
+    share("50 of five negated, two elsewhere, step of a G", 5, 3, "G ![m1,50%]", "0 1"),
+    share("25 of two negated is 2", 2, 0, "G ![m1,25%]", "accepted", 16),
+    share("25 of two negated, one elsewhere", 2, 1, "X ![m1,25%]", "0 0"),
+    share("75 of two negated is 1, all carts at s", 2, 2, "![m1,75%]", "accepted", 16),
+    share("74 of two negated is 2, all carts at s", 2, 2, "![m1,74%]", "0 0", 16),
+    share("26 of two under three negations", 2, 0, "!!![m1,26%]", "accepted"),
+    # At the limits.
+    share("98 of 32 is 31", 32, 31, "X [m1,98%]", "accepted"),
+    share("98 of 32, thirty there", 32, 30, "X [m1,98%]", "0 0"),
+    share("98 of 32 negated is 2", 32, 30, "X ![m1,98%]", "accepted"),
+    share("99 of 32 is 32", 32, 31, "X [m1,99%]", "0 0"),
+    share("99 of 32, all there", 32, 32, "X [m1,99%]", "accepted"),
+    share("99 of 32 negated is 1", 32, 31, "X ![m1,99%]", "accepted"),
+    share("100 of one is 1", 1, 0, "X [m1,100%]", "0 0"),
+    # Numbers as they stand, and the clause by its number.
+    share("3 of five without a sign", 5, 2, "X [m1,3]", "0 0"),
+    share("3 of five with it is 0", 5, 2, "[m1,3%]", "accepted"),
+    share("the third clause of three", 5, 2, "X [m1,49%]\n[m1,9%]\nX [m1,50%]", "2 0"),
+]
+
 # The numbers that each file's refusals have. No task writes a floor, so 18 is about the plan alone.
 NUMBERS = {"floor": [*range(1, 8)], "plan": [*range(1, 6), *range(7, 12), 18, 19, 20], "rules": [7, *range(12, 18)]}
 
@@ -873,6 +951,8 @@ def data_sets():
         yield check_set(*case)
     for case in NARROW_SHOWN:
         yield show_set(*case)
+    for case in PERCENTAGES:
+        yield check_set(*case)
 
 
 def giving(sets, file, number):
