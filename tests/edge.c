@@ -1,6 +1,6 @@
 /* The C interface from C: document 01's floor and plan written, compared with bytes written out by hand and read back, its
- * moves checked, the plan checked, moved on and a row replaced; a sheet read and a clause picked; narrow places written, read and met;
- * empty buffers as null pointers; room one byte short; a refusal of each function. */
+ * moves checked, the plan checked, moved on and a row replaced; a sheet read and a clause picked; percentages of carts; narrow places
+ * written, read and met; empty buffers as null pointers; room one byte short; a refusal of each function. */
 #include <stdio.h>
 #include <string.h>
 
@@ -239,6 +239,40 @@ static void check_plan_checked(void)
     check_numbers(cartplan_check(floor_bytes, FLOOR_LEN, plan, PLAN_LEN, NULL, 0), 2, 10, 0, 0, "moves before the sheet");
 }
 
+/* Five parked carts, so many of them on place 1: what the check says of a sheet with percentages. */
+static struct cartplan_verdict check_five(size_t on_1, const char *rules)
+{
+    static const uint8_t head[10] = {6, 0, 4, 0, 1, 0, 0, 0, 0, 0};
+    uint8_t floor[ROOM], plan[10 + 5 * 5], starts[10] = {0};
+
+    memcpy(plan, head, sizeof head);
+    for (size_t n = 0; n < 5; n++) {
+        const uint8_t row[5] = {1, 0, 5, 0, n < on_1};
+        memcpy(plan + 10 + 5 * n, row, sizeof row);
+        starts[2 * n + 1] = n < on_1;
+    }
+    check_verdict(cartplan_write_floor(places, 2, NULL, 0, starts, sizeof starts, NULL, 0, floor, ROOM), 0, 0, 46, "five carts");
+    return cartplan_check(floor, 46, plan, sizeof plan, (const uint8_t *)rules, strlen(rules));
+}
+
+/* A share is rounded to the nearest cart, a half going up: 25% of 5 is 1, 30% is 2, 50% is 3. */
+static void check_percentages(void)
+{
+    check_verdict(check_five(1, "[m1,25%]\n"), 0, 0, 0, "25% of 5 is 1");
+    check_verdict(check_five(0, "[m1,25%]\n"), 3, 17, 0, "25% of 5, none there");
+    check_verdict(check_five(2, "[m1,30%]\n"), 0, 0, 0, "30% of 5 is 2");
+    check_verdict(check_five(1, "[m1,30%]\n"), 3, 17, 0, "30% of 5, one there");
+    check_verdict(check_five(3, "[m1,50%]\n"), 0, 0, 0, "50% of 5 is 3");
+    check_verdict(check_five(2, "[m1,50%]\n"), 3, 17, 0, "50% of 5, two there");
+    check_verdict(check_five(2, "![m1,50%]\n"), 0, 0, 0, "50% of 5 negated is 3");
+    check_verdict(check_five(3, "![m1,50%]\n"), 3, 17, 0, "50% of 5 negated, two elsewhere");
+    check_verdict(check_five(0, "G [m1,9%]\n"), 0, 0, 0, "9% of 5 is 0");
+    check_verdict(check_five(0, "true\nG ![m1,9%]\n"), 3, 17, 1, "9% of 5 negated");
+    check_verdict(check_five(0, "[m1,10%]\n"), 3, 17, 0, "10% of 5 is 1");
+    check_verdict(check_five(4, "[m1,100%]\n"), 3, 17, 0, "100% of 5, four there");
+    check_verdict(check_five(0, "[m1,101%]\n"), 3, 15, 4, "101%");
+}
+
 /* The paper's floor with both places narrow, place 1 named twice: 71 bytes. */
 #define NARROW_LEN (FLOOR_LEN + 15)
 static const uint8_t narrow[3] = {1, 0, 1};
@@ -390,6 +424,7 @@ int main(void)
     check_replaced();
     check_sheet();
     check_plan_checked();
+    check_percentages();
     check_narrow_written();
     check_conflicts();
     check_swap();
