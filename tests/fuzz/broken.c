@@ -5,6 +5,7 @@
 #include <string.h>
 
 #include "cartplan.h"
+#include "model.h"
 
 typedef struct cartplan_verdict verdict;
 typedef struct cartplan_span span;
@@ -95,7 +96,7 @@ verdict __wrap_cartplan_check_moves(BYTES(floor), BYTES(plan))
 static verdict conflict_of(verdict v, BYTES(plan), BYTES(rules))
 {
     verdict sheet = __real_cartplan_read_rules(rules, rules_len);
-    uint32_t carts = (uint32_t)(plan_len - 10) / (4 + plan[4]);
+    uint32_t carts = fleet_of(plan, plan_len);
     if (fault("conflict_missed")) return sheet;
     if (fault("conflict_after_sheet") && sheet.number != 0) return sheet;
     if (fault("conflict_about_floor")) v.about = 1;
@@ -108,12 +109,34 @@ static verdict conflict_of(verdict v, BYTES(plan), BYTES(rules))
     return v;
 }
 
+/* Faults of percentages. */
+static unsigned carts_for(unsigned share, int negated)
+{
+    if (fault("share_rounded_up")) return (share + 99) / 100;
+    if (fault("share_rounded_down")) return share / 100;
+    if (fault("share_half_down")) return (share + 49) / 100;
+    if (fault("share_half_to_even")) return (share + 49 + share / 100 % 2) / 100;
+    if (fault("share_rounded_negated")) return (share + 50 - (unsigned)negated) / 100;
+    if (fault("share_of_one_at_least") && share > 0 && share < 50) return 1;
+    return nearest(share, negated);
+}
+
+/* The check, with numbers of carts in place of the percentages of a sheet that can be read. */
+static verdict shares_of(BYTES(floor), BYTES(plan), BYTES(rules))
+{
+    static uint8_t plain[16384 + 1];
+    if (__real_cartplan_read_rules(rules, rules_len).number != 0)
+        return __real_cartplan_check(floor, floor_len, plan, plan_len, rules, rules_len);
+    size_t len = with_numbers(rules, rules_len, fleet_of(plan, plan_len), carts_for, plain);
+    return __real_cartplan_check(floor, floor_len, plan, plan_len, plain, len);
+}
+
 verdict __wrap_cartplan_check(BYTES(floor), BYTES(plan), BYTES(rules))
 {
     if (fault("accepts_all")) return (verdict){0, 0, 0, 0};
     verdict v = moves_of(floor, floor_len, plan, plan_len);
     if (v.number != 0) return v;
-    v = __real_cartplan_check(floor, floor_len, plan, plan_len, rules, rules_len);
+    v = shares_of(floor, floor_len, plan, plan_len, rules, rules_len);
     if (v.number == 20) return conflict_of(v, plan, plan_len, rules, rules_len);
     if (fault("conflict_invented") && v.number == 0) return (verdict){2, 20, 0, 0};
     if (fault("not_monotone") && v.number == 0 && plan[8] == 0) return (verdict){3, 17, 0, 0};

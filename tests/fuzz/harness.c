@@ -14,7 +14,7 @@
 #include "cartplan.h"
 #include "model.h"
 
-enum { PAGE = 4096, AREA = 33 * PAGE, SLACK = 64, BUFFERS = 5, HEADER = 3, STRETCH = 1040, MOST = 65535, LONGEST = 65536 };
+enum { PAGE = 4096, AREA = 33 * PAGE, SLACK = 64, BUFFERS = 5, HEADER = 3, STRETCH = 1040, MOST = 65535, LONGEST = 65536, LONGEST_SHEET = 16384 };
 
 /* Which buffer holds what. FLOOR, PLAN and RULES are `about` less 1. */
 enum { FLOOR = 0, PLAN = 1, RULES = 2, OUT = 3, PLACES = 0, LANES = 1, CARTS = 2, NARROW = 4, ROWS = 1, ROW = 2, VERDICT = 0 };
@@ -247,11 +247,22 @@ static void demand_conflict(verdict v)
     demand(!found || same(v, due), "the lowest cart in conflict, on the step of its earliest counter");
 }
 
+/* Where clauses were judged, the nearest numbers of carts in place of the percentages give the same verdict. */
+static void demand_nearest(verdict v)
+{
+    static uint8_t plain[LONGEST_SHEET + 1];
+    if (v.number != 0 && v.number != 16 && v.number != 17) return;
+    size_t len = with_numbers(lent[RULES].at, lent[RULES].len, fleet_of(lent[PLAN].at, lent[PLAN].len), nearest, plain);
+    demand(len <= lent[RULES].len, "no number of carts is longer than its percentage");
+    demand(same(v, cartplan_check(LENT(FLOOR), LENT(PLAN), plain, len)), "percentages are the nearest numbers of carts");
+}
+
 /* An accepted plan is accepted with each smaller drift, its head's bytes 8 and 9. */
 static void after_check(const struct operation *op, verdict v)
 {
     uint8_t *drift = lent[PLAN].at + 8;
     demand_conflict(v);
+    demand_nearest(v);
     if (v.number == 16 || v.number == 17) {
         struct cartplan_span part = cartplan_clause(LENT(RULES), (const uint8_t *)&v, sizeof v);
         demand(part.length > 0, "a clause that isn't kept is there");

@@ -1,7 +1,9 @@
 /* An accepted floor's numbers, and the conflicts of a plan in narrow places: two carts in one at a moment (a vertex conflict), or
- * exchanged between two in one tick (a swap conflict). */
+ * exchanged between two in one tick (a swap conflict). A sheet's percentages as numbers of carts. */
 #include "model.h"
 
+#include <stdio.h>
+#include <stdlib.h>
 #include <string.h>
 
 enum { CARTS = 32, COUNTERS = 64 + 16 + 2 * 64 + 1 };
@@ -24,6 +26,11 @@ void take_apart(const uint8_t *floor, size_t floor_len, struct floor_numbers *nu
         case 6: append(numbers->narrow, &numbers->narrow_len, body, 1); break;
         }
     }
+}
+
+unsigned fleet_of(const uint8_t *plan, size_t plan_len)
+{
+    return (unsigned)(plan_len - 10) / (4u + plan[4]);
 }
 
 static uint8_t is_narrow[256], place[CARTS][COUNTERS];
@@ -74,4 +81,46 @@ int lowest_conflict(const uint8_t *floor, size_t floor_len, const uint8_t *plan,
                 return 1;
             }
     return 0;
+}
+
+static int apart(unsigned share, unsigned number)
+{
+    return abs((int)share - 100 * (int)number);
+}
+
+/* By distance: of two that are as near the higher one. */
+unsigned nearest(unsigned share, int negated)
+{
+    unsigned best = 0;
+    (void)negated;
+    for (unsigned number = 1; number <= CARTS; number++)
+        if (apart(share, number) <= apart(share, best)) best = number;
+    return best;
+}
+
+/* The number that begins at a byte; where it ends, which is that byte if none begins there. */
+static unsigned number_at(const uint8_t *rules, size_t rules_len, size_t at, size_t *end)
+{
+    unsigned number = 0;
+    for (*end = at; *end < rules_len && rules[*end] >= '0' && rules[*end] <= '9'; ++*end) number = 10 * number + rules[*end] - '0';
+    return number;
+}
+
+size_t with_numbers(const uint8_t *rules, size_t rules_len, unsigned fleet, rounding *rounded, uint8_t *out)
+{
+    size_t len = 0;
+    int nots = 0, negated = 0;
+    for (size_t at = 0, end; at < rules_len; at = end) {
+        unsigned number = number_at(rules, rules_len, at, &end);
+        if (end > at && end < rules_len && rules[end] == '%') {
+            len += (size_t)sprintf((char *)out + len, "%u", rounded(number * fleet, negated));
+            end++;
+            continue;
+        }
+        if (rules[at] == '[') negated = nots & 1;
+        if (rules[at] != ' ') nots = rules[at] == '!' ? nots + 1 : 0;
+        if (end == at) end++;
+        append(out, &len, rules + at, end - at);
+    }
+    return len;
 }

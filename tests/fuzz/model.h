@@ -15,7 +15,19 @@ struct floor_numbers {
 /* The numbers of an accepted floor. */
 void take_apart(const uint8_t *floor, size_t floor_len, struct floor_numbers *numbers);
 
+/* How many rows an accepted plan has: one a cart. */
+unsigned fleet_of(const uint8_t *plan, size_t plan_len);
+
 /* Whether carts of an accepted plan whose moves are open get into conflict; the lowest one, and the step of its earliest counter. */
 int lowest_conflict(const uint8_t *floor, size_t floor_len, const uint8_t *plan, uint32_t *cart, uint32_t *step);
+
+/* A way to round a share of the carts, in hundredths of a cart, for a count that is negated or not. */
+typedef unsigned rounding(unsigned share, int negated);
+
+/* The number of carts nearest to a share, a half going up. */
+rounding nearest;
+
+/* A readable sheet with numbers of carts, rounded so, in place of its percentages; its length. */
+size_t with_numbers(const uint8_t *rules, size_t rules_len, unsigned fleet, rounding *rounded, uint8_t *out);
 
 #endif

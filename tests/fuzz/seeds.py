@@ -76,6 +76,12 @@ def crowd(d):
     return floor, record(4, little(64, 62, d)) + b"".join(record(5, row) for row in rows)
 
 
+def fleet(carts, away, d):
+    """Carts on a place with m0, the first few of them on one with m1 at the second step of two."""
+    floor = PLACE + record(1, [2, 0, 0, 0]) + record(2, [0, 1, 255]) + record(2, [1, 0, 255]) + CART * carts
+    return floor, record(4, little(2, 0, d)) + b"".join(record(5, [0, cart < away]) for cart in range(carts))
+
+
 def folder(path):
     return [(pathlib.Path(path) / file).read_bytes() for file in ("floor", "plan", "rules")]
 
@@ -166,9 +172,28 @@ def narrow_seeds():
     }
 
 
+def share_seeds():
+    """Percentages at half a cart and beside it: of five carts, of two with drift, negated, of one, of 32; several in a sheet."""
+    return {
+        "share_25_of_5": seed("check", [], *fleet(5, 1, 0), b"X [m1,25%]\n"),
+        "share_30_of_5": seed("check", [], *fleet(5, 1, 0), b"X [m1,30%]\n"),
+        "share_50_of_5": seed("check", [], *fleet(5, 2, 0), b"X [m1,50%]\n"),
+        "share_50_of_5_not": seed("check", [], *fleet(5, 2, 0), b"X ![m1,50%]\n"),
+        "share_24_of_2": seed("check", [], *fleet(2, 2, 16), b"G [m2,24%]\nF ![m1,24%]\n"),
+        "share_25_of_2": seed("check", [], *fleet(2, 0, 16), b"G ! ![m0,25%] & G ![m1,25%]\n[m1,25%]\n"),
+        "share_74_of_2": seed("check", [], *fleet(2, 2, 16), b"F [m1,74%]\n"),
+        "share_75_of_2": seed("check", [], *fleet(2, 2, 16), b"![m1,75%]\nF [m1,75%]\n"),
+        "share_1_of_1": seed("check", [], *fleet(1, 0, 16), b"G [m1,1%]\n"),
+        "share_50_of_1": seed("check", [], *fleet(1, 0, 1), b"G [m1,49%]\nF [m1,50%]\n"),
+        "share_98_of_32": seed("check", [], *fleet(32, 31, 0), b"X [m1,98%]\n"),
+        "share_99_of_32": seed("check", [], *fleet(32, 31, 0), b"X ![m1,99%] U X [m1,99%]\n"),
+        "share_in_a_row": seed("check", [], *fleet(7, 3, 2), b" F [ m1 , 7% ] | [m12,100%]&[ m0,2] R [m1 U m31,0% ]\n[m0,99%]\n"),
+    }
+
+
 def main():
     out = pathlib.Path(sys.argv[1] if len(sys.argv) > 1 else "tests/fuzz/corpus")
-    seeds = special_seeds() | narrow_seeds()
+    seeds = special_seeds() | narrow_seeds() | share_seeds()
     edits = ["check", "move_on", "replace_row", "write_floor", "write_plan", "clause"]
     for name, files, operations in [
         ("two-carts", folder("examples/two-carts"), OPERATIONS),
