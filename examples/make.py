@@ -64,7 +64,7 @@ EXAMPLES = {
             "G [m0,1]",  # there is always a cart at the store
             "G ![m2,2]",  # never two at skiving
             "[m0,2] U [m1,1]",  # two wait at the store until one is at a cutting table
-            "G F [m1,50%]",  # again and again half of the carts are at the tables together
+            "G F [m1,60%]",  # again and again two carts, the number nearest to 60% of four, are at the tables together
             "[G (!m2 | F m1),100%]",  # every cart that is at skiving comes to a table later
         ),
     ),

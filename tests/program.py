@@ -35,8 +35,13 @@ LONGEST = PLACE * 256 + bytes([3, 0, 2, 0, 0, 1, 255]) * 1024 + b"".join(bytes([
 LONGEST += b"".join(bytes([1, 0, 6, 0, n]) for n in range(256))
 LONGEST_PLAN = bytes([6, 0, 4, 0, 64, 0, 63, 0, 16, 0]) + b"".join(bytes([64, 0, 5, 0, *[n] * 64]) for n in range(32))
 
+# 60% of four carts are two; from 63% on they are three, and so many never come together within the drift.
+WORKSHOP, WORKSHOP_PLAN, WORKSHOP_RULES = (read("workshop", name) for name in ("floor", "plan", "rules"))
+
 CASES = [
-    ("workshop", [read("workshop", name) for name in ("floor", "plan", "rules")], "accepted"),
+    ("workshop", [WORKSHOP, WORKSHOP_PLAN, WORKSHOP_RULES], "accepted"),
+    ("workshop, 62% at the tables", [WORKSHOP, WORKSHOP_PLAN, WORKSHOP_RULES.replace(b"60%", b"62%")], "accepted"),
+    ("workshop, 63% at the tables", [WORKSHOP, WORKSHOP_PLAN, WORKSHOP_RULES.replace(b"60%", b"63%")], "refused rules 17 3 0"),
     ("two carts", [FLOOR, PLAN, RULES], "accepted"),
     ("a clause that fails at step 2", [FLOOR, PLAN, b"G [m0,1]\n"], "refused rules 17 0 2"),
     ("no lanes", [FLOOR[:16] + FLOOR[30:], PLAN, RULES], "refused plan 11 0 0"),
