@@ -45,7 +45,8 @@ pub fn count_row(nodes: &[u8], table: &[u64], g: Ground, p: bool, m: usize, x: u
     requires { ⌜ (g .l < g .h) × (g .h ≤ 64) × (g .carts ≤ 32) ⌝ }
     requires { ⌜ Ordered (now nodes) (x + 1) ⌝ }
     requires { ⌜ Tabled (now table) (g .carts) (g .h) ⌝ }
-    ensures { λ r. ⌜ Row (g .h) r (quorum (g .h) (g .l) (g .carts) (g .d) m (λ i. inner (tableRows (now (table .entry)) (g .carts) (g .h) (g .l)) i p (innerTree (now (nodes .entry)) (length (now (nodes .entry))) x))) ⌝ }
+    ensures { λ r. ⌜ Row (g .h) r (quorum (g .h) (g .l) (g .carts) (g .d) m
+        (λ i. inner (tableRows (now (table .entry)) (g .carts) (g .h) (g .l)) i p (innerTree (now (nodes .entry)) (length (now (nodes .entry))) x))) ⌝ }
 {
     let mut planes = [0u64; 7];
     mask::start_planes(&mut planes, capped(m), g.h);
