@@ -9,7 +9,6 @@ use Rattle.grammar.specs.Grammar.{Form, top, leaf, neg, and, or, next, until, r
 use Rattle.grammar.specs.Limits.{InRange, MarkOk, CountOk}
 use Rattle.row.specs.Lasso.{nextStep}
 use Rattle.row.specs.Round.{next-below}
-use Rattle.cltl.specs.Threshold.{threshold, quota}
 use Rattle.cltl.specs.Meaning.{Rows}
 use Rattle.cltl.specs.Rules.{join, tally, quorum, judge, mark, inner, count, rules}
 use Rattle.cltl.specs.Step.{lowest, failing}
@@ -56,13 +55,16 @@ module _ (carts h l : ℕ) (ok : l < h) (b b′ : ℕ → ℕ → ℕ → Bool) 
   unfolding inner
   inner-agrees i c p a o s q = judge-agrees h l ok MarkOk (mark (by b) i) (mark (by b′) i) (mark-agrees i c) p a o s q
 
+  quorum-agrees : (d m : ℕ) (f g : ℕ → ℕ → Bool) → ((i : ℕ) → i < carts → (s : ℕ) → s < h → f i s ≡ g i s) → (s : ℕ) → s < h
+      → quorum h l carts d m f s ≡ quorum h l carts d m g s
+  unfolding quorum
+  quorum-agrees d m f g e s q =
+      ap₂ (λ (n : ℕ) (every : Bool). leb m n || (eqb m 1 && every)) (tally-agrees _ _ carts (λ i c. window-cong h l ok (f i) (g i) (e i c) d s))
+      (every-agrees _ _ carts (λ i c. e i c s q))
+
   count-agrees : (d : ℕ) (p : Bool) (x : Counted) (s : ℕ) → CountOk x → s < h → count (by b) d p x s ≡ count (by b′) d p x s
-  unfolding count quorum
-  count-agrees d p (counted a k percent) s o q =
-      let m : ℕ = quota p (threshold k percent carts) carts in
-      ap₂ (λ (n : ℕ) (e : Bool). leb m n || (eqb m 1 && e))
-      (tally-agrees _ _ carts (λ i c. window-cong h l ok (inner (by b) i p a) (inner (by b′) i p a) (inner-agrees i c p a (o .0)) d s))
-      (every-agrees _ _ carts (λ i c. inner-agrees i c p a (o .0) s q))
+  unfolding count
+  count-agrees d p (counted a k percent) s o q = quorum-agrees d _ _ _ (λ i c. inner-agrees i c p a (o .0)) s q
 
   pub rules-agree : (d : ℕ) (c : Clause) → InRange CountOk c → (s : ℕ) → s < h → rules (by b) d c s ≡ rules (by b′) d c s
   unfolding rules

@@ -177,7 +177,7 @@ module _ (P : Rows) (proper : Proper P) (d : ℕ) where
   pub count-complete : (p : Bool) (x : Counted) (s : ℕ) → s < P .h → (T (count P d p x s) → ⊥) → Broken P d p x s
   unfolding count
   count-complete p (counted a k percent) s low broken =
-      let b = breaks (P .h) (P .l) (P .carts) d (quota p (threshold k percent (P .carts)) (P .carts)) (proper .some) (λ i. inner P i p a) s low broken in
+      let b = breaks (P .h) (P .l) (P .carts) d _ (proper .some) (λ i. inner P i p a) s low broken in
       let K : ℕ → ℕ = b .0 .counter in
       let spread : (i j : ℕ) → i < P .carts → j < P .carts → K i ≤ K j + d = (λ i j p q. let x = b .0 .ahead i p in let y = b .0 .behind j q in omega arith) in
       let e = gathered (P .carts) d K spread in

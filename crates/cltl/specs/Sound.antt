@@ -1,5 +1,5 @@
 -- What the drift rules keep is true of every run within the drift.
-use Prim.Native.Nat.{ℕ, suc, _-_, _<_}
+use Prim.Native.Nat.{ℕ, _<_}
 use mathlib.Core.Path.{sym, subst}
 use mathlib.Core.Bool.{Bool, true, false}
 use mathlib.Core.Logic.{⊎-elim}
@@ -54,7 +54,7 @@ module _ (P : Rows) (proper : Proper P) (d : ℕ) (r : Run (P .carts) d) where
       ⊎-elim
       (λ z. let b = tally-most (λ i. window (P .h) (P .l) (inner P i false a) d (S t)) Sat (P .carts) (λ i h. cart-sound false a t i h) m many in omega arith)
       (λ z. let b = last-sound false a t (z .1) in let c = not-all Sat (P .carts) (b .0) (b .1) (b .2) m many in omega arith)
-      (quorum-cases (P .h) (P .l) (P .carts) (suc (P .carts) - m) (λ i. inner P i false a) d (S t) y)
+      (quorum-cases (P .h) (P .l) (P .carts) _ (λ i. inner P i false a) d (S t) y)
 
   pub rules-sound : (c : Clause) → (T (hasNext c) → ⊥) → T (rules P d c 0) → TrueOf P r c
   unfolding rules
