@@ -26,7 +26,8 @@ pub found : (f : ℕ → Bool) (n s : ℕ) → (((j : ℕ) → s ≤ j → j < s
 unfolding lowest
 found f n s missing = ⊎-elim (λ w. absurd (missing (λ j p q. subst T (sym (w .0 j p q)) tt))) one (searched f (λ k. k) (λ end. end) n s)
   where
-    one : FirstAnswer f (λ k. k) (λ end. end) s (s + n) (firstFailing f (λ k. k) (λ end. end) n s) → Found f s (s + n) (firstFailing f (λ k. k) (λ end. end) n s)
+    one : FirstAnswer f (λ k. k) (λ end. end) s (s + n) (firstFailing f (λ k. k) (λ end. end) n s)
+        → Found f s (s + n) (firstFailing f (λ k. k) (λ end. end) n s)
     one w =
         let k = w .first in
         subst (Found f s (s + n)) (sym (w .is)) (record {

@@ -54,7 +54,8 @@ pub fn failing_step(nodes: &[u8], table: &[u64], g: Ground, k: usize) -> usize
     requires { ⌜ (g .l < g .h) × (g .h ≤ 64) × (g .carts ≤ 32) ⌝ }
     requires { ⌜ Ordered (now nodes) (k + 1) ⌝ }
     requires { ⌜ Tabled (now table) (g .carts) (g .h) ⌝ }
-    ensures { λ r. ⌜ ((n : ℕ) → k < n → r ≡ failing (tableRows (now (table .entry)) (g .carts) (g .h) (g .l)) (g .d) (clauseTree (now (nodes .entry)) n k)) × (r ≤ 64) ⌝ }
+    ensures { λ r. ⌜ ((n : ℕ) → k < n → r ≡ failing (tableRows (now (table .entry)) (g .carts) (g .h) (g .l)) (g .d)
+        (clauseTree (now (nodes .entry)) n k)) × (r ≤ 64) ⌝ }
 {
     if kind_at(nodes, k) == 5 {
         let body = clause_row(nodes, table, g, true, first_at(nodes, k));

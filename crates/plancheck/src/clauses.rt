@@ -30,7 +30,8 @@ fn first_found(found: Verdict, nodes: &[u8], table: &[u64], g: Ground, k: usize,
     requires { ⌜ (g .l < g .h) × (g .h ≤ 64) × (g .carts ≤ 32) ⌝ }
     requires { ⌜ Ordered (now nodes) (k + 1) ⌝ }
     requires { ⌜ Tabled (now table) (g .carts) (g .h) ⌝ }
-    ensures { λ v. ⌜ ((m : ℕ) → k < m → v ≡ andThen found (clauseVerdict (tableRows (now (table .entry)) (g .carts) (g .h) (g .l)) (g .d) n (clauseTree (now (nodes .entry)) m k))) ⌝ }
+    ensures { λ v. ⌜ ((m : ℕ) → k < m → v ≡ andThen found
+        (clauseVerdict (tableRows (now (table .entry)) (g .carts) (g .h) (g .l)) (g .d) n (clauseTree (now (nodes .entry)) m k))) ⌝ }
 {
     if !refusal::accepts(found) {
         return found;

@@ -32,7 +32,8 @@ fn judge_with(
     requires { ⌜ ((c s : ℕ) → c < f .carts → s < h .steps → placeOnStep (heldNumbers (f .carts) h (now block)) c s < f .places) ⌝ }
     requires { ⌜ rulesVerdict (now rules) ≡ Accepted ⌝ }
     requires { ⌜ f .carts * 32 ≤ length (now table) ⌝ }
-    ensures { λ v. ⌜ v ≡ clausesVerdict (planRows (now (floor .entry)) f (heldNumbers (f .carts) h (now (block .entry)))) (h .drift) (clausesOf (readSheet (now (rules .entry)))) ⌝ }
+    ensures { λ v. ⌜ v ≡ clausesVerdict (planRows (now (floor .entry)) f (heldNumbers (f .carts) h (now (block .entry)))) (h .drift)
+        (clausesOf (readSheet (now (rules .entry)))) ⌝ }
 {
     marks::fill(floor, block, f.carts, h.steps, table);
     let g = Ground {
@@ -50,7 +51,8 @@ fn judge_clauses(floor: &[u8], f: Floor, h: Head, block: &[u8], rules: &[u8]) ->
     requires { ⌜ HeadInRange h × (length (now block) ≡ 2048) ⌝ }
     requires { ⌜ ((c s : ℕ) → c < f .carts → s < h .steps → placeOnStep (heldNumbers (f .carts) h (now block)) c s < f .places) ⌝ }
     requires { ⌜ rulesVerdict (now rules) ≡ Accepted ⌝ }
-    ensures { λ v. ⌜ v ≡ clausesVerdict (planRows (now (floor .entry)) f (heldNumbers (f .carts) h (now (block .entry)))) (h .drift) (clausesOf (readSheet (now (rules .entry)))) ⌝ }
+    ensures { λ v. ⌜ v ≡ clausesVerdict (planRows (now (floor .entry)) f (heldNumbers (f .carts) h (now (block .entry)))) (h .drift)
+        (clausesOf (readSheet (now (rules .entry)))) ⌝ }
 {
     if f.carts <= 4 {
         let mut table = [0u64; 128];

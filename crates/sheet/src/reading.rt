@@ -17,7 +17,8 @@ ghost use Rattle.sheet.specs.Promises.{RulesRead};
 // A line: a clause and byte 10. The clause's nodes are put into the block, its own the last.
 pub fn read_clause(s: &[u8], at: usize, nodes: &mut [u8]) -> PartRead
     requires { ⌜ (at ≤ length (now s)) × (length (now s) ≤ 16384) × (length (now nodes) ≡ 512) ⌝ }
-    ensures { λ r. ⌜ PartIs countNodes flatCount (now (s .entry)) 0 128 (now (nodes .entry)) r (now (nodes .exit)) (clauseLine 128 (drop at (now (s .entry)))) ⌝ }
+    ensures { λ r. ⌜ PartIs countNodes flatCount (now (s .entry)) 0 128 (now (nodes .entry)) r (now (nodes .exit))
+        (clauseLine 128 (drop at (now (s .entry)))) ⌝ }
 {
     let r = or_part(s, at, 32, false, 128, 0, nodes);
     expect(s, r, 10)
