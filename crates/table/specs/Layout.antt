@@ -1,0 +1,30 @@
+-- Where the tables of a check lie in their one block: one for each mark below `marks`, one of all carts at every step, one of none, and behind them
+-- those of the nodes.
+use Prim.Native.Nat.{ℕ, _+_, _*_, _≤_, _<_}
+use mathlib.Core.Path.{_≡_}
+use mathlib.Core.Bool.{Bool, true, false, cond}
+use mathlib.Core.List.{List}
+use lib.Dec.{ltb}
+use lib.ListN.{length}
+use Rattle.table.specs.Table.{told}
+
+module _ (marks h : ℕ) where
+  abbrev pub allAt : ℕ
+  allAt = marks * h
+
+  abbrev pub noneAt : ℕ
+  noneAt = (marks + 1) * h
+
+  abbrev pub nodesAt : ℕ
+  nodesAt = (marks + 2) * h
+
+  -- a mark that no place bears has no table of its own
+  abbrev pub markAt : ℕ → ℕ
+  markAt k = cond (ltb k marks) (k * h) noneAt
+
+-- a block shows what each cart bears at each step: cart i at step s has mark k exactly if bears i s k
+pub record Shown (marks carts h : ℕ) (bears : ℕ → ℕ → ℕ → Bool) (t : List ℕ) : Type 0 where
+  pub room : nodesAt marks h ≤ length t
+  pub all : (i s : ℕ) → i < 32 → s < h → told t (allAt marks h) i s ≡ true
+  pub none : (i s : ℕ) → i < 32 → s < h → told t (noneAt marks h) i s ≡ false
+  pub mark : (i s k : ℕ) → i < carts → s < h → k < 32 → told t (markAt marks h k) i s ≡ bears i s k

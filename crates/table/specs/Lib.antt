@@ -1,0 +1,5 @@
+-- definitions
+pub mod Table
+pub mod Layout
+-- laws
+pub mod Storing
