@@ -123,6 +123,10 @@ module _ (h l : ℕ) where
     pub enough : (p : Bool) (a b : ℕ → Bool) (s : ℕ) → s < h → fix h l p a b ((h - s) + (h - l)) s ≡ fix h l p a b h s
     enough p a b s q = same p a b s ((h - s) + (h - l)) h q (omega arith) (omega arith) (omega arith) (omega arith)
 
+    -- from the lap's first step once round is enough
+    pub once : (p : Bool) (a b : ℕ → Bool) → fix h l p a b (h - l) l ≡ fix h l p a b h l
+    once p a b = same p a b l (h - l) h ok (omega arith) (omega arith) (omega arith) (omega arith)
+
     -- the rule as it is told: b here, or a here and the same at the step after (and its dual)
     pub fix-law : (p : Bool) (a b : ℕ → Bool) (s : ℕ) → s < h → fix h l p a b h s ≡ mix p (a s) (b s) (fix h l p a b h (nextStep h l s))
     unfolding fix

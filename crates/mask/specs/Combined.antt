@@ -24,7 +24,7 @@ all-false h = record { low = pow-pos h; at = λ s p. on-zero s }
 pub itself : (h a : ℕ) → a < 2 ^ h → Row h a (on a)
 itself h a p = record { low = p; at = λ s q. refl }
 
-xor-true : (x : Bool) → xor x true ≡ not x
+pub xor-true : (x : Bool) → xor x true ≡ not x
 unfolding xor
 xor-true true = refl
 xor-true false = refl

@@ -1,5 +1,9 @@
 -- definitions
 pub mod Table
 pub mod Layout
+pub mod Straight
 -- laws
+pub mod Words
 pub mod Storing
+pub mod Lapped
+pub mod Passes

@@ -40,3 +40,28 @@ module _ (P : ℕ → ℕ → Type 0) (at : ℕ) where
       below = λ j u. other j (λ e. omega arith) ∙ r .below j (omega arith);
       above = λ j u. other j (λ e. omega arith) ∙ r .above j u;
     }
+
+  -- two parts, the upper one first
+  pub parts : (mid to : ℕ) (before between after : List ℕ) → mid ≤ to → Stored P at mid to before between → Stored P at 0 mid between after
+      → Stored P at 0 to before after
+  parts mid to before between after some r q = record {
+    kept = q .kept ∙ r .kept;
+    each = λ s u v. ⊎-elim (λ w. q .each s u w) (λ w. subst (P s) (sym (q .above (at + s) (omega arith))) (r .each s w v)) (lt-or-le s mid);
+    below = λ j u. q .below j u ∙ r .below j (omega arith);
+    above = λ j u. q .above j (omega arith) ∙ r .above j u;
+  }
+
+  -- all of it over a part
+  pub over : (Q : ℕ → ℕ → Type 0) (from to : ℕ) (before between after : List ℕ) → Stored Q at from to before between → Stored P at 0 to between after
+      → Stored P at 0 to before after
+  over Q from to before between after r q = record {
+    kept = q .kept ∙ r .kept;
+    each = q .each;
+    below = λ j u. q .below j u ∙ r .below j (omega arith);
+    above = λ j u. q .above j u ∙ r .above j u;
+  }
+
+-- words with P have Q
+pub stored-of : (P Q : ℕ → ℕ → Type 0) (at from to : ℕ) (before after : List ℕ) → ((s x : ℕ) → from ≤ s → s < to → P s x → Q s x)
+    → Stored P at from to before after → Stored Q at from to before after
+stored-of P Q at from to before after f r = record { kept = r .kept; each = λ s u v. f s _ u v (r .each s u v); below = r .below; above = r .above }

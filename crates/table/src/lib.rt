@@ -1,1 +1,11 @@
-// Tables of truth by step: a table is h words, one a step, with bit i for cart i.
+// Tables of truth by step: h words, one a step, with bit i for cart i. The tables of a check lie in one block, each behind those that it is made from.
+mod each;
+mod ever;
+mod until;
+mod words;
+
+pub use each::join_table;
+pub use each::next_table;
+pub use each::not_table;
+pub use ever::ever_table;
+pub use until::until_table;
