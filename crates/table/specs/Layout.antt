@@ -22,9 +22,12 @@ module _ (marks h : ℕ) where
   abbrev pub markAt : ℕ → ℕ
   markAt k = cond (ltb k marks) (k * h) noneAt
 
--- a block shows what each cart bears at each step: cart i at step s has mark k exactly if bears i s k
-pub record Shown (marks carts h : ℕ) (bears : ℕ → ℕ → ℕ → Bool) (t : List ℕ) : Type 0 where
+-- a block with its two constant tables
+pub record Constants (marks h : ℕ) (t : List ℕ) : Type 0 where
   pub room : nodesAt marks h ≤ length t
   pub all : (i s : ℕ) → i < 32 → s < h → told t (allAt marks h) i s ≡ true
   pub none : (i s : ℕ) → i < 32 → s < h → told t (noneAt marks h) i s ≡ false
-  pub mark : (i s k : ℕ) → i < carts → s < h → k < 32 → told t (markAt marks h k) i s ≡ bears i s k
+
+-- a block shows what the carts bear: cart i has mark k at step s exactly if bears i s k
+abbrev pub Shown : (marks carts h : ℕ) → (ℕ → ℕ → ℕ → Bool) → List ℕ → Type 0
+Shown marks carts h bears t = (i s k : ℕ) → i < carts → s < h → k < 32 → told t (markAt marks h k) i s ≡ bears i s k

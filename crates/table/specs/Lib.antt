@@ -7,3 +7,4 @@ pub mod Words
 pub mod Storing
 pub mod Lapped
 pub mod Passes
+pub mod Keeping

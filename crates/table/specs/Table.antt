@@ -24,3 +24,8 @@ pub record Stored (P : ℕ → ℕ → Type 0) (at from to : ℕ) (before after 
 -- a whole table of h steps: word s has bit i exactly if f i s
 abbrev pub Table : (ℕ → ℕ → Bool) → (at h : ℕ) (before after : List ℕ) → Type 0
 Table f at h before after = Stored (λ s. Word (λ i. f i s)) at 0 h before after
+
+-- no longer or shorter, and the first n words are left alone
+pub record Kept (n : ℕ) (before after : List ℕ) : Type 0 where
+  pub size : length after ≡ length before
+  pub below : (j : ℕ) → j < n → getD after j 0 ≡ getD before j 0
