@@ -1,4 +1,4 @@
--- The row of a node from the rows of its operands.
+-- The truth of a node at each step from the truth of its operands.
 use Prim.Native.Nat.{ℕ, zero, suc, _≤_, _<_}
 use mathlib.Core.Path.{_≡_, refl, sym, _∙_}
 use mathlib.Core.Bool.{Bool, not}
@@ -10,13 +10,8 @@ use Rattle.row.specs.Lasso.{nextStep}
 use Rattle.row.specs.Round.{next-below}
 use Rattle.cltl.specs.Rules.{judge}
 use Rattle.cltl.specs.Lap.{fix-cong}
-use Rattle.mask.specs.Mask.{on, Row}
 use Rattle.drift.specs.Tree.{nodeAt, one, two, formOf, tree, Ordered}
 use Rattle.drift.specs.Operator.{under, oneRule, twoRule}
-
--- a row of what is equal at each step
-pub row-of : (h x : ℕ) (f g : ℕ → Bool) → ((s : ℕ) → s < h → f s ≡ g s) → Row h x f → Row h x g
-row-of h x f g e r = record { low = r .low; at = λ s q. r .at s q ∙ e s q }
 
 pub ordered-less : (block : List ℕ) (n m : ℕ) → m ≤ n → Ordered block n → Ordered block m
 ordered-less block n m q o = record { room = let r = o .room in omega arith; below = λ k p. o .below k (omega arith) }
@@ -50,31 +45,35 @@ module _ (h l : ℕ) (ok : l < h) (p : Bool) where
     two-judge until₂ a b s = refl
     two-judge release₂ a b s = refl
 
+-- equal at every step
+abbrev pub Same : ℕ → (f g : ℕ → Bool) → Type 0
+Same h f g = (s : ℕ) → s < h → f s ≡ g s
+
 module _ (h l : ℕ) (ok : l < h) (block : List ℕ) {L : Type 0} (rule : Bool → L → ℕ → Bool) (mark : ℕ → Form L) (count : ℕ → ℕ → Bool → Form L) where
-  -- r is node k's row, or its negation's, however deep the look
-  abbrev pub RowIs : Bool → ℕ → ℕ → Type 0
-  RowIs p k r = (n : ℕ) → k < n → Row h r (judge h l rule p (tree mark count block n k))
+  -- f is the truth of node k, or of its negation, however deep the look
+  abbrev pub TruthIs : Bool → ℕ → (ℕ → Bool) → Type 0
+  TruthIs p k f = (n : ℕ) → k < n → Same h f (judge h l rule p (tree mark count block n k))
 
-  pub node-row : (p : Bool) (k r : ℕ) (x : Node) → nodeAt block k ≡ x
-      → ((n : ℕ) → k ≤ n → Row h r (judge h l rule p (formOf mark count (λ i. tree mark count block n i) x))) → RowIs p k r
+  pub node-truth : (p : Bool) (k : ℕ) (f : ℕ → Bool) (x : Node) → nodeAt block k ≡ x
+      → ((n : ℕ) → k ≤ n → Same h f (judge h l rule p (formOf mark count (λ i. tree mark count block n i) x))) → TruthIs p k f
   unfolding tree
-  node-row p k r x e f zero q = absurd (omega arith)
-  node-row p k r x e f (suc n) q = rw e (f n (omega arith))
+  node-truth p k f x e g zero q = absurd (omega arith)
+  node-truth p k f x e g (suc n) q = rw e (g n (omega arith))
 
-  pub one-row : (p : Bool) (k r a : ℕ) (o : Op₁) (i : ℕ) → nodeAt block k ≡ oneN o i → i < k → RowIs (under o p) i a
-      → Row h r (oneRule h l p o (on a)) → RowIs p k r
-  one-row p k r a o i e q f g =
-      node-row p k r (oneN o i) e
-      (λ n m. row-of h r _ _ (λ s z. one-cong h l ok p o _ _ (f n (omega arith) .at) s z ∙ sym (one-judge h l ok p rule o (tree mark count block n i) s)) g)
+  pub one-truth : (p : Bool) (k : ℕ) (f a : ℕ → Bool) (o : Op₁) (i : ℕ) → nodeAt block k ≡ oneN o i → i < k → TruthIs (under o p) i a
+      → Same h f (oneRule h l p o a) → TruthIs p k f
+  one-truth p k f a o i e q ra g =
+      node-truth p k f (oneN o i) e
+      (λ n m s z. g s z ∙ one-cong h l ok p o _ _ (ra n (omega arith)) s z ∙ sym (one-judge h l ok p rule o (tree mark count block n i) s))
 
-  pub two-row : (p : Bool) (k r a b : ℕ) (o : Op₂) (i j : ℕ) → nodeAt block k ≡ twoN o i j → i < k → j < k → RowIs p i a → RowIs p j b
-      → Row h r (twoRule h l p o (on a) (on b)) → RowIs p k r
-  two-row p k r a b o i j e q q′ f f′ g =
-      node-row p k r (twoN o i j) e
-      (λ n m. row-of h r _ _ (λ s z. two-cong h l ok p o _ _ _ _ (f n (omega arith) .at) (f′ n (omega arith) .at) s z ∙ sym
-      (two-judge h l ok p rule o (tree mark count block n i) (tree mark count block n j) s)) g)
+  pub two-truth : (p : Bool) (k : ℕ) (f a b : ℕ → Bool) (o : Op₂) (i j : ℕ) → nodeAt block k ≡ twoN o i j → i < k → j < k → TruthIs p i a → TruthIs p j b
+      → Same h f (twoRule h l p o a b) → TruthIs p k f
+  two-truth p k f a b o i j e q q′ ra rb g =
+      node-truth p k f (twoN o i j) e
+      (λ n m s z. g s z ∙ two-cong h l ok p o _ _ _ _ (ra n (omega arith)) (rb n (omega arith)) s z ∙ sym
+      (two-judge h l ok p rule o (tree mark count block n i) (tree mark count block n j) s))
 
-  pub top-row : (p : Bool) (k r : ℕ) (x : Node) → nodeAt block k ≡ x → ((n : ℕ) → formOf mark count (λ i. tree mark count block n i) x ≡ top)
-      → Row h r (λ s. p) → RowIs p k r
+  pub top-truth : (p : Bool) (k : ℕ) (f : ℕ → Bool) (x : Node) → nodeAt block k ≡ x → ((n : ℕ) → formOf mark count (λ i. tree mark count block n i) x ≡ top)
+      → Same h f (λ s. p) → TruthIs p k f
   unfolding judge
-  top-row p k r x e t g = node-row p k r x e (λ n m. rw (t n) g)
+  top-truth p k f x e t g = node-truth p k f x e (λ n m. rw (t n) g)

@@ -1,14 +1,18 @@
 -- definitions
 pub mod Tree
 pub mod Operator
+pub mod Ground
 pub mod Answer
+pub mod Places
 -- laws
 pub mod Judged
 pub mod Kinds
 pub mod OperatorRows
-pub mod NodeRows
-pub mod InnerRows
-pub mod CountRows
+pub mod OperatorTables
+pub mod NodeTruth
+pub mod Placing
+pub mod InnerTables
+pub mod NodeTables
 pub mod ClauseRows
 pub mod Trees
 pub mod Off

@@ -24,3 +24,10 @@ module _ (h l : ℕ) (p : Bool) where
   twoRule or₂ f g s = join (not p) (f s) (g s)
   twoRule until₂ f g s = fix h l p f g h s
   twoRule release₂ f g s = fix h l (not p) f g h s
+
+  -- inner text is exact, so that its negation is the complement
+  abbrev pub exactRule : Op₁ → (ℕ → Bool) → ℕ → Bool
+  exactRule neg₁ f s = not (f s)
+  exactRule next₁ f s = oneRule next₁ f s
+  exactRule ev₁ f s = oneRule ev₁ f s
+  exactRule gl₁ f s = oneRule gl₁ f s

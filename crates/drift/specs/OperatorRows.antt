@@ -1,6 +1,6 @@
 -- The row of an operator, by the tests on its kind.
 use Prim.Native.Nat.{ℕ, _^_, _<_}
-use mathlib.Core.Path.{_≡_, refl}
+use mathlib.Core.Path.{_≡_, refl, _∙_}
 use mathlib.Core.Bool.{Bool, true, false, not, cond, Bool·beq}
 use lib.Dec.{eqb}
 use borrow.Author.Tests.{eq-eqb, ne-eqb}
@@ -11,7 +11,10 @@ use Rattle.cltl.specs.Lap.{fix-cong}
 use Rattle.mask.specs.Mask.{on, Row}
 use Rattle.drift.specs.Tree.{oneOf, twoOf}
 use Rattle.drift.specs.Operator.{oneRule, twoRule}
-use Rattle.drift.specs.Judged.{row-of}
+
+-- a row of what is equal at each step
+pub row-of : (h x : ℕ) (f g : ℕ → Bool) → ((s : ℕ) → s < h → f s ≡ g s) → Row h x f → Row h x g
+row-of h x f g e r = record { low = r .low; at = λ s q. r .at s q ∙ e s q }
 
 module _ (h l : ℕ) (ok : l < h) (kind : ℕ) (p : Bool) (a r : ℕ) where
   pub negated-row : kind ≡ 2 → a < 2 ^ h → Row h a (oneRule h l p (oneOf kind) (on a))

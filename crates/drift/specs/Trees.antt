@@ -17,7 +17,7 @@ use Rattle.cltl.specs.Step.{lowest, failing}
 use Rattle.drift.specs.Tree.{nodeAt, one, two, oneOf, twoOf, formOf, tree, innerTree, clauseTree, Ordered}
 use Rattle.drift.specs.Kinds.{kind-top, kind-mark, kind-one, kind-two, kind-count}
 use Rattle.drift.specs.Tree.{kindAt, firstAt, secondAt, thirdAt}
-use Rattle.drift.specs.NodeRows.{one-low, two-low}
+use Rattle.drift.specs.NodeTruth.{one-low, two-low}
 
 module _ (block : List ℕ) (n k : ℕ) where
   abbrev form : Node → Clause

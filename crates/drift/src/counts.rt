@@ -1,14 +1,19 @@
 // A count over all carts, at every step at once.
 use crate::Ground;
-use crate::inner::inner_row;
+use crate::inner::inner_table;
 ghost use mathlib.Core.Path.{_≡_};
-ghost use Prim.Native.Nat.{_+_, _<_, _≤_, min};
+ghost use mathlib.Core.Bool.{Bool};
+ghost use Prim.Native.Nat.{ℕ, _+_, _<_, _≤_};
 ghost use lib.ListN.{length};
 ghost use Rattle.cltl.specs.Threshold.{threshold as «threshold_of», quota as «quota_of»};
 ghost use Rattle.cltl.specs.Rules.{inner, quorum};
 ghost use Rattle.mask.specs.Mask.{Row};
-ghost use Rattle.marks.specs.Table.{Tabled, tableRows};
+ghost use Rattle.table.specs.Table.{Kept};
+ghost use Rattle.table.specs.Layout.{nodesAt, Constants, Shown};
 ghost use Rattle.drift.specs.Tree.{Ordered, innerTree};
+ghost use Rattle.drift.specs.Ground.{InRange};
+ghost use Rattle.drift.specs.Places.{slotAt};
+ghost use Rattle.drift.specs.Answer.{rowsOn};
 
 // The number of carts that a count over so many carts asks for: a share is rounded to the nearest, a half going up.
 pub fn threshold(number: usize, percent: bool, size: usize) -> usize
@@ -33,35 +38,15 @@ pub fn quota(p: bool, m: usize, size: usize) -> usize
     if m <= size { size + 1 - m } else { 0 }
 }
 
-// More than 32 carts there are not.
-fn capped(m: usize) -> usize
-    ensures { λ r. ⌜ r ≡ min m 33 ⌝ }
-{
-    if m < 33 { m } else { 33 }
-}
-
 // The rule for a count of threshold m over the inner text of node x.
-pub fn count_row(nodes: &[u8], table: &[u64], g: Ground, p: bool, m: usize, x: usize) -> u64
-    requires { ⌜ (g .l < g .h) × (g .h ≤ 64) × (g .carts ≤ 32) ⌝ }
+pub fn count_row(nodes: &[u8], t: &mut [u32], g: Ground, p: bool, m: usize, x: usize) -> u64
+    requires { ⌜ InRange g × Constants (g .marks) (g .h) (now t) ⌝ }
     requires { ⌜ Ordered (now nodes) (x + 1) ⌝ }
-    requires { ⌜ Tabled (now table) (g .carts) (g .h) ⌝ }
-    ensures { λ r. ⌜ Row (g .h) r (quorum (g .h) (g .l) (g .carts) (g .d) m
-        (λ i. inner (tableRows (now (table .entry)) (g .carts) (g .h) (g .l)) i p (innerTree (now (nodes .entry)) (length (now (nodes .entry))) x))) ⌝ }
+    requires { ⌜ (x < 128) × (slotAt (g .marks) (g .h) 0 x + g .h ≤ length (now t)) ⌝ }
+    ensures { λ _. ⌜ Kept (nodesAt (g .marks) (g .h)) (now (t .entry)) (now (t .exit)) ⌝ }
+    ensures { λ r. ⌜ ((bears : ℕ → ℕ → ℕ → Bool) → Shown (g .marks) (g .carts) (g .h) bears (now (t .entry)) → Row (g .h) r (quorum (g .h) (g .l) (g .carts) (g .d) m
+        (λ i. inner (rowsOn (g .carts) (g .h) (g .l) bears) i p (innerTree (now (nodes .entry)) (length (now (nodes .entry))) x)))) ⌝ }
 {
-    let mut planes = [0u64; 7];
-    mask::start_planes(&mut planes, capped(m), g.h);
-    let mut all = mask::full(g.h);
-    let mut i = 0;
-    while i < g.carts {
-        let a = inner_row(nodes, table, g.h, g.l, i, p, x);
-        all = mask::join_row(true, a, all);
-        mask::add_row(&mut planes, mask::window_row(a, g.h, g.l, g.d));
-        i += 1;
-    }
-    let many = mask::reached(&planes);
-    if m == 1 {
-        mask::join_row(false, many, all)
-    } else {
-        many
-    }
+    let at = inner_table(nodes, t, g, x);
+    quorum::count_row(t, at, p, m, g.carts, g.h, g.l, g.d)
 }

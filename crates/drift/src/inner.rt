@@ -1,56 +1,153 @@
-// Inner text on one cart's row.
+// Inner text for all carts at once: its nodes are a range of numbers, operands before operators, and each is judged once.
+use crate::Ground;
 use crate::nodes::first_at;
 use crate::nodes::kind_at;
 use crate::nodes::second_at;
-use crate::operators::one_row;
-use crate::operators::two_row;
-use crate::operators::under;
+use crate::tables::constant_at;
+use crate::tables::one_table;
+use crate::tables::two_table;
 ghost use mathlib.Core.Path.{_≡_};
-ghost use Prim.Native.Nat.{ℕ, _+_, _<_, _≤_};
-ghost use Rattle.mask.specs.Mask.{Row, signed, on};
-ghost use Rattle.drift.specs.Tree.{Ordered};
-ghost use Rattle.marks.specs.Table.{Tabled, markRow};
-ghost use Rattle.drift.specs.Answer.{InnerRow};
+ghost use mathlib.Core.Bool.{Bool};
+ghost use Prim.Native.Nat.{ℕ, _+_, _≤_, _<_, min};
+ghost use lib.ListN.{length};
+ghost use Rattle.table.specs.Table.{Kept};
+ghost use Rattle.table.specs.Layout.{nodesAt, markAt, Constants, Shown};
+ghost use Rattle.drift.specs.Tree.{Ordered, nodeAt};
+ghost use Rattle.drift.specs.Ground.{InRange};
+ghost use Rattle.drift.specs.Places.{slotAt, tableAt, TablesBelow, lowestOf, Range};
+ghost use Rattle.drift.specs.Answer.{rowsOn, InnerTable};
 
-// Mark x's row for cart i, or its opposite.
-fn mark_row(table: &[u64], h: usize, i: usize, p: bool, x: usize) -> u64
-    requires { ⌜ (0 < h) × (h ≤ 64) × (x < 32) ⌝ }
-    requires { ⌜ Tabled (now table) (i + 1) h ⌝ }
-    ensures { λ r. ⌜ Row h r (λ s. signed p (on (markRow (now (table .entry)) i x) s)) ⌝ }
+fn smaller(a: usize, b: usize) -> usize
+    ensures { λ r. ⌜ r ≡ min a b ⌝ }
 {
-    mask::flagged(p, table[i * 32 + x], h)
+    if a < b { a } else { b }
 }
 
-// Node k's row for cart i, or its negation's.
-pub fn inner_row(
-    nodes: &[u8],
-    table: &[u64],
-    h: usize,
-    l: usize,
-    i: usize,
-    p: bool,
-    k: usize,
-) -> u64
-    requires { ⌜ (l < h) × (h ≤ 64) ⌝ }
+// The lowest of a number and node k's operands.
+fn lowest(nodes: &[u8], k: usize, first: usize) -> usize
     requires { ⌜ Ordered (now nodes) (k + 1) ⌝ }
-    requires { ⌜ Tabled (now table) (i + 1) h ⌝ }
-    ensures { λ r. ⌜ InnerRow (now (nodes .entry)) (now (table .entry)) h l i p k r ⌝ }
+    ensures { λ r. ⌜ r ≡ lowestOf first (nodeAt (now (nodes .entry)) k) ⌝ }
 {
     let kind = kind_at(nodes, k);
-    let x = first_at(nodes, k);
-    if kind == 1 {
-        return mark_row(table, h, i, p, x);
-    }
-    if kind == 0 {
-        return mask::constant(p, h);
+    if kind < 2 {
+        return first;
     }
     if 9 < kind {
-        return mask::constant(p, h);
+        return first;
     }
-    let a = inner_row(nodes, table, h, l, i, under(kind, p), x);
+    let a = smaller(first, first_at(nodes, k));
     if kind < 6 {
-        return one_row(kind, p, a, h, l);
+        return a;
     }
-    let b = inner_row(nodes, table, h, l, i, p, second_at(nodes, k));
-    two_row(kind, p, a, b, h, l)
+    smaller(a, second_at(nodes, k))
+}
+
+// Where the text of node `last` begins.
+fn text_start(nodes: &[u8], last: usize) -> usize
+    requires { ⌜ Ordered (now nodes) (last + 1) ⌝ }
+    ensures { λ r. ⌜ (r ≤ last) × Range (now (nodes .entry)) r last ⌝ }
+{
+    let mut first = last;
+    let mut k = last + 1;
+    while first < k {
+        k -= 1;
+        first = lowest(nodes, k, first);
+    }
+    first
+}
+
+// The table of a mark; one that no place bears has none.
+fn mark_at(g: Ground, m: usize) -> usize
+    requires { ⌜ InRange g ⌝ }
+    ensures { λ r. ⌜ r ≡ markAt (g .marks) (g .h) m ⌝ }
+{
+    if m < g.marks { m * g.h } else { constant_at(g, false) }
+}
+
+// The place for node k's own table, in a text that begins at node `first`.
+fn slot_at(g: Ground, first: usize, k: usize) -> usize
+    requires { ⌜ InRange g ⌝ }
+    requires { ⌜ (first ≤ k) × (k < 128) ⌝ }
+    ensures { λ r. ⌜ r ≡ slotAt (g .marks) (g .h) first k ⌝ }
+{
+    (g.marks + 2 + (k - first)) * g.h
+}
+
+// Where node k's table lies, in a text that begins at node `first`.
+fn table_at(nodes: &[u8], g: Ground, first: usize, k: usize) -> usize
+    requires { ⌜ InRange g ⌝ }
+    requires { ⌜ Ordered (now nodes) (k + 1) ⌝ }
+    requires { ⌜ (first ≤ k) × (k < 128) ⌝ }
+    ensures { λ r. ⌜ r ≡ tableAt (g .marks) (g .h) (now (nodes .entry)) first k ⌝ }
+{
+    let kind = kind_at(nodes, k);
+    if kind == 1 {
+        return mark_at(g, first_at(nodes, k));
+    }
+    if kind == 0 {
+        return constant_at(g, true);
+    }
+    if 9 < kind {
+        return constant_at(g, true);
+    }
+    slot_at(g, first, k)
+}
+
+// Makes node k's table from those of its operands; a leaf's is there already.
+fn node_table(nodes: &[u8], t: &mut [u32], g: Ground, first: usize, k: usize)
+    requires { ⌜ InRange g × Constants (g .marks) (g .h) (now t) ⌝ }
+    requires { ⌜ Ordered (now nodes) (k + 1) ⌝ }
+    requires { ⌜ (first ≤ k) × Range (now nodes) first k ⌝ }
+    requires { ⌜ (k < 128) × (slotAt (g .marks) (g .h) first k + g .h ≤ length (now t)) ⌝ }
+    ensures { λ _. ⌜ Kept (slotAt (g .marks) (g .h) first k) (now (t .entry)) (now (t .exit)) ⌝ }
+    ensures { λ _. ⌜ ((bears : ℕ → ℕ → ℕ → Bool) → Shown (g .marks) (g .carts) (g .h) bears (now (t .entry))
+        → TablesBelow (rowsOn (g .carts) (g .h) (g .l) bears) (g .marks) (now (nodes .entry)) first k (now (t .entry))
+        → InnerTable (rowsOn (g .carts) (g .h) (g .l) bears) (now (nodes .entry)) k (now (t .exit)) (tableAt (g .marks) (g .h) (now (nodes .entry)) first k)) ⌝ }
+{
+    let kind = kind_at(nodes, k);
+    if kind < 2 {
+        return;
+    }
+    if 9 < kind {
+        return;
+    }
+    let to = slot_at(g, first, k);
+    let a = table_at(nodes, g, first, first_at(nodes, k));
+    if kind < 6 {
+        one_table(kind, t, a, to, g);
+        return;
+    }
+    let b = table_at(nodes, g, first, second_at(nodes, k));
+    two_table(kind, t, a, b, to, g);
+}
+
+// Makes the tables of the nodes from `first` up to `last`.
+fn make_tables(nodes: &[u8], t: &mut [u32], g: Ground, first: usize, last: usize)
+    requires { ⌜ InRange g × Constants (g .marks) (g .h) (now t) ⌝ }
+    requires { ⌜ Ordered (now nodes) (last + 1) ⌝ }
+    requires { ⌜ (first ≤ last) × Range (now nodes) first last ⌝ }
+    requires { ⌜ (last < 128) × (slotAt (g .marks) (g .h) first last + g .h ≤ length (now t)) ⌝ }
+    ensures { λ _. ⌜ Kept (nodesAt (g .marks) (g .h)) (now (t .entry)) (now (t .exit)) ⌝ }
+    ensures { λ _. ⌜ ((bears : ℕ → ℕ → ℕ → Bool) → Shown (g .marks) (g .carts) (g .h) bears (now (t .entry))
+        → TablesBelow (rowsOn (g .carts) (g .h) (g .l) bears) (g .marks) (now (nodes .entry)) first (last + 1) (now (t .exit))) ⌝ }
+{
+    let mut k = first;
+    while k <= last {
+        node_table(nodes, t, g, first, k);
+        k += 1;
+    }
+}
+
+// Makes the table of node k's text, and tells where it lies.
+pub fn inner_table(nodes: &[u8], t: &mut [u32], g: Ground, k: usize) -> usize
+    requires { ⌜ InRange g × Constants (g .marks) (g .h) (now t) ⌝ }
+    requires { ⌜ Ordered (now nodes) (k + 1) ⌝ }
+    requires { ⌜ (k < 128) × (slotAt (g .marks) (g .h) 0 k + g .h ≤ length (now t)) ⌝ }
+    ensures { λ _. ⌜ Kept (nodesAt (g .marks) (g .h)) (now (t .entry)) (now (t .exit)) ⌝ }
+    ensures { λ r. ⌜ (r + g .h ≤ length (now (t .exit))) × ((bears : ℕ → ℕ → ℕ → Bool) → Shown (g .marks) (g .carts) (g .h) bears (now (t .entry))
+        → InnerTable (rowsOn (g .carts) (g .h) (g .l) bears) (now (nodes .entry)) k (now (t .exit)) r) ⌝ }
+{
+    let first = text_start(nodes, k);
+    make_tables(nodes, t, g, first, k);
+    table_at(nodes, g, first, k)
 }

@@ -1,19 +1,21 @@
-// Clauses judged on rows: a row is a mask, bit s for step s.
+// Clauses judged on rows: outside counts a row is a mask, bit s for step s; inside counts a table is one word a step, with bit i for cart i.
 mod clauses;
 mod counts;
 mod inner;
 mod nodes;
 mod operators;
 mod refused;
+mod tables;
 
 pub use clauses::clause_row;
 pub use refused::failing_step;
 pub use refused::has_next;
 
-// What clauses are judged on: so many carts, h steps with the lap from l on, and the drift.
+// What clauses are judged on: so many carts, h steps with the lap from l on, the drift, and so many tables of marks.
 pub struct Ground {
     pub carts: usize,
     pub h: usize,
     pub l: usize,
     pub d: usize,
+    pub marks: usize,
 }

@@ -5,12 +5,18 @@ use crate::nodes::first_at;
 use crate::nodes::kind_at;
 use crate::nodes::second_at;
 ghost use mathlib.Core.Path.{_≡_};
+ghost use mathlib.Core.Bool.{Bool};
 ghost use Prim.Native.Nat.{ℕ, _+_, _<_, _≤_};
+ghost use lib.ListN.{length};
 ghost use Rattle.cltl.specs.Rules.{hasNext};
 ghost use Rattle.cltl.specs.Step.{lowest, failing};
 ghost use Rattle.mask.specs.Mask.{on};
-ghost use Rattle.marks.specs.Table.{Tabled, tableRows};
+ghost use Rattle.table.specs.Table.{Kept};
+ghost use Rattle.table.specs.Layout.{nodesAt, Constants, Shown};
 ghost use Rattle.drift.specs.Tree.{Ordered, clauseTree};
+ghost use Rattle.drift.specs.Ground.{InRange};
+ghost use Rattle.drift.specs.Places.{slotAt};
+ghost use Rattle.drift.specs.Answer.{rowsOn};
 
 // Whether "next" stands outside the counts of node k's clause.
 pub fn has_next(nodes: &[u8], k: usize) -> bool
@@ -50,15 +56,16 @@ fn lowest_off(a: u64, h: usize) -> usize
 }
 
 // The step at which node k's clause fails, if it does.
-pub fn failing_step(nodes: &[u8], table: &[u64], g: Ground, k: usize) -> usize
-    requires { ⌜ (g .l < g .h) × (g .h ≤ 64) × (g .carts ≤ 32) ⌝ }
+pub fn failing_step(nodes: &[u8], t: &mut [u32], g: Ground, k: usize) -> usize
+    requires { ⌜ InRange g × Constants (g .marks) (g .h) (now t) ⌝ }
     requires { ⌜ Ordered (now nodes) (k + 1) ⌝ }
-    requires { ⌜ Tabled (now table) (g .carts) (g .h) ⌝ }
-    ensures { λ r. ⌜ ((n : ℕ) → k < n → r ≡ failing (tableRows (now (table .entry)) (g .carts) (g .h) (g .l)) (g .d)
-        (clauseTree (now (nodes .entry)) n k)) × (r ≤ 64) ⌝ }
+    requires { ⌜ (k < 128) × (slotAt (g .marks) (g .h) 0 k + g .h ≤ length (now t)) ⌝ }
+    ensures { λ _. ⌜ Kept (nodesAt (g .marks) (g .h)) (now (t .entry)) (now (t .exit)) ⌝ }
+    ensures { λ r. ⌜ ((bears : ℕ → ℕ → ℕ → Bool) → Shown (g .marks) (g .carts) (g .h) bears (now (t .entry)) → (n : ℕ) → k < n
+        → r ≡ failing (rowsOn (g .carts) (g .h) (g .l) bears) (g .d) (clauseTree (now (nodes .entry)) n k)) × (r ≤ 64) ⌝ }
 {
     if kind_at(nodes, k) == 5 {
-        let body = clause_row(nodes, table, g, true, first_at(nodes, k));
+        let body = clause_row(nodes, t, g, true, first_at(nodes, k));
         lowest_off(body, g.h)
     } else {
         0

@@ -52,3 +52,7 @@ module _ (marks h : ℕ) where
 
     pub kept-shown : (carts : ℕ) (bears : ℕ → ℕ → ℕ → Bool) → Shown marks carts h bears before → Shown marks carts h bears after
     kept-shown carts bears f i s k p q u = kept-told (nodesAt marks h) before after r (markAt marks h k) h i s (mark-ends k) q ∙ f i s k p q u
+
+-- every block shows what its tables say
+pub shown-itself : (marks carts h : ℕ) (t : List ℕ) → Shown marks carts h (λ i s k. told t (markAt marks h k) i s) t
+shown-itself marks carts h t i s k p q u = refl

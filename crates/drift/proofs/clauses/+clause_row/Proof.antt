@@ -1,12 +1,14 @@
 use Prim.Native.Nat.{ℕ, _+_, _<_}
 use native.Mathlib.Omega.{arith}
-use mathlib.Core.Path.{refl}
+use mathlib.Core.Path.{refl, _∙_}
 use native.Mathlib.Nat.{le-refl}
 use Rattle.drift.specs.Tree.{oneOf}
 use Rattle.drift.specs.Operator.{under}
-use Rattle.drift.specs.Answer.{ClauseRow}
+use Rattle.table.specs.Keeping.{kept-all, kept-then, kept-constants, kept-shown, shown-itself}
+use Rattle.drift.specs.Answer.{rowsOn, ClauseRow}
 use Rattle.drift.specs.Judged.{ordered-less}
-use Rattle.drift.specs.NodeRows.{first-low, two-low}
+use Rattle.drift.specs.NodeTruth.{first-low, two-low}
+use Rattle.drift.specs.Placing.{slot-low}
 use Rattle.drift.specs.ClauseRows.{clause-top, clause-one, clause-two}
 use borrow.Fn.Kinds.{In}
 use borrow.Fn.PlainCycle.{Measures, is, falls, and}
@@ -44,21 +46,27 @@ clause-row-kind-at-requires t c κs = c .before .before .pre .1 .1 .0
 
 clause-row-leaf-row-requires : (t : ℕ) → clause-row-lts.Need-leaf-row-requires (clause-row-calls t) (clause-row-at t) clause-row.Post
 clause-row-leaf-row-requires t c κs =
-    let s = c .before .before .before .before in
-    let k = c .before .kind-at .ensures in
-    (s .pre .1 .0, (s .pre .1 .1 .0, (s .pre .1 .1 .1, omega arith)))
+    let s = c .before .before .before .before .before in
+    let k = c .before .before .kind-at .ensures in
+    (s .pre .1 .0, (s .pre .1 .1 .0, (s .pre .1 .1 .1, omega (arith, c .before .if1 .taken))))
+
+clause-row-same-length : (t : ℕ) → clause-row-lts.Need-same-length (clause-row-calls t) (clause-row-at t) clause-row.Post
+clause-row-same-length t c = c .before .before .leaf-row .ensures .0 .size
 
 clause-row-returns : (t : ℕ) → clause-row-lts.Need-returns (clause-row-calls t) (clause-row-at t) clause-row.Post
-clause-row-returns t c = c .leaf-row .ensures
+clause-row-returns t c = c .before .before .leaf-row .ensures
 
 clause-row-constant-requires : (t : ℕ) → clause-row-lts.Need-constant-requires (clause-row-calls t) (clause-row-at t) clause-row.Post
-clause-row-constant-requires t c κs = (omega arith, omega arith)
+clause-row-constant-requires t c κs = let r = c .before .before .before .before .before .pre .1 .0 .0 in (omega (arith, r .lap), r .steps)
 
 clause-row-returns-2 : (t : ℕ) → clause-row-lts.Need-returns-2 (clause-row-calls t) (clause-row-at t) clause-row.Post
 clause-row-returns-2 t c =
     let s = c .before .before .before .before .before .before in
-    clause-top (s .args .nodes .now) (s .args .table .now) (s .args .g .carts) (s .args .g .h) (s .args .g .l) (s .args .g .d) (s .pre .1 .0 .0)
-    (s .args .p) (s .args .k) _ _ _ (c .before .before .before .kind-at .ensures) refl (c .before .if2 .taken) (c .constant .ensures)
+    let g = s .args .g in (
+      kept-all _ (s .args .t .now),
+      λ bears shown. clause-top (rowsOn (g .carts) (g .h) (g .l) bears) (g .d) (s .args .nodes .now) (s .pre .1 .0 .0 .lap) (s .args .p) (s .args .k) _ _ _
+          (c .before .before .before .kind-at .ensures) refl (c .before .if2 .taken) (c .constant .ensures),
+    )
 
 clause-row-first-at-requires : (t : ℕ) → clause-row-lts.Need-first-at-requires (clause-row-calls t) (clause-row-at t) clause-row.Post
 clause-row-first-at-requires t c κs = c .before .before .before .before .before .pre .1 .1 .0
@@ -68,58 +76,89 @@ clause-row-under-requires t c κs = tt
 
 clause-row-clause-row-requires : (t : ℕ) → clause-row-lts.Need-clause-row-requires (clause-row-calls t) (clause-row-at t) clause-row.Post
 clause-row-clause-row-requires t c κs =
-    let s = c .before .before .before .before .before .before .before in
-    let k = c .before .before .before .before .kind-at .ensures in
-    let f = c .before .first-at .ensures in
-    let low = first-low (s .args .nodes .now) (s .args .k) (s .pre .1 .1 .0) (omega arith) in
-    (omega (arith, s .pre .0), (s .pre .1 .0, (ordered-less (s .args .nodes .now) (s .args .k + 1) _ (omega arith) (s .pre .1 .1 .0), s .pre .1 .1 .1)))
+    let s = c .before .before .before .before .before .before .before .before in
+    let a = s .args in
+    let k = c .before .before .before .before .before .kind-at .ensures in
+    let f = c .before .before .first-at .ensures in
+    let low = first-low (a .nodes .now) (a .k) (s .pre .1 .1 .0) (omega (arith, c .before .before .before .if2 .left)) in
+    let room = slot-low (a .g .marks) (a .g .h) 0 (c .before .before .first-at .result) (a .k) (omega arith) in (
+      omega (arith, s .pre .0),
+      (
+        s .pre .1 .0,
+        (ordered-less (a .nodes .now) (a .k + 1) _ (omega arith) (s .pre .1 .1 .0), (omega (arith, s .pre .1 .1 .1 .0), omega (arith, s .pre .1 .1 .1 .1))),
+      ),
+    )
 
 clause-row-one-row-requires : (t : ℕ) → clause-row-lts.Need-one-row-requires (clause-row-calls t) (clause-row-at t) clause-row.Post
 clause-row-one-row-requires t c κs =
-    let s = c .before .before .before .before .before .before .before .before .before in
-    let a = c .before .clause-row .ensures _ (le-refl _) in
-    (s .pre .1 .0 .0, s .pre .1 .0 .1, a .low)
+    let s = c .before .before .before .before .before .before .before .before .before .before .before .before in
+    let a = c .before .before .before .clause-row .ensures .1 _ (shown-itself _ _ _ (s .args .t .now)) _ (le-refl _) in
+    (s .pre .1 .0 .0 .lap, s .pre .1 .0 .0 .steps, a .low)
+
+clause-row-same-length-2 : (t : ℕ) → clause-row-lts.Need-same-length-2 (clause-row-calls t) (clause-row-at t) clause-row.Post
+clause-row-same-length-2 t c = c .before .before .before .before .clause-row .ensures .0 .size
 
 clause-row-returns-3 : (t : ℕ) → clause-row-lts.Need-returns-3 (clause-row-calls t) (clause-row-at t) clause-row.Post
 clause-row-returns-3 t c =
-    let s = c .before .before .before .before .before .before .before .before .before .before in
-    let a : ClauseRow (s .args .nodes .now) (s .args .table .now) (s .args .g .carts) (s .args .g .h) (s .args .g .l) (s .args .g .d) (under
-    (oneOf (c .before .before .before .before .before .before .before .kind-at .result)) (s .args .p))
-    (c .before .before .before .before .first-at .result) (c .before .before .clause-row .result) =
-    (rw (c .before .before .before .under .ensures) at (c .before .before .clause-row .ensures)) in
-    clause-one (s .args .nodes .now) (s .args .table .now) (s .args .g .carts) (s .args .g .h) (s .args .g .l) (s .args .g .d) (s .pre .1 .0 .0)
-    (s .args .p) (s .args .k) _ _ _ (c .before .before .before .before .before .before .before .kind-at .ensures)
-    (c .before .before .before .before .first-at .ensures) _ (s .pre .1 .1 .0) a (omega arith) (omega arith) (c .one-row .ensures)
+    let s = c .before .before .before .before .before .before .before .before .before .before .before .before .before in
+    let g = s .args .g in (
+      c .before .before .before .before .clause-row .ensures .0,
+      λ bears shown.
+          let a : ClauseRow (rowsOn (g .carts) (g .h) (g .l) bears) (g .d) (s .args .nodes .now) (under (oneOf (c .before .before .before .before .before .before .before .before .before .before .kind-at .result)) (s .args .p))
+          (c .before .before .before .before .before .before .before .first-at .result) (c .before .before .before .before .clause-row .result) = (rw (c .before .before .before .before .before .under .ensures) at (c .before .before .before .before .clause-row .ensures .1 bears shown)) in
+          clause-one (rowsOn (g .carts) (g .h) (g .l) bears) (g .d) (s .args .nodes .now) (s .pre .1 .0 .0 .lap) (s .args .p) (s .args .k) _ _ _
+          (c .before .before .before .before .before .before .before .before .before .before .kind-at .ensures) (c .before .before .before .before .before .before .before .first-at .ensures) _ (s .pre .1 .1 .0) a (omega (arith, c .before .before .before .before .before .before .before .before .if2 .left)) (c .before .if3 .taken) (c .one-row .ensures),
+    )
 
 clause-row-second-at-requires : (t : ℕ) → clause-row-lts.Need-second-at-requires (clause-row-calls t) (clause-row-at t) clause-row.Post
-clause-row-second-at-requires t c κs = c .before .before .before .before .before .before .before .before .before .pre .1 .1 .0
+clause-row-second-at-requires t c κs = c .before .before .before .before .before .before .before .before .before .before .before .before .before .pre .1 .1 .0
 
 clause-row-clause-row-requires-2 : (t : ℕ) → clause-row-lts.Need-clause-row-requires-2 (clause-row-calls t) (clause-row-at t) clause-row.Post
 clause-row-clause-row-requires-2 t c κs =
-    let s = c .before .before .before .before .before .before .before .before .before .before in
-    let k = c .before .before .before .before .before .before .before .kind-at .ensures in
+    let s = c .before .before .before .before .before .before .before .before .before .before .before .before .before .before in
+    let a = s .args in
+    let k = c .before .before .before .before .before .before .before .before .before .before .before .kind-at .ensures in
     let f = c .second-at .ensures in
-    let low = two-low (s .args .nodes .now) (s .args .k) (s .pre .1 .1 .0) (omega arith) (omega arith) in
-    (omega (arith, s .pre .0), (s .pre .1 .0, (ordered-less (s .args .nodes .now) (s .args .k + 1) _ (omega arith) (s .pre .1 .1 .0), s .pre .1 .1 .1)))
+    let low = two-low (a .nodes .now) (a .k) (s .pre .1 .1 .0) (omega (arith, c .before .before .if3 .left)) (omega (arith, c .before .before .before .before .before .before .before .before .before .before .if1 .left)) .1 in
+    let room = slot-low (a .g .marks) (a .g .h) 0 (c .second-at .result) (a .k) (omega arith) in
+    let kept = c .before .before .before .before .before .clause-row .ensures .0 in (
+      omega (arith, s .pre .0),
+      (
+        (s .pre .1 .0 .0, kept-constants (a .g .marks) (a .g .h) (a .t .now) _ kept (s .pre .1 .0 .1)),
+        (
+          ordered-less (a .nodes .now) (a .k + 1) _ (omega arith) (s .pre .1 .1 .0),
+          (omega (arith, s .pre .1 .1 .1 .0), omega (arith, s .pre .1 .1 .1 .1, kept .size)),
+        ),
+      ),
+    )
 
 clause-row-two-row-requires : (t : ℕ) → clause-row-lts.Need-two-row-requires (clause-row-calls t) (clause-row-at t) clause-row.Post
 clause-row-two-row-requires t c κs =
-    let s = c .before .before .before .before .before .before .before .before .before .before .before in
-    let a = c .before .before .before .clause-row .ensures _ (le-refl _) in
-    let b = c .clause-row2 .ensures _ (le-refl _) in
-    (s .pre .1 .0 .0, s .pre .1 .0 .1, a .low, b .low)
+    let s = c .before .before .before .before .before .before .before .before .before .before .before .before .before .before .before .before .before in
+    let a = c .before .before .before .before .before .before .before .before .clause-row .ensures .1 _ (shown-itself _ _ _ (s .args .t .now)) _ (le-refl _) in
+    let g = s .args .g in
+    let shown = kept-shown (g .marks) (g .h) (s .args .t .now) _ (c .before .before .before .before .before .before .before .before .clause-row .ensures .0) (g .carts) _ (shown-itself _ _ _ (s .args .t .now)) in
+    let b = c .before .before .clause-row2 .ensures .1 _ shown _ (le-refl _) in
+    (s .pre .1 .0 .0 .lap, s .pre .1 .0 .0 .steps, a .low, b .low)
+
+clause-row-same-length-3 : (t : ℕ) → clause-row-lts.Need-same-length-3 (clause-row-calls t) (clause-row-at t) clause-row.Post
+clause-row-same-length-3 t c = c .before .before .before .clause-row2 .ensures .0 .size ∙ c .before .before .before .before .before .before .before .before .before .clause-row .ensures .0 .size
 
 clause-row-returns-4 : (t : ℕ) → clause-row-lts.Need-returns-4 (clause-row-calls t) (clause-row-at t) clause-row.Post
 clause-row-returns-4 t c =
-    let s = c .before .before .before .before .before .before .before .before .before .before .before .before in
-    let a : ClauseRow (s .args .nodes .now) (s .args .table .now) (s .args .g .carts) (s .args .g .h) (s .args .g .l) (s .args .g .d) (under
-    (oneOf (c .before .before .before .before .before .before .before .before .before .kind-at .result)) (s .args .p))
-    (c .before .before .before .before .before .before .first-at .result) (c .before .before .before .before .clause-row .result) =
-    (rw (c .before .before .before .before .before .under .ensures) at (c .before .before .before .before .clause-row .ensures)) in
-    clause-two (s .args .nodes .now) (s .args .table .now) (s .args .g .carts) (s .args .g .h) (s .args .g .l) (s .args .g .d) (s .pre .1 .0 .0)
-    (s .args .p) (s .args .k) _ _ _ (c .before .before .before .before .before .before .before .before .before .kind-at .ensures)
-    (c .before .before .before .before .before .before .first-at .ensures) _ (s .pre .1 .1 .0) a _ _ (c .before .before .second-at .ensures)
-    (omega arith) (omega arith) (c .before .clause-row2 .ensures) (c .two-row .ensures)
+    let s = c .before .before .before .before .before .before .before .before .before .before .before .before .before .before .before .before .before .before in
+    let g = s .args .g in
+    let first = c .before .before .before .before .before .before .before .before .before .clause-row .ensures in
+    let second = c .before .before .before .clause-row2 .ensures in (
+      kept-then _ _ (s .args .t .now) _ _ (le-refl _) (first .0) (second .0),
+      λ bears shown.
+          let a : ClauseRow (rowsOn (g .carts) (g .h) (g .l) bears) (g .d) (s .args .nodes .now) (under (oneOf (c .before .before .before .before .before .before .before .before .before .before .before .before .before .before .before .kind-at .result)) (s .args .p))
+          (c .before .before .before .before .before .before .before .before .before .before .before .before .first-at .result) (c .before .before .before .before .before .before .before .before .before .clause-row .result) = (rw (c .before .before .before .before .before .before .before .before .before .before .under .ensures) at (first .1 bears shown)) in
+          clause-two (rowsOn (g .carts) (g .h) (g .l) bears) (g .d) (s .args .nodes .now) (s .pre .1 .0 .0 .lap) (s .args .p) (s .args .k) _ _ _
+          (c .before .before .before .before .before .before .before .before .before .before .before .before .before .before .before .kind-at .ensures) (c .before .before .before .before .before .before .before .before .before .before .before .before .first-at .ensures) _ (s .pre .1 .1 .0) a _ _ (c .before .before .before .before .second-at .ensures)
+          (omega (arith, c .before .before .before .before .before .before .if3 .left)) (omega (arith, c .before .before .before .before .before .before .before .before .before .before .before .before .before .before .if1 .left))
+          (second .1 bears (kept-shown (g .marks) (g .h) (s .args .t .now) _ (first .0) (g .carts) bears shown)) (c .two-row .ensures),
+    )
 
 pub +clause-row-spec : {M : Type 1} → statement M
 +clause-row-spec = close μ-clause-row λ t. clause-row-lts.spec (clause-row-calls t)
@@ -127,6 +166,7 @@ pub +clause-row-spec : {M : Type 1} → statement M
     clause-row.Post
     (clause-row-kind-at-requires t)
     (clause-row-leaf-row-requires t)
+    (clause-row-same-length t)
     (clause-row-returns t)
     (clause-row-constant-requires t)
     (clause-row-returns-2 t)
@@ -134,8 +174,10 @@ pub +clause-row-spec : {M : Type 1} → statement M
     (clause-row-under-requires t)
     (clause-row-clause-row-requires t)
     (clause-row-one-row-requires t)
+    (clause-row-same-length-2 t)
     (clause-row-returns-3 t)
     (clause-row-second-at-requires t)
     (clause-row-clause-row-requires-2 t)
     (clause-row-two-row-requires t)
+    (clause-row-same-length-3 t)
     (clause-row-returns-4 t)

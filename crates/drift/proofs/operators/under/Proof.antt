@@ -1,6 +1,6 @@
 use mathlib.Core.Path.{sym}
 use borrow.Author.Tests.{eq-eqb}
-use Rattle.drift.specs.NodeRows.{under-other}
+use Rattle.drift.specs.NodeTruth.{under-other}
 use Rattle.drift.proofs.operators.under.Statement.{statement}
 use Rattle.drift.proofs.operators.under.Tie as tie
 

@@ -4,7 +4,7 @@ use mathlib.Core.Path.{_≡_, sym, subst, _∙_}
 use Rattle.cltl.specs.Rules.{hasNext}
 use Rattle.drift.specs.Tree.{clauseTree}
 use Rattle.drift.specs.Judged.{ordered-less}
-use Rattle.drift.specs.NodeRows.{first-low, two-low}
+use Rattle.drift.specs.NodeTruth.{first-low, two-low}
 use Rattle.drift.specs.Trees.{next-tells, top-tells, count-tells, one-tells, two-tells}
 use borrow.Fn.Kinds.{In}
 use borrow.Fn.PlainCycle.{Measures, is, falls, and}

@@ -1,0 +1,4 @@
+pub mod Unrolling
+pub mod Narrowing
+pub mod Building
+pub mod Testing

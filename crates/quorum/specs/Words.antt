@@ -1,0 +1,40 @@
+-- The words of a count: one a step or a counter, with bit i for cart i.
+use Prim.Native.Nat.{ℕ, _+_, _*_, _-_, _≤_, _<_}
+use mathlib.Core.Path.{_≡_}
+use mathlib.Core.Bool.{Bool, cond}
+use mathlib.Core.List.{List}
+use lib.Bits.{bitAnd}
+use lib.Count.{ones}
+use lib.Dec.{leb}
+use lib.ListN.{getD, length}
+use Rattle.row.specs.Lasso.{stepOf}
+use Rattle.cltl.specs.Rules.{every}
+use Rattle.mask.specs.Mask.{on, Row}
+
+-- the word of step s: the carts with f, and no bit of what is no cart
+abbrev pub CartsAt : (carts : ℕ) → (ℕ → ℕ → Bool) → ℕ → ℕ → Type 0
+CartsAt carts f s x = Row carts x (λ i. f i s)
+
+-- the word of counter s: that of the step on which it stands
+abbrev pub StepOf : (h l : ℕ) → List ℕ → ℕ → ℕ → Type 0
+StepOf h l w s x = x ≡ getD w (stepOf h l s) 0
+
+-- the bits of word s that the word k further on has too
+abbrev pub shared : List ℕ → ℕ → ℕ → ℕ
+shared w k s = bitAnd (getD w s 0) (getD w (s + k) 0)
+
+-- x has the bits that all of n words from s on have
+abbrev pub Window : List ℕ → (n s x : ℕ) → Type 0
+Window w n s x = (i : ℕ) → on x i ≡ every (λ j. on (getD w (s + j) 0) i) n
+
+-- Each word of a step, and each `off` further on, is a window of all of d + 1 counters but `off`, and these are no more than half. The words behind them
+-- have served, and from h + d + 7 on are left alone.
+pub record Narrowed (h d off : ℕ) (before after : List ℕ) : Type 0 where
+  pub short : 2 * off ≤ d + 1
+  pub kept : length after ≡ length before
+  pub each : (s : ℕ) → s < h + off → Window before (d + 1 - off) s (getD after s 0)
+  pub above : (j : ℕ) → h + d + 7 ≤ j → getD after j 0 ≡ getD before j 0
+
+-- 1 if word s and the word k further on share at least m bits, else 0
+abbrev pub Enough : ℕ → List ℕ → ℕ → ℕ → ℕ → Type 0
+Enough m w k s x = x ≡ cond (leb m (ones (shared w k s))) 1 0

@@ -1,0 +1,54 @@
+// The words of a text along the counters, the lap again behind the last step: no loop over them has to look where the lap ends.
+ghost use Prim.Native.Nat.{ℕ, _+_, _-_, _^_, _≤_, _<_};
+ghost use mathlib.Core.Path.{_≡_};
+ghost use mathlib.Core.Bool.{not};
+ghost use lib.ListN.{length};
+ghost use Rattle.mask.specs.Mask.{on, signed};
+ghost use Rattle.table.specs.Table.{told, Word, Stored};
+ghost use Rattle.quorum.specs.Words.{CartsAt, StepOf};
+
+// The bit of each cart.
+fn all_carts(carts: usize) -> u32
+    requires { ⌜ carts ≤ 32 ⌝ }
+    ensures { λ r. ⌜ r ≡ 2 ^ carts - 1 ⌝ }
+{
+    ((1u64 << carts) - 1) as u32
+}
+
+// What a word is turned over by: nothing for the text itself (p), every bit for its negation.
+fn turn(p: bool) -> u32
+    ensures { λ r. ⌜ Word (λ i. not p) r ⌝ }
+{
+    if p { 0 } else { u32::MAX }
+}
+
+// The words of the steps: the carts that satisfy the text (p) or its negation, and no bit of what is no cart.
+pub(crate) fn unroll(t: &[u32], at: usize, p: bool, carts: usize, h: usize, w: &mut [u32; 88])
+    requires { ⌜ (carts ≤ 32) × (h ≤ 64) ⌝ }
+    requires { ⌜ at + h ≤ length (now t) ⌝ }
+    requires { ⌜ length (now w) ≡ 88 ⌝ }
+    ensures { λ _. ⌜ Stored (CartsAt carts (λ i s. signed p (told (now (t .entry)) at i s))) 0 0 h (now (w .entry)) (now (w .exit)) ⌝ }
+{
+    let full = all_carts(carts);
+    let flip = turn(p);
+    let mut s = 0;
+    while s < h {
+        w[s] = (t[at + s] ^ flip) & full;
+        s += 1;
+    }
+}
+
+// The lap again, for d counters behind the last step.
+pub(crate) fn repeat_lap(w: &mut [u32; 88], h: usize, l: usize, d: usize)
+    requires { ⌜ (l < h) × (h ≤ 64) × (d ≤ 16) ⌝ }
+    requires { ⌜ length (now w) ≡ 88 ⌝ }
+    ensures { λ _. ⌜ Stored (StepOf h l (now (w .entry))) 0 h (h + d) (now (w .entry)) (now (w .exit)) ⌝ }
+{
+    let lap = h - l;
+    let end = h + d;
+    let mut s = h;
+    while s < end {
+        w[s] = w[s - lap];
+        s += 1;
+    }
+}
