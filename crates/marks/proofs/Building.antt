@@ -1,4 +1,4 @@
--- A row built from its last step on: each step's bit goes below the others.
+-- A word built from its last bit on: each bit goes below the others.
 use Prim.Native.Nat.{ℕ, zero, suc, _+_, _*_, _-_, _/_, _%_, _^_, _≤_, _<_}
 use mathlib.Core.Path.{_≡_, sym, ap, subst, _∙_}
 use mathlib.Core.Bool.{Bool}
@@ -9,7 +9,7 @@ use lib.Pow.{pow-pos, pow-mono}
 use Rattle.mask.specs.Mask.{on, Row}
 use Rattle.mask.specs.EachBit.{on-shr}
 
--- the steps from s on are done
+-- of h bits those from s on are done
 pub record Building (h : ℕ) (f : ℕ → Bool) (row s : ℕ) : Type 0 where
   pub within : s ≤ h
   pub rest : Row (h - s) row (λ j. f (s + j))
@@ -24,7 +24,7 @@ high-bit o t j p =
     let n : suc j ≡ 1 + j = omega arith in
     ap (on (o * 2 + t)) n ∙ sym (on-shr (o * 2 + t) 1 j) ∙ ap (λ (x : ℕ). on x j) e
 
--- a bit below a row
+-- a bit below the others
 below : (n o t : ℕ) (g : ℕ → Bool) → t < 2 → eqb t 1 ≡ g 0 → Row n o (λ j. g (suc j)) → Row (suc n) (o * 2 + t) g
 below n o t g p e r = record { low = omega (arith, r .low, pow-suc 2 n); at = tells }
   where
@@ -36,8 +36,8 @@ pub begun : (h : ℕ) (f : ℕ → Bool) → Building h f 0 h
 begun h f = record { within = omega arith; rest = record { low = pow-pos (h - h); at = λ j p. absurd (omega arith) } }
 
 -- there is room for one bit more
-pub small : (h : ℕ) (f : ℕ → Bool) (row s : ℕ) → h ≤ 64 → 0 < s → Building h f row s → row < 2 ^ 63
-small h f row s few p b = omega (arith, b .rest .low, pow-mono {i = h - s} {j = 63} (omega arith))
+pub small : (h : ℕ) (f : ℕ → Bool) (row s : ℕ) → h ≤ 32 → 0 < s → Building h f row s → row < 2 ^ 31
+small h f row s few p b = omega (arith, b .rest .low, pow-mono {i = h - s} {j = 31} (omega arith))
 
 pub onward : (h : ℕ) (f : ℕ → Bool) (row s t : ℕ) → 0 < s → Building h f row s → t < 2 → eqb t 1 ≡ f (s - 1) → Building h f (row * 2 + t) (s - 1)
 onward h f row s t p b q e =

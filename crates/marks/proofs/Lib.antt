@@ -1,5 +1,5 @@
 pub mod Reading
-pub mod Storing
 pub mod Joining
 pub mod Building
 pub mod Filling
+pub mod Laying

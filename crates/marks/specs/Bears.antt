@@ -1,14 +1,13 @@
 -- What the places of a plan's rows bear, from the bytes of the floor and of the plan's block.
-use Prim.Native.Nat.{ℕ, _+_, _*_, _≤_, _<_}
+use Prim.Native.Nat.{ℕ, _+_, _*_, _-_, _≤_, _<_}
 use mathlib.Core.Path.{_≡_}
-use mathlib.Core.Bool.{Bool}
+use mathlib.Core.Bool.{Bool, true, false}
 use mathlib.Core.List.{List}
 use lib.ListN.{getD, length}
 use Rattle.endian.specs.Little.{value}
 use Rattle.floor.specs.Numbers.{placeAt, bodyAt}
 use Rattle.cltl.specs.Meaning.{Rows}
-use Rattle.mask.specs.Mask.{on, Row}
-use Rattle.marks.specs.Table.{markRow}
+use Rattle.mask.specs.Mask.{on}
 
 -- "4 bytes: one bit for each mark m0 (lowest) to m31": the marks of place q
 unfoldable pub marksOf : List ℕ → ℕ → ℕ
@@ -31,8 +30,12 @@ pub record OnFloor (floor block : List ℕ) (h i : ℕ) : Type 0 where
 pub record Placed (floor block : List ℕ) (carts h : ℕ) : Type 0 where
   pub row : (i : ℕ) → i < carts → OnFloor floor block h i
 
--- the table of a plan: what lies beyond the carts' rows is left alone
-pub record Filled (floor block : List ℕ) (carts h : ℕ) (before after : List ℕ) : Type 0 where
-  pub kept : length after ≡ length before
-  pub row : (i k : ℕ) → i < carts → k < 32 → Row h (markRow after i k) (λ s. bearing floor block i s k)
-  pub beyond : (j : ℕ) → carts * 32 ≤ j → getD after j 0 ≡ getD before j 0
+-- r is one more than the highest mark that a place below `places` bears, and 0 if none bears a mark
+pub record Borne (floor : List ℕ) (places r : ℕ) : Type 0 where
+  pub few : r ≤ 32
+  pub none : (q k : ℕ) → q < places → r ≤ k → k < 32 → on (marksOf floor q) k ≡ false
+  pub some : 0 < r → (q : ℕ) × (q < places) × (on (marksOf floor q) (r - 1) ≡ true)
+
+-- no place of the carts' rows bears a mark from r on
+pub record NoneFrom (floor block : List ℕ) (carts h r : ℕ) : Type 0 where
+  pub none : (i s k : ℕ) → i < carts → s < h → r ≤ k → k < 32 → bearing floor block i s k ≡ false

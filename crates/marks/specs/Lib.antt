@@ -1,6 +1,5 @@
 -- definitions
-pub mod Table
 pub mod Bears
-pub mod Stored
+pub mod Tables
 -- laws
-pub mod Told
+pub mod Unborne

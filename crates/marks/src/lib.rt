@@ -1,38 +1,40 @@
-// The rows of every mark for every cart, made once for a plan.
-mod rows;
+// The tables of the marks, made once for a plan: word s of a mark's table has bit i for cart i.
+mod tables;
 mod words;
 
 ghost use Prim.Native.Nat.{_+_, _*_, _≤_, _<_};
 ghost use mathlib.Core.Path.{_≡_};
 ghost use lib.ListN.{length};
-ghost use Rattle.marks.specs.Bears.{OnFloor, Placed, Filled};
-ghost use Rattle.marks.specs.Stored.{Stored, RowOf};
+ghost use Rattle.table.specs.Layout.{nodesAt};
+ghost use Rattle.marks.specs.Bears.{Placed, Borne, NoneFrom};
+ghost use Rattle.marks.specs.Tables.{Filled};
 
-// The 32 rows of cart i.
-fn cart_rows(floor: &[u8], block: &[u8], i: usize, h: usize, table: &mut [u64])
-    requires { ⌜ length (now block) ≡ 2048 ⌝ }
-    requires { ⌜ (i < 32) × (0 < h) × (h ≤ 64) ⌝ }
-    requires { ⌜ i * 32 + 32 ≤ length (now table) ⌝ }
-    requires { ⌜ OnFloor (now floor) (now block) h i ⌝ }
-    ensures { λ _. ⌜ Stored (RowOf (now (floor .entry)) (now (block .entry)) h i) (i * 32) 32 (now (table .entry)) (now (table .exit)) ⌝ }
+// How many tables the marks of a floor's places need.
+pub fn borne(floor: &[u8], places: usize) -> usize
+    requires { ⌜ 8 * places ≤ length (now floor) ⌝ }
+    ensures { λ r. ⌜ Borne (now (floor .entry)) places r ⌝ }
 {
-    let mut words = [0u64; 64];
-    words::read_words(floor, block, i, h, &mut words);
-    let seen = words::all_of(&words, h);
-    rows::mark_rows(&words, seen, i, h, table);
+    let mut all = 0u32;
+    let mut q = 0;
+    while q < places {
+        all = all | words::marks_of(floor, q);
+        q += 1;
+    }
+    32 - (u32::leading_zeros(all) as usize)
 }
 
-// Fills the table of a plan: cart i's row of mark k at number 32 i + k.
-pub fn fill(floor: &[u8], block: &[u8], carts: usize, h: usize, table: &mut [u64])
+// Fills the tables of a plan: the marks', that of all and that of none.
+pub fn fill(floor: &[u8], block: &[u8], carts: usize, h: usize, marks: usize, t: &mut [u32])
     requires { ⌜ length (now block) ≡ 2048 ⌝ }
-    requires { ⌜ (carts ≤ 32) × (0 < h) × (h ≤ 64) ⌝ }
-    requires { ⌜ carts * 32 ≤ length (now table) ⌝ }
+    requires { ⌜ (carts ≤ 32) × (h ≤ 64) × (marks ≤ 32) ⌝ }
+    requires { ⌜ nodesAt marks h ≤ length (now t) ⌝ }
     requires { ⌜ Placed (now floor) (now block) carts h ⌝ }
-    ensures { λ _. ⌜ Filled (now (floor .entry)) (now (block .entry)) carts h (now (table .entry)) (now (table .exit)) ⌝ }
+    requires { ⌜ NoneFrom (now floor) (now block) carts h marks ⌝ }
+    ensures { λ _. ⌜ Filled (now (floor .entry)) (now (block .entry)) carts h marks (now (t .entry)) (now (t .exit)) ⌝ }
 {
-    let mut i = 0;
-    while i < carts {
-        cart_rows(floor, block, i, h, table);
-        i += 1;
-    }
+    let all = marks * h;
+    tables::put(t, 0, all, 0);
+    tables::put(t, all, h, u32::MAX);
+    tables::put(t, all + h, h, 0);
+    tables::add_carts(floor, block, carts, h, marks, t);
 }

@@ -1,60 +1,57 @@
-use Prim.Native.Nat.{ℕ, _-_, _≤_}
 use native.Mathlib.Omega.{arith}
-use mathlib.Core.Path.{_≡_, subst}
-use Rattle.marks.specs.Bears.{Filled}
-use Rattle.marks.proofs.Filling.{begun, onward}
+use Rattle.marks.proofs.Laying.{length-kept, empty, filled}
+use borrow.Author.Needs.{needs}
 use Rattle.marks.proofs.fill.Statement.{statement}
 use Rattle.marks.proofs.fill.Tie as tie
 
-abbrev Inv-loop : tie.InvT-loop
-Inv-loop floor block carts h table₀ i₀ table i = (i ≤ carts) × Filled floor block i h table₀ table
+mul-all : tie.Need-mul-all
+mul-all c = search needs
 
-abbrev μ-loop : tie.MeasureT-loop
-μ-loop floor block carts h table₀ i₀ table i = carts - i
+put-requires : tie.Need-put-requires
+put-requires c κs = search needs
 
-loop-holds : tie.Need-loop-holds Inv-loop μ-loop
-loop-holds c =
-    let a = c .before .before .before .args in
-    (omega arith, begun (a .floor .now) (a .block .now) (a .h) (a .table .now))
+put-requires-2 : tie.Need-put-requires-2
+put-requires-2 c κs = search needs
 
-cart-rows-requires : tie.Need-cart-rows-requires Inv-loop μ-loop
-cart-rows-requires c κs =
-    let s = c .before .before .before .before .before .before in
-    let v = c .before .before .loop in
-    (s .pre .0, ((omega arith, omega arith, omega arith), (omega (arith, v .inv .1 .kept), s .pre .1 .1 .1 .row (v .i) (c .before .loop-test .taken))))
+add-put : tie.Need-add-put
+add-put c = search needs
 
-add-i : tie.Need-add-i Inv-loop μ-loop
-add-i c = omega arith
+put-requires-3 : tie.Need-put-requires-3
+put-requires-3 c κs = search needs
 
-loop-less : tie.Need-loop-less Inv-loop μ-loop
-loop-less c = omega arith
+add-carts-requires : tie.Need-add-carts-requires
+add-carts-requires c κs =
+    let st = c .before .before .before .before .before .before .before .before .before .before .before .before .before .before .before .before in
+    let a = st .args in
+    let x = c .before .before .before .before .before .before .before .before .before .before .before .put .ensures in
+    let y = c .before .before .before .before .before .before .before .put2 .ensures in
+    let z = c .before .before .before .put3 .ensures in
+    let kept = length-kept (a .marks) (a .h) x y z (omega arith) in
+    (st .pre .0, (st .pre .1 .0, (omega arith, (st .pre .1 .1 .1 .0, empty (a .marks) (a .h) x y z (omega arith)))))
 
-loop-again : tie.Need-loop-again Inv-loop μ-loop
-loop-again c =
-    let a = c .before .before .before .before .before .before .before .before .before .args in
-    let v = c .before .before .before .before .before .loop in
-    (omega arith, onward (a .floor .now) (a .block .now) (a .h) (v .i) (a .table .now) (v .table) _ (v .inv .1) (c .before .before .cart-rows .ensures))
+same-length : tie.Need-same-length
+same-length c = search needs
 
-same-length : tie.Need-same-length Inv-loop μ-loop
-same-length c = c .before .loop .inv .1 .kept
-
-returns : tie.Need-returns Inv-loop μ-loop
+returns : tie.Need-returns
 returns c =
-    let a = c .before .before .before .before .before .args in
-    let v = c .before .loop in
-    let e : v .i ≡ a .carts = omega arith in
-    subst (λ (n : ℕ). Filled (a .floor .now) (a .block .now) n (a .h) (a .table .now) (v .table)) e (v .inv .1)
+    let d = c .before .before .before in
+    let st = d .before .before .before .before .before .before .before .before .before .before .before .before .before .before .before .before in
+    let a = st .args in
+    let x = d .before .before .before .before .before .before .before .before .before .before .before .put .ensures in
+    let y = d .before .before .before .before .before .before .before .put2 .ensures in
+    let z = d .before .before .before .put3 .ensures in
+    filled (a .marks) (a .h) x y z (omega arith) (a .floor .now) (a .block .now) (a .carts) _ (st .pre .1 .1 .0) (c .before .before .add-carts .ensures)
+    (st .pre .1 .1 .1 .1)
 
 pub fill-spec : {M : Type 1} → statement M
 fill-spec =
     tie.close
     (tie.spec
-    Inv-loop
-    μ-loop
-    loop-holds
-    cart-rows-requires
-    add-i
-    loop-less
-    loop-again
+    mul-all
+    put-requires
+    put-requires-2
+    add-put
+    put-requires-3
+    add-carts-requires
     same-length
     returns)

@@ -4,9 +4,6 @@ use borrow.Author.Needs.{needs}
 use Rattle.marks.proofs.words.marks_of.Statement.{statement}
 use Rattle.marks.proofs.words.marks_of.Tie as tie
 
-wide-requires : tie.Need-wide-requires
-wide-requires c κs = search needs
-
 mul-at : tie.Need-mul-at
 mul-at c = search needs
 
@@ -37,20 +34,15 @@ shared-slice-read-number32-4 c = search needs
 number32-requires : tie.Need-number32-requires
 number32-requires c κs = search needs
 
-cast-result : tie.Need-cast-result
-cast-result c = search needs
-
 returns : tie.Need-returns
 returns c =
-    let s = c .before .before .before .before .before .before .before in
-    let w = c .before .before .before .before .before .wide in
-    c .number32 .ensures ∙ sym (marks-bytes (s .args .floor .now) (s .args .place) (w .result) (w .ensures) (s .pre))
+    let s = c .before .before .before .before .before .before in
+    c .number32 .ensures ∙ sym (marks-bytes (s .args .floor .now) (s .args .place) (s .pre))
 
 pub marks-of-spec : {M : Type 1} → statement M
 marks-of-spec =
     tie.close
     (tie.spec
-    wide-requires
     mul-at
     add-number32
     shared-slice-read-number32
@@ -61,5 +53,4 @@ marks-of-spec =
     add-number32-4
     shared-slice-read-number32-4
     number32-requires
-    cast-result
     returns)

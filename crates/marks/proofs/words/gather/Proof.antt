@@ -2,25 +2,23 @@ use Prim.Native.Nat.{ℕ, _-_, _≤_, _<_}
 use native.Mathlib.Omega.{arith}
 use mathlib.Core.Path.{_≡_, ap, subst, _∙_}
 use lib.ListN.{length}
+use Rattle.table.specs.Table.{Stored}
+use Rattle.table.specs.Storing.{begun, upward}
 use Rattle.marks.specs.Bears.{marksOf}
-use Rattle.marks.specs.Stored.{Stored, WordAt}
-use Rattle.marks.proofs.Storing.{begun, onward}
-use Rattle.marks.proofs.words.read_words.Statement.{statement}
-use Rattle.marks.proofs.words.read_words.Tie as tie
+use Rattle.marks.specs.Tables.{WordAt}
+use Rattle.marks.proofs.words.gather.Statement.{statement}
+use Rattle.marks.proofs.words.gather.Tie as tie
 
 abbrev Inv-loop : tie.InvT-loop
-Inv-loop floor block i h words₀ last s₀ words s = (s ≤ h) × Stored (WordAt floor block i) 0 s words₀ words
+Inv-loop floor block i h words₀ s₀ words s = (s ≤ h) × Stored (WordAt floor block i) 0 0 s words₀ words
 
 abbrev μ-loop : tie.MeasureT-loop
-μ-loop floor block i h words₀ last s₀ words s = h - s
-
-sub-last : tie.Need-sub-last Inv-loop μ-loop
-sub-last c = omega arith
+μ-loop floor block i h words₀ s₀ words s = h - s
 
 loop-holds : tie.Need-loop-holds Inv-loop μ-loop
 loop-holds c =
     let a = c .before .before .args in
-    (omega arith, begun (WordAt (a .floor .now) (a .block .now) (a .i)) 0 (a .words .now))
+    (omega arith, begun (WordAt (a .floor .now) (a .block .now) (a .i)) 0 0 (a .words .now))
 
 place-on-requires : tie.Need-place-on-requires Inv-loop μ-loop
 place-on-requires c κs = omega arith
@@ -50,7 +48,8 @@ loop-again c =
     let word = m .ensures ∙ ap (marksOf (a .floor .now)) (c .before .place-on .ensures) in
     let inside : v .s < length (v .words) = omega (arith, v .inv .1 .kept) in (
       omega arith,
-      onward (WordAt (a .floor .now) (a .block .now) (a .i)) 0 (v .s) (v .s) (m .result) (a .words .now) (v .words) (v .inv .1) (omega arith) inside word,
+      upward (WordAt (a .floor .now) (a .block .now) (a .i)) 0 0 (v .s) (v .s) (m .result) (a .words .now) (v .words) (v .inv .1) (omega arith) inside
+          (omega arith) word,
     )
 
 returns : tie.Need-returns Inv-loop μ-loop
@@ -58,15 +57,14 @@ returns c =
     let a = c .before .before .before .before .args in
     let v = c .before .loop in
     let e : v .s ≡ a .h = omega arith in
-    subst (λ (n : ℕ). Stored (WordAt (a .floor .now) (a .block .now) (a .i)) 0 n (a .words .now) (v .words)) e (v .inv .1)
+    subst (λ (n : ℕ). Stored (WordAt (a .floor .now) (a .block .now) (a .i)) 0 0 n (a .words .now) (v .words)) e (v .inv .1)
 
-pub read-words-spec : {M : Type 1} → statement M
-read-words-spec =
+pub gather-spec : {M : Type 1} → statement M
+gather-spec =
     tie.close
     (tie.spec
     Inv-loop
     μ-loop
-    sub-last
     loop-holds
     place-on-requires
     marks-of-requires
