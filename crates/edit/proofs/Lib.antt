@@ -1,2 +1,3 @@
 pub mod RowsMoved
 pub mod RowJudged
+pub mod RowFitting

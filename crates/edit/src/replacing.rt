@@ -5,16 +5,14 @@ use plan::Head;
 use plan::RowAnswer;
 use refusal::Verdict;
 ghost use mathlib.Core.Path.{_≡_};
-ghost use Prim.Native.Nat.{ℕ, _<_};
+ghost use Prim.Native.Nat.{ℕ, _≤_, _<_};
 ghost use lib.ListN.{length};
 ghost use Rattle.floor.specs.Promises.{AcceptedFloor};
 ghost use Rattle.plan.specs.Plan.{heldNumbers};
 ghost use Rattle.plan.specs.Valid.{HeadInRange};
 ghost use Rattle.plan.specs.declared.RowAnswer.the-variants.{Absent};
-ghost use Rattle.row.specs.Moves.{lanesIn};
-ghost use Rattle.row.specs.Chain.{Chained};
-ghost use Rattle.edit.specs.Replaced.{placesVerdict, newRowVerdict, replaceVerdict};
-ghost use Rattle.edit.specs.Judgement.{ReplacementJudged};
+ghost use Rattle.edit.specs.Replaced.{placesVerdict, replaceVerdict};
+ghost use Rattle.edit.specs.Judgement.{fitVerdict, ReplacementJudged};
 ghost use Rattle.edit.specs.Promises.{RowReplaced};
 
 // A row judged on its places, as a verdict.
@@ -29,30 +27,20 @@ fn verdict_of(c: usize, a: RowAnswer) -> Verdict
     }
 }
 
-// Judges a row for a cart of the floor.
-fn judge_new_row<'a>(
-    s: &[u8],
-    f: Floor,
-    first: &'a [u16; 256],
-    next: &'a [u16; 1024],
-    h: Head,
-    c: usize,
-    row: &'a [u8],
-) -> Verdict
-    requires { ⌜ AcceptedFloor (now s) f ⌝ }
-    requires { ⌜ Chained (lanesIn (now s)) (now first) (now next) 0 ⌝ }
+// Judges whether a row fits a cart of the floor, its moves left out.
+fn judge_fit(f: Floor, h: Head, cart: u32, row: &[u8]) -> Verdict
+    requires { ⌜ f .carts ≤ 32 ⌝ }
     requires { ⌜ HeadInRange h ⌝ }
-    requires { ⌜ c < f .carts ⌝ }
-    ensures { λ r. ⌜ r ≡ newRowVerdict (now (s .entry)) f h c (now (row .entry)) ⌝ }
+    ensures { λ r. ⌜ r ≡ fitVerdict f h cart (now (row .entry)) ⌝ }
 {
-    let v = verdict_of(c, plan::judge_row(row, h.steps, f.places));
-    if !refusal::accepts(v) {
-        return v;
+    if f.carts <= cart as usize {
+        return Verdict::Plan(refusal::refuse(19, cart, 0));
     }
-    moves::judge_cart_row(s, f, first, next, c, row, h.stem)
+    verdict_of(cart as usize, plan::judge_row(row, h.steps, f.places))
 }
 
-// Judges the moves of a plan that is read already, and then a row for a cart.
+// Judges the moves of a plan that is read already, and then a row for a cart. Its fit is judged first, so that its moves can follow the plan's
+// with the lanes linked once, and told only where the plan's moves are accepted.
 fn judge_moves_and_row<'a>(
     s: &[u8],
     f: Floor,
@@ -66,17 +54,15 @@ fn judge_moves_and_row<'a>(
     requires { ⌜ length (now block) ≡ 2048 ⌝ }
     ensures { λ r. ⌜ r ≡ replaceVerdict (now (s .entry)) f (heldNumbers (f .carts) h (now (block .entry))) cart (now (row .entry)) ⌝ }
 {
-    let links = row::linked(s, f);
-    let first = links.first;
-    let next = links.next;
-    let v = moves::judge_carts(s, f, &first, &next, h, block);
+    let fit = judge_fit(f, h, cart, row);
+    if refusal::accepts(fit) {
+        return moves::judge_plan_and_row(s, f, h, block, cart as usize, row);
+    }
+    let v = moves::judge_plan(s, f, h, block);
     if !refusal::accepts(v) {
         return v;
     }
-    if f.carts <= cart as usize {
-        return Verdict::Plan(refusal::refuse(19, cart, 0));
-    }
-    judge_new_row(s, f, &first, &next, h, cart as usize, row)
+    fit
 }
 
 // Judges a replacement. It changes nothing.

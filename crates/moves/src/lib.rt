@@ -12,6 +12,7 @@ ghost use Rattle.row.specs.Moves.{lanesIn};
 ghost use Rattle.row.specs.Chain.{Chained};
 ghost use Rattle.row.specs.declared.MoveAnswer.the-variants.{Shut};
 ghost use Rattle.moves.specs.Carts.{verdictOf, cartVerdict, judgedCarts};
+ghost use Rattle.moves.specs.Further.{FurtherFits, furtherVerdict, withFurther};
 ghost use Rattle.moves.specs.Promises.{MovesChecked};
 
 // A cart's moves judged, as a verdict.
@@ -27,17 +28,17 @@ fn verdict_of(c: usize, a: MoveAnswer) -> Verdict
 }
 
 // Judges a row as a cart's.
-pub fn judge_cart_row<'a>(
+fn judge_cart_row<'a>(
     s: &[u8],
     f: Floor,
     first: &'a [u16; 256],
-    next: &'a [u16; 1024],
+    next: &'a [u16],
     c: usize,
     row: &'a [u8],
     stem: usize,
 ) -> Verdict
     requires { ⌜ AcceptedFloor (now s) f ⌝ }
-    requires { ⌜ Chained (lanesIn (now s)) (now first) (now next) 0 ⌝ }
+    requires { ⌜ Chained (lanesIn (now s)) (now first) (now next) 0 × (f .lanes ≤ length (now next)) ⌝ }
     requires { ⌜ (c < f .carts) × (stem < length (now row)) × (length (now row) ≤ 64) ⌝ }
     ensures { λ r. ⌜ r ≡ cartVerdict (now (s .entry)) c (now (row .entry)) (length (now (row .entry))) stem ⌝ }
 {
@@ -47,16 +48,16 @@ pub fn judge_cart_row<'a>(
 }
 
 // Judges the rows of all carts.
-pub fn judge_carts<'a>(
+fn judge_carts<'a>(
     s: &[u8],
     f: Floor,
     first: &'a [u16; 256],
-    next: &'a [u16; 1024],
+    next: &'a [u16],
     h: Head,
     block: &'a [u8],
 ) -> Verdict
     requires { ⌜ AcceptedFloor (now s) f ⌝ }
-    requires { ⌜ Chained (lanesIn (now s)) (now first) (now next) 0 ⌝ }
+    requires { ⌜ Chained (lanesIn (now s)) (now first) (now next) 0 × (f .lanes ≤ length (now next)) ⌝ }
     requires { ⌜ (h .stem < h .steps) × (h .steps ≤ 64) × (length (now block) ≡ 2048) ⌝ }
     ensures { λ r. ⌜ r ≡ judgedCarts (now (s .entry)) (heldNumbers (f .carts) h (now (block .entry))) (f .carts) 0 ⌝ }
 {
@@ -74,16 +75,81 @@ pub fn judge_carts<'a>(
     Verdict::Accepted
 }
 
+// Judges a row beyond the plan's as a cart's. One without steps is none.
+fn judge_further<'a>(
+    s: &[u8],
+    f: Floor,
+    first: &'a [u16; 256],
+    next: &'a [u16],
+    c: usize,
+    row: &'a [u8],
+    stem: usize,
+) -> Verdict
+    requires { ⌜ AcceptedFloor (now s) f ⌝ }
+    requires { ⌜ Chained (lanesIn (now s)) (now first) (now next) 0 × (f .lanes ≤ length (now next)) ⌝ }
+    requires { ⌜ FurtherFits (f .carts) c (now row) stem ⌝ }
+    ensures { λ r. ⌜ r ≡ furtherVerdict (now (s .entry)) c (now (row .entry)) stem ⌝ }
+{
+    if row.len() == 0 {
+        return Verdict::Accepted;
+    }
+    judge_cart_row(s, f, first, next, c, row, stem)
+}
+
+// Judges the rows of an accepted plan and then a further one, with the lanes linked in a table that is lent.
+fn judge_linked<'a>(
+    s: &[u8],
+    f: Floor,
+    h: Head,
+    block: &'a [u8],
+    c: usize,
+    row: &'a [u8],
+    next: &mut [u16],
+) -> Verdict
+    requires { ⌜ AcceptedFloor (now s) f ⌝ }
+    requires { ⌜ (h .stem < h .steps) × (h .steps ≤ 64) × (length (now block) ≡ 2048) ⌝ }
+    requires { ⌜ FurtherFits (f .carts) c (now row) (h .stem) ⌝ }
+    requires { ⌜ f .lanes ≤ length (now next) ⌝ }
+    ensures { λ r. ⌜ r ≡ withFurther (now (s .entry)) f (heldNumbers (f .carts) h (now (block .entry))) c (now (row .entry)) ⌝ }
+{
+    let mut first = [0u16; 256];
+    row::link(s, f, &mut first, next);
+    let v = judge_carts(s, f, &first, next, h, block);
+    if !refusal::accepts(v) {
+        return v;
+    }
+    judge_further(s, f, &first, next, c, row, h.stem)
+}
+
+// Judges the rows of an accepted plan and then a further one as a cart's. Clearing a large table of links would cost a small floor more than reading it.
+pub fn judge_plan_and_row<'a>(
+    s: &[u8],
+    f: Floor,
+    h: Head,
+    block: &'a [u8],
+    c: usize,
+    row: &'a [u8],
+) -> Verdict
+    requires { ⌜ AcceptedFloor (now s) f ⌝ }
+    requires { ⌜ (h .stem < h .steps) × (h .steps ≤ 64) × (length (now block) ≡ 2048) ⌝ }
+    requires { ⌜ FurtherFits (f .carts) c (now row) (h .stem) ⌝ }
+    ensures { λ r. ⌜ r ≡ withFurther (now (s .entry)) f (heldNumbers (f .carts) h (now (block .entry))) c (now (row .entry)) ⌝ }
+{
+    if f.lanes <= 128 {
+        let mut next = [0u16; 128];
+        return judge_linked(s, f, h, block, c, row, &mut next);
+    }
+    let mut next = [0u16; 1024];
+    judge_linked(s, f, h, block, c, row, &mut next)
+}
+
 // Judges the rows of an accepted plan.
 pub fn judge_plan(floor: &[u8], f: Floor, h: Head, block: &[u8]) -> Verdict
     requires { ⌜ AcceptedFloor (now floor) f ⌝ }
     requires { ⌜ (h .stem < h .steps) × (h .steps ≤ 64) × (length (now block) ≡ 2048) ⌝ }
     ensures { λ r. ⌜ r ≡ judgedCarts (now (floor .entry)) (heldNumbers (f .carts) h (now (block .entry))) (f .carts) 0 ⌝ }
 {
-    let links = row::linked(floor, f);
-    let first = links.first;
-    let next = links.next;
-    judge_carts(floor, f, &first, &next, h, block)
+    judge_plan_and_row(floor, f, h, block, 0, &block[0..0])
 }
 
 // Checks the moves of a plan.

@@ -81,9 +81,8 @@ module _ (lanes : List (List ℕ)) where
     widened {j = j} i (link {i = o} p q u f r) e n = link {j = i} {i = o} (omega arith) q u (free-more a j i o e f n) r
 
   -- no lane linked yet
-  pub chained-none : (n : ℕ) → length lanes ≡ n → Chained lanes (replicate 256 0) (replicate 1024 0) n
-  chained-none n e a below =
-      subst (λ (x : ℕ). Leads lanes (replicate 1024 0) a x n) (sym (getD-replicate 256 a 0 0 below)) (end (λ m p q. absurd (omega arith)))
+  pub chained-none : (next : List ℕ) (n : ℕ) → length lanes ≡ n → Chained lanes (replicate 256 0) next n
+  chained-none next n e a below = subst (λ (x : ℕ). Leads lanes next a x n) (sym (getD-replicate 256 a 0 0 below)) (end (λ m p q. absurd (omega arith)))
 
   -- one lane more in front
   pub chained-more : (first next : List ℕ) (j from : ℕ) → Chained lanes first next (suc j) → j < length lanes → leaves lanes j ≡ from

@@ -1,32 +1,31 @@
 // Lanes by the place that they leave.
-use crate::Links;
 use floor::Floor;
 ghost use mathlib.Core.Path.{_≡_};
 ghost use mathlib.Core.Bool.{_&&_};
-ghost use Prim.Native.Nat.{_<_};
+ghost use Prim.Native.Nat.{_≤_, _<_};
 ghost use lib.Dec.{eqb};
+ghost use lib.ListN.{length, drop, replicate};
 ghost use Rattle.floor.specs.Promises.{AcceptedFloor};
 ghost use Rattle.row.specs.Moves.{bit, lanesIn, someLaneOpens};
 ghost use Rattle.row.specs.Chain.{Chained};
 
-// Links the lanes of an accepted floor, the last lane first.
-pub fn linked(s: &[u8], f: Floor) -> Links
+// Links the lanes of an accepted floor, the last lane first. A link is 0, or one more than a lane's number; next has one for each lane.
+pub fn link(s: &[u8], f: Floor, first: &mut [u16; 256], next: &mut [u16])
     requires { ⌜ AcceptedFloor (now s) f ⌝ }
-    ensures { λ r. ⌜ Chained (lanesIn (now (s .entry))) (r .first) (r .next) 0 ⌝ }
+    requires { ⌜ now first ≡ replicate 256 0 ⌝ }
+    requires { ⌜ f .lanes ≤ length (now next) ⌝ }
+    ensures { λ _. ⌜ Chained (lanesIn (now (s .entry))) (now (first .exit)) (now (next .exit)) 0 ⌝ }
+    ensures { λ _. ⌜ length (now (next .exit)) ≡ length (now (next .entry)) ⌝ }
+    ensures { λ _. ⌜ drop (f .lanes) (now (next .exit)) ≡ drop (f .lanes) (now (next .entry)) ⌝ }
 {
-    let mut links = Links {
-        first: [0u16; 256],
-        next: [0u16; 1024],
-    };
     let mut j = f.lanes;
     while 0 < j {
         j -= 1;
         let at = floor::lane_at(f, j);
         let from = endian::wide(s[at + 4]);
-        links.next[j] = links.first[from];
-        links.first[from] = (j + 1) as u16;
+        next[j] = first[from];
+        first[from] = (j + 1) as u16;
     }
-    links
 }
 
 // Whether a lane to this place, open to these classes, opens a move there to a class.
@@ -45,13 +44,13 @@ pub(crate) fn some_lane_opens<'a>(
     s: &[u8],
     f: Floor,
     first: &'a [u16; 256],
-    next: &'a [u16; 1024],
+    next: &'a [u16],
     class: u8,
     from: u8,
     to: u8,
 ) -> bool
     requires { ⌜ AcceptedFloor (now s) f ⌝ }
-    requires { ⌜ Chained (lanesIn (now s)) (now first) (now next) 0 ⌝ }
+    requires { ⌜ Chained (lanesIn (now s)) (now first) (now next) 0 × (f .lanes ≤ length (now next)) ⌝ }
     requires { ⌜ class < 8 ⌝ }
     ensures { λ r. ⌜ r ≡ someLaneOpens (lanesIn (now (s .entry))) class from to ⌝ }
 {

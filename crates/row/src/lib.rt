@@ -2,7 +2,7 @@
 mod lanes;
 mod moves;
 
-pub use lanes::linked;
+pub use lanes::link;
 pub use moves::judge_moves;
 pub use moves::next_step;
 
@@ -11,10 +11,4 @@ pub enum MoveAnswer {
     Open,
     Elsewhere,
     Shut(usize),
-}
-
-// Lanes linked by the place that they leave: a link is 0, or one more than a lane's number.
-pub struct Links {
-    pub first: [u16; 256],
-    pub next: [u16; 1024],
 }

@@ -3,7 +3,7 @@ use crate::MoveAnswer;
 use crate::lanes;
 use floor::Floor;
 ghost use mathlib.Core.Path.{_≡_};
-ghost use Prim.Native.Nat.{_<_};
+ghost use Prim.Native.Nat.{_≤_, _<_};
 ghost use lib.ListN.{length};
 ghost use Rattle.floor.specs.Promises.{AcceptedFloor};
 ghost use Rattle.row.specs.Lasso.{nextStep};
@@ -23,13 +23,13 @@ fn is_open<'a>(
     s: &[u8],
     f: Floor,
     first: &'a [u16; 256],
-    next: &'a [u16; 1024],
+    next: &'a [u16],
     class: u8,
     from: u8,
     to: u8,
 ) -> bool
     requires { ⌜ AcceptedFloor (now s) f ⌝ }
-    requires { ⌜ Chained (lanesIn (now s)) (now first) (now next) 0 ⌝ }
+    requires { ⌜ Chained (lanesIn (now s)) (now first) (now next) 0 × (f .lanes ≤ length (now next)) ⌝ }
     requires { ⌜ class < 8 ⌝ }
     ensures { λ r. ⌜ r ≡ isOpen (lanesIn (now (s .entry))) class from to ⌝ }
 {
@@ -44,14 +44,14 @@ pub fn judge_moves<'a>(
     s: &[u8],
     f: Floor,
     first: &'a [u16; 256],
-    next: &'a [u16; 1024],
+    next: &'a [u16],
     class: u8,
     start: u8,
     row: &'a [u8],
     stem: usize,
 ) -> MoveAnswer
     requires { ⌜ AcceptedFloor (now s) f ⌝ }
-    requires { ⌜ Chained (lanesIn (now s)) (now first) (now next) 0 ⌝ }
+    requires { ⌜ Chained (lanesIn (now s)) (now first) (now next) 0 × (f .lanes ≤ length (now next)) ⌝ }
     requires { ⌜ class < 8 ⌝ }
     requires { ⌜ stem < length (now row) ⌝ }
     ensures { λ r. ⌜ r ≡ judgedMoves (lanesIn (now (s .entry))) class start (now (row .entry)) (length (now (row .entry))) stem ⌝ }

@@ -13,36 +13,36 @@ use Rattle.moves.proofs.judge_cart_row.Tie as tie
 
 cart-at-requires : tie.Need-cart-at-requires
 cart-at-requires c κs =
-    let p = c .before .before .pre in
+    let p = c .before .before .before .pre in
     let v = p .0 .valid in
     omega (arith, p .1 .1 .0, v .few-places, v .few-lanes, v .few-carts)
 
 add-at : tie.Need-add-at
 add-at c =
-    let p = c .before .before .before .pre in
+    let p = c .before .before .before .before .pre in
     let v = p .0 .valid in
     omega (arith, c .cart-at .ensures, p .1 .1 .0, v .few-places, v .few-lanes, v .few-carts)
 
 shared-slice-read-judge-moves : tie.Need-shared-slice-read-judge-moves
 shared-slice-read-judge-moves c =
-    let p = c .before .before .before .before .pre in
+    let p = c .before .before .before .before .before .pre in
     omega (arith, c .before .cart-at .ensures, file-length _ _ (p .0), p .1 .1 .0)
 
 add-judge-moves : tie.Need-add-judge-moves
 add-judge-moves c =
-    let p = c .before .before .before .before .pre in
+    let p = c .before .before .before .before .before .pre in
     let v = p .0 .valid in
     omega (arith, c .before .cart-at .ensures, p .1 .1 .0, v .few-places, v .few-lanes, v .few-carts)
 
 shared-slice-read-judge-moves-2 : tie.Need-shared-slice-read-judge-moves-2
 shared-slice-read-judge-moves-2 c =
-    let p = c .before .before .before .before .before .pre in
+    let p = c .before .before .before .before .before .before .pre in
     omega (arith, c .before .before .cart-at .ensures, file-length _ _ (p .0), p .1 .1 .0)
 
 judge-moves-requires : tie.Need-judge-moves-requires
 judge-moves-requires c κs =
-    let p = c .before .before .before .before .before .pre in
-    let a = c .before .before .before .before .before .args in (
+    let p = c .before .before .before .before .before .before .pre in
+    let a = c .before .before .before .before .before .before .args in (
       p .0,
       (
         p .1 .0,
@@ -56,8 +56,8 @@ judge-moves-requires c κs =
 
 verdict-of-requires : tie.Need-verdict-of-requires
 verdict-of-requires c κs =
-    let p = c .before .before .before .before .before .before .pre in
-    let a = c .before .before .before .before .before .before .args in (
+    let p = c .before .before .before .before .before .before .before .pre in
+    let a = c .before .before .before .before .before .before .before .args in (
       omega (arith, p .1 .1 .0, p .0 .valid .few-carts),
       λ s e. omega (
         arith,
@@ -69,8 +69,8 @@ verdict-of-requires c κs =
 
 returns : tie.Need-returns
 returns c =
-    let p = c .before .before .before .before .before .before .before .pre in
-    let a = c .before .before .before .before .before .before .before .args in
+    let p = c .before .before .before .before .before .before .before .before .pre in
+    let a = c .before .before .before .before .before .before .before .before .args in
     let at = c .before .before .before .before .cart-at in
     let k = class-at (a .s .now) (a .f) (p .0) (a .c) (p .1 .1 .0) (at .result) (at .ensures) in
     let s = start-at (a .s .now) (a .f) (p .0) (a .c) (p .1 .1 .0) (at .result) (at .ensures) in

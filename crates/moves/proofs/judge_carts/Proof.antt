@@ -17,15 +17,15 @@ abbrev μ-loop : tie.MeasureT-loop
 
 loop-holds : tie.Need-loop-holds Inv-loop μ-loop
 loop-holds c =
-    let a = c .before .before .args in
+    let a = c .before .before .before .args in
     begun (a .s .now) (a .f .carts) (a .h) (a .block .now)
 
 mul-from : tie.Need-mul-from Inv-loop μ-loop
-mul-from c = omega (arith, c .if1 .taken, c .before .before .before .before .before .pre .0 .valid .few-carts)
+mul-from c = omega (arith, c .if1 .taken, c .before .before .before .before .before .before .pre .0 .valid .few-carts)
 
 add-end : tie.Need-add-end Inv-loop μ-loop
 add-end c =
-    omega (arith, c .if1 .taken, c .before .before .before .before .before .pre .0 .valid .few-carts, c .before .before .before .before .before .pre .1 .1 .1)
+    omega (arith, c .if1 .taken, c .before .before .before .before .before .before .pre .0 .valid .few-carts, c .before .before .before .before .before .before .pre .1 .1 .1)
 
 sub-judge-cart-row : tie.Need-sub-judge-cart-row Inv-loop μ-loop
 sub-judge-cart-row c = omega arith
@@ -33,17 +33,17 @@ sub-judge-cart-row c = omega arith
 part-judge-cart-row-start : tie.Need-part-judge-cart-row-start Inv-loop μ-loop
 part-judge-cart-row-start c =
     omega
-    (arith, c .if1 .taken, c .before .before .before .before .before .pre .0 .valid .few-carts, c .before .before .before .before .before .pre .1 .1 .1, c .before .before .before .before .before .pre .1 .1 .2)
+    (arith, c .if1 .taken, c .before .before .before .before .before .before .pre .0 .valid .few-carts, c .before .before .before .before .before .before .pre .1 .1 .1, c .before .before .before .before .before .before .pre .1 .1 .2)
 
 part-judge-cart-row-end : tie.Need-part-judge-cart-row-end Inv-loop μ-loop
 part-judge-cart-row-end c =
     omega
-    (arith, c .if1 .taken, c .before .before .before .before .before .pre .0 .valid .few-carts, c .before .before .before .before .before .pre .1 .1 .1, c .before .before .before .before .before .pre .1 .1 .2)
+    (arith, c .if1 .taken, c .before .before .before .before .before .before .pre .0 .valid .few-carts, c .before .before .before .before .before .before .pre .1 .1 .1, c .before .before .before .before .before .before .pre .1 .1 .2)
 
 judge-cart-row-requires : tie.Need-judge-cart-row-requires Inv-loop μ-loop
 judge-cart-row-requires c κs =
-    let p = c .before .before .before .before .before .before .pre in
-    let a = c .before .before .before .before .before .before .args in
+    let p = c .before .before .before .before .before .before .before .pre in
+    let a = c .before .before .before .before .before .before .before .args in
     let e =
     part-length (a .h .steps) (a .block .now) (c .before .before .before .loop .c) (omega (arith, c .before .if1 .taken, p .0 .valid .few-carts))
     (p .1 .1 .1) (p .1 .1 .2) in
@@ -54,8 +54,8 @@ accepts-requires c κs = search needs
 
 returns : tie.Need-returns Inv-loop μ-loop
 returns c =
-    let p = c .before .before .before .before .before .before .before .before .before .pre in
-    let a = c .before .before .before .before .before .before .before .before .before .args in
+    let p = c .before .before .before .before .before .before .before .before .before .before .pre in
+    let a = c .before .before .before .before .before .before .before .before .before .before .args in
     refused (a .f .carts) (a .h) (a .block .now) (c .before .before .before .before .before .before .loop .c) (p .0 .valid .few-carts)
     (omega (arith, c .before .before .before .before .if1 .taken)) (p .1 .1 .1) (p .1 .1 .2) (a .s .now)
     (c .before .before .before .before .before .before .loop .inv)
@@ -69,8 +69,8 @@ loop-less c = omega (arith, c .before .before .before .before .if1 .taken)
 
 loop-again : tie.Need-loop-again Inv-loop μ-loop
 loop-again c =
-    let p = c .before .before .before .before .before .before .before .before .before .pre in
-    let a = c .before .before .before .before .before .before .before .before .before .args in
+    let p = c .before .before .before .before .before .before .before .before .before .before .pre in
+    let a = c .before .before .before .before .before .before .before .before .before .before .args in
     onward (a .f .carts) (a .h) (a .block .now) (c .before .before .before .before .before .before .loop .c) (p .0 .valid .few-carts)
     (omega (arith, c .before .before .before .before .if1 .taken)) (p .1 .1 .1) (p .1 .1 .2) (a .s .now)
     (c .before .before .before .before .before .before .loop .inv)
@@ -78,7 +78,7 @@ loop-again c =
 
 returns-2 : tie.Need-returns-2 Inv-loop μ-loop
 returns-2 c =
-    let a = c .before .before .before .before .before .args in
+    let a = c .before .before .before .before .before .before .args in
     let w = c .before .before .loop .inv in
     sym
     (w .same ∙ carts-passed (a .s .now) (heldNumbers (a .f .carts) (a .h) (a .block .now)) (a .f .carts) (c .before .before .loop .c)

@@ -7,7 +7,7 @@ use Rattle.row.proofs.moves.is_open.Tie as tie
 
 returns : tie.Need-returns
 returns c =
-    let a = c .before .before .args in
+    let a = c .before .before .before .args in
     sym (parked-open (lanesIn (a .s .now)) (a .class) (a .from) (a .to) (c .if1 .taken))
 
 some-lane-opens-requires : tie.Need-some-lane-opens-requires
@@ -15,7 +15,7 @@ some-lane-opens-requires c κs = search needs
 
 returns-2 : tie.Need-returns-2
 returns-2 c =
-    let a = c .before .before .before .args in
+    let a = c .before .before .before .before .args in
     by-lanes (lanesIn (a .s .now)) (a .class) (a .from) (a .to) (c .before .if1 .left) (c .some-lane-opens .result) (c .some-lane-opens .ensures)
 
 pub is-open-spec : {M : Type 1} → statement M
