@@ -1,11 +1,10 @@
 -- A row judged in two parts, its fit and its moves: together they are what is asked of it.
 use Prim.Native.Nat.{ℕ, _≤_, _<_}
 use native.Mathlib.Omega.{arith}
-use mathlib.Core.Path.{_≡_, refl, sym, ap, ap₂, _∙_}
+use mathlib.Core.Path.{_≡_, refl, sym, ap, _∙_}
 use mathlib.Core.Bool.{Bool, true, false, cond}
 use mathlib.Core.List.{List}
 use lib.Dec.{leb}
-use lib.ListN.{length}
 use borrow.Author.Tests.{leb-false, le-leb, lt-leb}
 use Rattle.refusal.specs.Accepting.{stops, goes-on}
 use Rattle.refusal.specs.Codes.{refused}
@@ -17,10 +16,10 @@ use Rattle.plan.specs.Passed.{RowFits}
 use Rattle.plan.specs.Plan.{PlanNumbers, judgedRow}
 use Rattle.plan.specs.declared.Head.{Head}
 use Rattle.moves.specs.Carts.{cartVerdict, movesVerdict}
-use Rattle.moves.specs.Further.{furtherVerdict, withFurther}
+use Rattle.moves.specs.Further.{withFurther}
 use Rattle.moves.specs.FurtherRow.{some-steps}
 use Rattle.edit.specs.Judgement.{fitVerdict}
-use Rattle.edit.specs.Replaced.{placesVerdict, cartRowVerdict, replaceVerdict}
+use Rattle.edit.specs.Replaced.{placesVerdict, replaceVerdict}
 use Rattle.edit.specs.ReplacedReads.{fits-if}
 
 -- the row fits: the cart is there, and 4 and 9 are not given
@@ -59,7 +58,8 @@ module _ (floor : List ℕ) (f : Floor) (p : PlanNumbers) (c : ℕ) (row : List 
   there false e = (refl, e)
 
   -- a row that does not fit: its moves are not judged
-  pub unfit : isAccepted (fitVerdict f (p .head) c row) ≡ false → replaceVerdict floor f p c row ≡ andThen (movesVerdict floor f p) (fitVerdict f (p .head) c row)
+  pub unfit : isAccepted (fitVerdict f (p .head) c row) ≡ false
+      → replaceVerdict floor f p c row ≡ andThen (movesVerdict floor f p) (fitVerdict f (p .head) c row)
   unfit e = ap (andThen (movesVerdict floor f p)) (alone (leb (f .carts) c) e)
 
   module _ (e : isAccepted (fitVerdict f (p .head) c row) ≡ true) where

@@ -1,14 +1,12 @@
 -- A further row, by whether it has steps.
-use Prim.Native.Nat.{ℕ, _<_}
-use native.Mathlib.Omega.{arith}
+use Prim.Native.Nat.{ℕ}
 use mathlib.Core.Path.{_≡_, refl, sym, ap, _∙_}
 use mathlib.Core.Bool.{Bool, true, false, cond}
 use mathlib.Core.List.{List}
 use lib.ListN.{length}
 use borrow.Author.Tests.{eq-eqb, ne-eqb}
-use Rattle.refusal.specs.Accepting.{accepted-is}
-use Rattle.refusal.specs.Stages.{isAccepted}
-use Rattle.refusal.specs.declared.Verdict.{Verdict}
+use Rattle.refusal.specs.Accepting.{accepted-is, stops, goes-on}
+use Rattle.refusal.specs.Stages.{isAccepted, andThen}
 use Rattle.refusal.specs.declared.Verdict.the-variants.{Accepted}
 use Rattle.floor.specs.declared.Floor.{Floor}
 use Rattle.plan.specs.Plan.{PlanNumbers}
@@ -24,8 +22,8 @@ module _ (floor : List ℕ) (c : ℕ) (row : List ℕ) where
 
   -- without one, the plan's rows alone are judged
   pub none-further : (f : Floor) (p : PlanNumbers) → length row ≡ 0 → withFurther floor f p c row ≡ movesVerdict floor f p
-  none-further f p e = ap (λ (v : Verdict). cond (isAccepted (movesVerdict floor f p)) v (movesVerdict floor f p)) (no-steps (p .head .stem) e) ∙ go _ refl
+  none-further f p e = ap (andThen (movesVerdict floor f p)) (no-steps (p .head .stem) e) ∙ go (isAccepted (movesVerdict floor f p)) refl
     where
-      go : (b : Bool) → isAccepted (movesVerdict floor f p) ≡ b → cond (isAccepted (movesVerdict floor f p)) Accepted (movesVerdict floor f p) ≡ movesVerdict floor f p
-      go true q = ap (λ (b : Bool). cond b Accepted (movesVerdict floor f p)) q ∙ sym (accepted-is (movesVerdict floor f p) q)
-      go false q = ap (λ (b : Bool). cond b Accepted (movesVerdict floor f p)) q
+      go : (b : Bool) → isAccepted (movesVerdict floor f p) ≡ b → andThen (movesVerdict floor f p) Accepted ≡ movesVerdict floor f p
+      go true q = goes-on (movesVerdict floor f p) Accepted q ∙ sym (accepted-is (movesVerdict floor f p) q)
+      go false q = stops (movesVerdict floor f p) Accepted q

@@ -5,7 +5,8 @@ use refusal::Verdict;
 use row::MoveAnswer;
 ghost use mathlib.Core.Path.{_≡_};
 ghost use Prim.Native.Nat.{ℕ, _≤_, _<_};
-ghost use lib.ListN.{length};
+ghost use mathlib.Core.List.{List};
+ghost use lib.ListN.{length, drop};
 ghost use Rattle.floor.specs.Promises.{AcceptedFloor};
 ghost use Rattle.plan.specs.Plan.{heldNumbers};
 ghost use Rattle.row.specs.Moves.{lanesIn};
@@ -96,7 +97,7 @@ fn judge_further<'a>(
     judge_cart_row(s, f, first, next, c, row, stem)
 }
 
-// Judges the rows of an accepted plan and then a further one, with the lanes linked in a table that is lent.
+// Judges the rows of an accepted plan and then a further one, with the lanes linked in a table that is lent. What lies behind their links stays.
 fn judge_linked<'a>(
     s: &[u8],
     f: Floor,
@@ -111,6 +112,8 @@ fn judge_linked<'a>(
     requires { ⌜ FurtherFits (f .carts) c (now row) (h .stem) ⌝ }
     requires { ⌜ f .lanes ≤ length (now next) ⌝ }
     ensures { λ r. ⌜ r ≡ withFurther (now (s .entry)) f (heldNumbers (f .carts) h (now (block .entry))) c (now (row .entry)) ⌝ }
+    ensures { λ _. ⌜ ((first : List ℕ) × Chained (lanesIn (now (s .entry))) first (now (next .exit)) 0) ⌝ }
+    ensures { λ _. ⌜ drop (f .lanes) (now (next .exit)) ≡ drop (f .lanes) (now (next .entry)) ⌝ }
 {
     let mut first = [0u16; 256];
     row::link(s, f, &mut first, next);

@@ -25,20 +25,21 @@ mul-from c = omega (arith, c .if1 .taken, c .before .before .before .before .bef
 
 add-end : tie.Need-add-end Inv-loop μ-loop
 add-end c =
-    omega (arith, c .if1 .taken, c .before .before .before .before .before .before .pre .0 .valid .few-carts, c .before .before .before .before .before .before .pre .1 .1 .1)
+    let p = c .before .before .before .before .before .before .pre in
+    omega (arith, c .if1 .taken, p .0 .valid .few-carts, p .1 .1 .1)
 
 sub-judge-cart-row : tie.Need-sub-judge-cart-row Inv-loop μ-loop
 sub-judge-cart-row c = omega arith
 
 part-judge-cart-row-start : tie.Need-part-judge-cart-row-start Inv-loop μ-loop
 part-judge-cart-row-start c =
-    omega
-    (arith, c .if1 .taken, c .before .before .before .before .before .before .pre .0 .valid .few-carts, c .before .before .before .before .before .before .pre .1 .1 .1, c .before .before .before .before .before .before .pre .1 .1 .2)
+    let p = c .before .before .before .before .before .before .pre in
+    omega (arith, c .if1 .taken, p .0 .valid .few-carts, p .1 .1 .1, p .1 .1 .2)
 
 part-judge-cart-row-end : tie.Need-part-judge-cart-row-end Inv-loop μ-loop
 part-judge-cart-row-end c =
-    omega
-    (arith, c .if1 .taken, c .before .before .before .before .before .before .pre .0 .valid .few-carts, c .before .before .before .before .before .before .pre .1 .1 .1, c .before .before .before .before .before .before .pre .1 .1 .2)
+    let p = c .before .before .before .before .before .before .pre in
+    omega (arith, c .if1 .taken, p .0 .valid .few-carts, p .1 .1 .1, p .1 .1 .2)
 
 judge-cart-row-requires : tie.Need-judge-cart-row-requires Inv-loop μ-loop
 judge-cart-row-requires c κs =
@@ -59,7 +60,8 @@ returns c =
     refused (a .f .carts) (a .h) (a .block .now) (c .before .before .before .before .before .before .loop .c) (p .0 .valid .few-carts)
     (omega (arith, c .before .before .before .before .if1 .taken)) (p .1 .1 .1) (p .1 .1 .2) (a .s .now)
     (c .before .before .before .before .before .before .loop .inv)
-    (c .before .before .judge-cart-row .result) (c .before .before .judge-cart-row .ensures) (c .before .accepts .result) (c .before .accepts .ensures) (c .if2 .taken)
+    (c .before .before .judge-cart-row .result) (c .before .before .judge-cart-row .ensures)
+    (c .before .accepts .result) (c .before .accepts .ensures) (c .if2 .taken)
 
 add-c : tie.Need-add-c Inv-loop μ-loop
 add-c c = omega (arith, c .before .before .before .before .if1 .taken)
@@ -74,7 +76,8 @@ loop-again c =
     onward (a .f .carts) (a .h) (a .block .now) (c .before .before .before .before .before .before .loop .c) (p .0 .valid .few-carts)
     (omega (arith, c .before .before .before .before .if1 .taken)) (p .1 .1 .1) (p .1 .1 .2) (a .s .now)
     (c .before .before .before .before .before .before .loop .inv)
-    (c .before .before .judge-cart-row .result) (c .before .before .judge-cart-row .ensures) (c .before .accepts .result) (c .before .accepts .ensures) (c .if2 .left)
+    (c .before .before .judge-cart-row .result) (c .before .before .judge-cart-row .ensures)
+    (c .before .accepts .result) (c .before .accepts .ensures) (c .if2 .left)
 
 returns-2 : tie.Need-returns-2 Inv-loop μ-loop
 returns-2 c =

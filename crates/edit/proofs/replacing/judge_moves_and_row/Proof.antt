@@ -5,6 +5,7 @@ use borrow.Author.Needs.{needs}
 use Rattle.refusal.specs.Accepting.{stops, goes-on}
 use Rattle.refusal.specs.Faults.{not-is}
 use Rattle.refusal.specs.Stages.{isAccepted}
+use Rattle.refusal.specs.declared.Verdict.{Verdict}
 use Rattle.plan.specs.Plan.{PlanNumbers, heldNumbers}
 use Rattle.moves.specs.Carts.{movesVerdict}
 use Rattle.edit.specs.Judgement.{fitVerdict}
@@ -12,15 +13,18 @@ use Rattle.edit.proofs.RowFitting.{unfit, fitting, follows}
 use Rattle.edit.proofs.replacing.judge_moves_and_row.Statement.{statement}
 use Rattle.edit.proofs.replacing.judge_moves_and_row.Tie as tie
 
--- the plan's numbers
+-- the plan's numbers, and the row's fit
 abbrev numbers : tie.After-judge-fit → PlanNumbers
 numbers c = let a = c .before .before .before .before .args in heldNumbers (a .f .carts) (a .h) (a .block .now)
 
+abbrev fit : tie.After-judge-fit → Verdict
+fit c = let a = c .before .before .before .before .args in fitVerdict (a .f) (a .h) (a .cart) (a .row .now)
+
 -- whether the row fits, by the test of its verdict
-fits : (c : tie.Then1) → isAccepted (fitVerdict (c .before .before .before .before .before .before .args .f) (c .before .before .before .before .before .before .args .h) (c .before .before .before .before .before .before .args .cart) (c .before .before .before .before .before .before .args .row .now)) ≡ true
+fits : (c : tie.Then1) → isAccepted (fit (c .before .before)) ≡ true
 fits c = ap isAccepted (sym (c .before .before .judge-fit .ensures)) ∙ sym (c .before .accepts .ensures) ∙ c .if1 .taken
 
-refused : (c : tie.Else1) → isAccepted (fitVerdict (c .before .before .before .before .before .before .args .f) (c .before .before .before .before .before .before .args .h) (c .before .before .before .before .before .before .args .cart) (c .before .before .before .before .before .before .args .row .now)) ≡ false
+refused : (c : tie.Else1) → isAccepted (fit (c .before .before)) ≡ false
 refused c = ap isAccepted (sym (c .before .before .judge-fit .ensures)) ∙ sym (c .before .accepts .ensures) ∙ c .if1 .left
 
 judge-fit-requires : tie.Need-judge-fit-requires
@@ -35,13 +39,15 @@ judge-plan-and-row-requires c κs =
     let a = c .before .before .before .before .before .before .args in
     let w = fitting (a .s .now) (a .f) (numbers (c .before .before)) (a .cart) (a .row .now) (fits c) in
     let size = w .row-fits .size in
-    (p .0, ((p .1 .0 .stem, p .1 .0 .steps, p .1 .1), λ some. (w .cart, omega (arith, size, p .1 .0 .stem), omega (arith, size, p .1 .0 .steps))))
+    let h = p .1 .0 in
+    (p .0, ((h .stem, h .steps, p .1 .1), λ some. (omega (arith, w .cart), omega (arith, size, h .stem), omega (arith, size, h .steps))))
 
 returns : tie.Need-returns
 returns c =
     let a = c .before .before .before .before .before .before .before .args in
     c .judge-plan-and-row .ensures
-    ∙ follows (a .s .now) (a .f) (numbers (c .before .before .before)) (a .cart) (a .row .now) (fits (c .before)) (c .before .before .before .before .before .before .before .pre .1 .0 .stem)
+    ∙ follows (a .s .now) (a .f) (numbers (c .before .before .before)) (a .cart) (a .row .now) (fits (c .before))
+    (c .before .before .before .before .before .before .before .pre .1 .0 .stem)
 
 judge-plan-requires : tie.Need-judge-plan-requires
 judge-plan-requires c κs = search needs
@@ -66,7 +72,7 @@ returns-3 c =
     c .before .before .before .before .before .judge-fit .ensures
     ∙ sym
     (unfit (a .s .now) (a .f) (numbers (c .before .before .before .before .before)) (a .cart) (a .row .now) (refused (c .before .before .before))
-    ∙ goes-on (movesVerdict (a .s .now) (a .f) (numbers (c .before .before .before .before .before))) (fitVerdict (a .f) (a .h) (a .cart) (a .row .now))
+    ∙ goes-on (movesVerdict (a .s .now) (a .f) (numbers (c .before .before .before .before .before))) (fit (c .before .before .before .before .before))
     (ap isAccepted (sym (v .ensures)) ∙ sym (c .before .accepts2 .ensures) ∙ not-is _ false (c .if2 .left)))
 
 pub judge-moves-and-row-spec : {M : Type 1} → statement M

@@ -114,16 +114,16 @@ loop-less : tie.Need-loop-less Inv-loop μ-loop
 loop-less c =
     let a = c .before .before .before .before .before .before .before .before .before .before .before .before .before .before .args in
     let l = c .before .before .before .before .before .before .before .before .loop in
-    falls (a .s .now) (a .next .now) (a .f) (c .before .before .before .before .before .before .before .before .before .before .before .before .before .before .pre .0)
-    (a .class) (a .from) (a .to)
+    falls (a .s .now) (a .next .now) (a .f)
+    (c .before .before .before .before .before .before .before .before .before .before .before .before .before .before .pre .0) (a .class) (a .from) (a .to)
     (l .k) (l .inv) (c .before .before .before .before .before .before .before .loop-test .taken) (c .wide162 .result) (c .wide162 .ensures)
 
 loop-again : tie.Need-loop-again Inv-loop μ-loop
 loop-again c =
     let a = c .before .before .before .before .before .before .before .before .before .before .before .before .before .before .args in
     let l = c .before .before .before .before .before .before .before .before .loop in
-    again (a .s .now) (a .next .now) (a .f) (c .before .before .before .before .before .before .before .before .before .before .before .before .before .before .pre .0)
-    (a .class) (a .from) (a .to)
+    again (a .s .now) (a .next .now) (a .f)
+    (c .before .before .before .before .before .before .before .before .before .before .before .before .before .before .pre .0) (a .class) (a .from) (a .to)
     (l .k) (l .inv) (c .before .before .before .before .before .before .before .loop-test .taken)
     (c .before .before .before .before .before .before .lane-at .result) (c .before .before .before .before .before .before .lane-at .ensures)
     (c .before .before .before .opens-to .result) (c .before .before .before .opens-to .ensures)
