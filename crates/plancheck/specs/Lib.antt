@@ -16,5 +16,6 @@ pub mod ShownClause
 pub mod Lines
 pub mod LineHeld
 pub mod Turns
+pub mod Standing
 pub mod Marked
 pub mod NodesHeld

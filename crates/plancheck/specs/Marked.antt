@@ -1,4 +1,4 @@
--- The table of a plan's marks tells what its rows bear.
+-- The tables of a plan's marks show what its rows bear.
 use Prim.Native.Nat.{ℕ, _*_, _<_}
 use native.Mathlib.Omega.{arith}
 use mathlib.Core.Path.{_≡_, sym, ap, _∙_}
@@ -15,9 +15,10 @@ use Rattle.plan.specs.declared.Head.{Head}
 use Rattle.row.specs.Moves.{bit}
 use Rattle.row.specs.FloorBytes.{file-length}
 use Rattle.mask.specs.Mask.{on}
-use Rattle.marks.specs.Table.{tableRows}
-use Rattle.marks.specs.Bears.{marksOf, blockPlace, bearing, Placed, Filled}
-use Rattle.marks.specs.Told.{bears-same}
+use Rattle.table.specs.Layout.{Shown}
+use Rattle.marks.specs.Bears.{marksOf, blockPlace, bearing, Placed, Borne, NoneFrom}
+use Rattle.marks.specs.Tables.{Filled}
+use Rattle.marks.specs.Unborne.{none-from}
 use Rattle.plancheck.specs.Check.{marksAt, planRows}
 
 module _ (floor : List ℕ) (f : Floor) (w : AcceptedFloor floor f) (h : Head) (block : List ℕ)
@@ -42,7 +43,12 @@ module _ (floor : List ℕ) (f : Floor) (w : AcceptedFloor floor f) (h : Head) (
       let l = places i s p q in
       ap (bit k) (ap (λ (j : ℕ). value (bodyAt 4 (placeAt j) floor)) (sym e) ∙ w .place (placeOnStep (heldNumbers (f .carts) h block) i s) l)
 
-  -- what a filled table tells is what the plan says
-  pub told : (before after : List ℕ) → Filled floor block (f .carts) (h .steps) before after → (i s k : ℕ) → i < f .carts → s < h .steps → k < 32
-      → tableRows after (f .carts) (h .steps) (h .stem) .bears i s k ≡ planRows floor f (heldNumbers (f .carts) h block) .bears i s k
-  told before after t i s k p q r = bears-same floor block (f .carts) (h .steps) before after t (h .stem) i s k p q r ∙ bears-is i s k p q
+  -- the places are the floor's, so that a mark without a table is borne by none of them
+  pub unborne : (marks : ℕ) → Borne floor (f .places) marks → NoneFrom floor block (f .carts) (h .steps) marks
+  unborne marks b =
+      none-from floor block (f .carts) (h .steps) (f .places) marks (λ i s p q. let e = place-is i s p q in let l = places i s p q in omega arith) b
+
+  -- what filled tables show is what the plan says
+  pub shown : (marks : ℕ) (before after : List ℕ) → Filled floor block (f .carts) (h .steps) marks before after
+      → Shown marks (f .carts) (h .steps) (planRows floor f (heldNumbers (f .carts) h block) .bears) after
+  shown marks before after t i s k p q r = t .shown i s k p q r ∙ bears-is i s k p q

@@ -20,7 +20,6 @@ use Rattle.token.specs.declared.PartRead.{PartRead}
 use Rattle.cltl.specs.Meaning.{Rows}
 use Rattle.cltl.specs.Rules.{rules, hasNext}
 use Rattle.cltl.specs.Step.{failing}
-use Rattle.cltl.specs.Agree.{rules-agree, failing-agrees}
 use Rattle.mask.specs.Mask.{on, Row}
 use Rattle.plancheck.specs.Check.{clauseVerdict, clausesOf, nextVerdict, keptVerdict, clausesVerdict}
 use Rattle.plancheck.specs.Lines.{Good, Left, Line, all-left, none-left}
@@ -117,18 +116,3 @@ module _ (P : Rows) (d : ℕ) where
       same =
           ap (λ (f : Verdict). seen f (n + 1) (l .rest)) q ∙ sym (goes-on-to found n (l .clause) (l .rest) e) ∙ ap (seen found n) (sym (l .first)) ∙ g .same;
     }
-
--- rows that bear the same marks keep the same clauses
-module _ (carts h l : ℕ) (ok : l < h) (b b′ : ℕ → ℕ → ℕ → Bool) (same : (i s k : ℕ) → i < carts → s < h → k < 32 → b i s k ≡ b′ i s k) where
-  abbrev by : (ℕ → ℕ → ℕ → Bool) → Rows
-  by b = record { carts = carts; h = h; l = l; bears = b }
-
-  kept-agrees : (d n : ℕ) (cs : List Clause) → All Good cs → keptVerdict (by b) d n cs ≡ keptVerdict (by b′) d n cs
-  unfolding keptVerdict
-  kept-agrees d n [] g = refl
-  kept-agrees d n (c ∷ cs) g =
-      rw
-      (rules-agree carts h l ok b b′ same d c (g .0 .1) 0 (omega arith), kept-agrees d (suc n) cs (g .1), failing-agrees carts h l ok b b′ same d c (g .0 .1))
-
-  pub clauses-agree : (d : ℕ) (cs : List Clause) → All Good cs → clausesVerdict (by b) d cs ≡ clausesVerdict (by b′) d cs
-  clauses-agree d cs g = ap (andThen (cond (eqb d 0) Accepted (nextVerdict 0 cs))) (kept-agrees d 0 cs g)

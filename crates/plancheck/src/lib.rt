@@ -1,51 +1,74 @@
 // Checking a plan.
 mod clauses;
 
+use clauses::Reached;
+use clauses::fits;
 use clauses::judge_lines;
-use drift::Ground;
 use floor::Floor;
 use plan::Head;
 use refusal::Verdict;
 ghost use mathlib.Core.Path.{_≡_};
+ghost use mathlib.Core.Bool.{false};
 ghost use Prim.Native.Nat.{ℕ, _*_, _<_, _≤_};
 ghost use lib.ListN.{length};
 ghost use Rattle.refusal.specs.declared.Verdict.the-variants.{Accepted};
 ghost use Rattle.floor.specs.Promises.{AcceptedFloor};
 ghost use Rattle.plan.specs.Plan.{placeOnStep, heldNumbers};
 ghost use Rattle.plan.specs.Valid.{HeadInRange};
+ghost use Rattle.marks.specs.Bears.{Borne};
 ghost use Rattle.grammar.specs.Reader.{readSheet};
 ghost use Rattle.sheet.specs.Rules.{rulesVerdict};
 ghost use Rattle.plancheck.specs.Check.{planRows, clausesOf, clausesVerdict};
+ghost use Rattle.plancheck.specs.Standing.{Standing};
 ghost use Rattle.plancheck.specs.Promises.{PlanChecked};
 
-// Judges the clauses of an accepted sheet on an accepted plan, with room for its marks' rows.
-fn judge_with(
-    floor: &[u8],
-    f: Floor,
-    h: Head,
-    block: &[u8],
-    rules: &[u8],
-    table: &mut [u64],
-) -> Verdict
+// Before the first clause.
+fn begun() -> Reached
+    ensures { λ r. ⌜ (r .done ≡ false) × (r .found ≡ Accepted) × (r .at ≡ 0) × (r .n ≡ 0) ⌝ }
+{
+    Reached {
+        done: false,
+        found: Verdict::Accepted,
+        at: 0,
+        n: 0,
+    }
+}
+
+// The nodes that a clause of a sheet this long may well have; more are seldom, and then there is room for all.
+fn few_nodes(length: usize) -> usize
+    requires { ⌜ length ≤ 16384 ⌝ }
+    ensures { λ r. ⌜ r ≤ 128 ⌝ }
+{
+    let n = length / 16 + 8;
+    if n < 128 { n } else { 128 }
+}
+
+// Judges the clauses of an accepted sheet, as far as a small block has room: a large one costs more to clear than a small floor to check.
+fn judge_small(floor: &[u8], f: Floor, h: Head, block: &[u8], rules: &[u8], marks: usize) -> Reached
     requires { ⌜ AcceptedFloor (now floor) f ⌝ }
     requires { ⌜ HeadInRange h × (length (now block) ≡ 2048) ⌝ }
     requires { ⌜ ((c s : ℕ) → c < f .carts → s < h .steps → placeOnStep (heldNumbers (f .carts) h (now block)) c s < f .places) ⌝ }
     requires { ⌜ rulesVerdict (now rules) ≡ Accepted ⌝ }
-    requires { ⌜ f .carts * 32 ≤ length (now table) ⌝ }
-    ensures { λ v. ⌜ v ≡ clausesVerdict (planRows (now (floor .entry)) f (heldNumbers (f .carts) h (now (block .entry)))) (h .drift)
-        (clausesOf (readSheet (now (rules .entry)))) ⌝ }
+    requires { ⌜ Borne (now floor) (f .places) marks ⌝ }
+    ensures { λ r. ⌜ Standing (planRows (now (floor .entry)) f (heldNumbers (f .carts) h (now (block .entry)))) (h .drift) (now (rules .entry)) r ⌝ }
 {
-    marks::fill(floor, block, f.carts, h.steps, table);
-    let g = Ground {
-        carts: f.carts,
-        h: h.steps,
-        l: h.stem,
-        d: h.drift,
-    };
-    judge_lines(rules, table, g)
+    let nodes = few_nodes(rules.len());
+    if fits(marks, h.steps, nodes, 500) {
+        let mut t = [0u32; 500];
+        return judge_lines(floor, f, h, block, rules, marks, &mut t, begun());
+    }
+    if fits(marks, h.steps, nodes, 1000) {
+        let mut t = [0u32; 1000];
+        return judge_lines(floor, f, h, block, rules, marks, &mut t, begun());
+    }
+    if fits(marks, h.steps, nodes, 4000) {
+        let mut t = [0u32; 4000];
+        return judge_lines(floor, f, h, block, rules, marks, &mut t, begun());
+    }
+    begun()
 }
 
-// The same, with no more room than a small floor needs, since a table is cleared before it is filled.
+// Judges the clauses of an accepted sheet on an accepted plan.
 fn judge_clauses(floor: &[u8], f: Floor, h: Head, block: &[u8], rules: &[u8]) -> Verdict
     requires { ⌜ AcceptedFloor (now floor) f ⌝ }
     requires { ⌜ HeadInRange h × (length (now block) ≡ 2048) ⌝ }
@@ -54,16 +77,14 @@ fn judge_clauses(floor: &[u8], f: Floor, h: Head, block: &[u8], rules: &[u8]) ->
     ensures { λ v. ⌜ v ≡ clausesVerdict (planRows (now (floor .entry)) f (heldNumbers (f .carts) h (now (block .entry)))) (h .drift)
         (clausesOf (readSheet (now (rules .entry)))) ⌝ }
 {
-    if f.carts <= 4 {
-        let mut table = [0u64; 128];
-        return judge_with(floor, f, h, block, rules, &mut table);
+    let marks = marks::borne(floor, f.places);
+    let part = judge_small(floor, f, h, block, rules, marks);
+    if part.done {
+        return part.found;
     }
-    if f.carts <= 16 {
-        let mut table = [0u64; 512];
-        return judge_with(floor, f, h, block, rules, &mut table);
-    }
-    let mut table = [0u64; 1024];
-    judge_with(floor, f, h, block, rules, &mut table)
+    let mut t = [0u32; 10368];
+    let all = judge_lines(floor, f, h, block, rules, marks, &mut t, part);
+    all.found
 }
 
 // Checks a plan: floor, plan, moves, narrow places, sheet, and then its clauses.

@@ -1,6 +1,6 @@
 -- Whether a word has bits enough, as a digit.
 use Prim.Native.Nat.{ℕ, _^_, _≤_, _<_, min}
-use mathlib.Core.Path.{_≡_, sym, ap, subst, _∙_}
+use mathlib.Core.Path.{_≡_, sym, ap, _∙_}
 use mathlib.Core.Bool.{Bool, true, false, cond}
 use native.Mathlib.Omega.{arith}
 use lib.Bits.{bitAnd, and-lt}

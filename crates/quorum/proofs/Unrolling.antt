@@ -12,7 +12,7 @@ use Rattle.row.specs.Round.{pick, step-low, step-lap}
 use Rattle.mask.specs.Mask.{on, Row, signed}
 use Rattle.mask.specs.EachBit.{on-and, on-xor, on-zero, on-ones}
 use Rattle.table.specs.Table.{Word, Stored}
-use Rattle.quorum.specs.Words.{StepOf}
+use Rattle.quorum.specs.Words.{CounterAt}
 use Rattle.quorum.specs.OwnNumber.{own}
 
 pub text : (p : Bool) (r : ℕ) → p ≡ true → r ≡ 0 → Word (λ i. not p) r
@@ -41,10 +41,10 @@ carts-at carts a flip full p few e turn = record {
 }
 
 -- a lap earlier stands the same step
-pub lap-earlier : (h l s k : ℕ) (before after : List ℕ) → l < h → h ≤ s → k + (h - l) ≡ s → Stored (StepOf h l before) 0 h s before after
+pub lap-earlier : (h l s k : ℕ) (before after : List ℕ) → l < h → h ≤ s → k + (h - l) ≡ s → Stored (CounterAt h l before) 0 h s before after
     → getD after k 0 ≡ getD before (stepOf h l s) 0
 lap-earlier h l s k before after some past e r =
     let step : stepOf h l k ≡ stepOf h l s = sym (step-lap h l some k (omega arith)) ∙ ap (stepOf h l) e in
     pick k h (getD after k 0 ≡ getD before (stepOf h l s) 0)
     (λ q. r .below k (omega arith) ∙ ap (λ (j : ℕ). getD before j 0) (sym (step-low h l k q) ∙ step))
-    (λ q. own (StepOf h l before) h s before after r k q (omega arith) ∙ ap (λ (j : ℕ). getD before j 0) step)
+    (λ q. own (CounterAt h l before) h s before after r k q (omega arith) ∙ ap (λ (j : ℕ). getD before j 0) step)

@@ -1,7 +1,7 @@
 -- A number with no bit from k on is below 2 ^ k.
-use Prim.Native.Nat.{ℕ, zero, _+_, _*_, _/_, _%_, _^_, _≤_, _<_}
-use mathlib.Core.Path.{_≡_, refl, sym, ap, _∙_}
-use mathlib.Core.Bool.{Bool, false, false≢true, true≢false}
+use Prim.Native.Nat.{ℕ, _+_, _*_, _/_, _%_, _^_, _≤_, _<_}
+use mathlib.Core.Path.{_≡_, refl, ap, _∙_}
+use mathlib.Core.Bool.{Bool, false, cond}
 use native.Mathlib.Omega.{arith}
 use native.Mathlib.Nat.{mod-lt}
 use lib.Arith.{bin-ind}
@@ -10,16 +10,19 @@ use lib.Pow.{split, pow-pos}
 use Rattle.mask.specs.Mask.{on}
 use Rattle.mask.specs.EachBit.{binary, on-shr}
 
-even : (n : ℕ) → on n 0 ≡ false → n % 2 ≡ 0
+pub lowest : (x : ℕ) → x % 2 ≡ cond (on x 0) 1 0
 unfolding on
-even n e =
-    let z : n % 2 ≡ n / 2 ^ 0 % 2 = omega arith in
-    binary (λ t. eqb t 1 ≡ false → t ≡ 0) (λ _. refl) (λ f. absurd (true≢false f)) n (ap (λ (t : ℕ). eqb t 1) z ∙ e)
+lowest x =
+    let e : x % 2 ≡ x / 2 ^ 0 % 2 = omega arith in
+    binary (λ t. t ≡ cond (eqb t 1) 1 0) refl refl x ∙ ap (λ (t : ℕ). cond (eqb t 1) 1 0) e
 
 no-bits : (n : ℕ) → ((i : ℕ) → on n i ≡ false) → n ≡ 0
 no-bits =
     bin-ind (λ (n : ℕ). ((i : ℕ) → on n i ≡ false) → n ≡ 0) (λ _. refl)
-    (λ n ih none. let half = ih (λ i. on-shr n 1 i ∙ none (1 + i)) in omega (arith, even n (none 0)))
+    (λ n ih none.
+    let half = ih (λ i. on-shr n 1 i ∙ none (1 + i)) in
+    let even : n % 2 ≡ 0 = lowest n ∙ ap (λ (b : Bool). cond b 1 0) (none 0) in
+    omega arith)
 
 pub below : (x k : ℕ) → ((i : ℕ) → k ≤ i → on x i ≡ false) → x < 2 ^ k
 below x k none =

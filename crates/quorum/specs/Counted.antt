@@ -1,24 +1,24 @@
 -- Words unrolled, narrowed and counted are the rule for a count.
-use Prim.Native.Nat.{ℕ, suc, _+_, _*_, _-_, _^_, _≤_, _<_}
-use mathlib.Core.Path.{_≡_, refl, sym, ap, ap₂, subst, _∙_}
-use mathlib.Core.Bool.{Bool, true, false, _&&_, _||_}
+use Prim.Native.Nat.{ℕ, suc, _+_, _-_, _^_, _≤_, _<_}
+use mathlib.Core.Path.{_≡_, refl, sym, ap, ap₂, _∙_}
+use mathlib.Core.Bool.{Bool, false, _&&_, _||_}
 use mathlib.Core.List.{List}
 use native.Mathlib.Omega.{arith}
 use native.Mathlib.Numerals.{add-one}
-use lib.Bits.{bitAnd, bitOr, or-lt, and-lt, and-self}
+use lib.Bits.{bitAnd, bitOr, or-lt, and-self}
 use lib.Count.{ones}
 use lib.Dec.{leb, eqb}
 use lib.ListN.{getD}
 use borrow.Author.Tests.{eq-eqb, ne-eqb}
 use Rattle.row.specs.Lasso.{stepOf}
 use Rattle.row.specs.Round.{pick, step-low, step-below}
-use Rattle.cltl.specs.Rules.{tally, every, window, quorum}
+use Rattle.cltl.specs.Rules.{every, window, quorum}
 use Rattle.cltl.specs.Tally.{every-agrees}
 use Rattle.mask.specs.Mask.{on, Row}
 use Rattle.mask.specs.EachBit.{on-or, on-beyond}
 use Rattle.mask.specs.Combined.{all-false}
 use Rattle.table.specs.Table.{Stored}
-use Rattle.quorum.specs.Words.{CartsAt, StepOf, shared, Window, Narrowed}
+use Rattle.quorum.specs.Words.{CartsAt, CounterAt, shared, Window, Narrowed}
 use Rattle.quorum.specs.OwnNumber.{own}
 use Rattle.quorum.specs.Below.{below}
 use Rattle.quorum.specs.Widened.{widened}
@@ -45,12 +45,12 @@ module _ (h m carts : ℕ) (w : List ℕ) where
         at = λ s p. ap (λ (x : ℕ). on x s) z ∙ none .at s p ∙ ap (λ (b : Bool). b && every (on (getD w s 0)) carts) (sym (ne-eqb m 1 e));
       }
 
-module _ (h l d off : ℕ) (some : l < h) (w₀ w₁ w₂ : List ℕ) (again : Stored (StepOf h l w₀) 0 h (h + d) w₀ w₁) (narrow : Narrowed h d off w₁ w₂) where
+module _ (h l d off : ℕ) (some : l < h) (w₀ w₁ w₂ : List ℕ) (again : Stored (CounterAt h l w₀) 0 h (h + d) w₀ w₁) (narrow : Narrowed h d off w₁ w₂) where
   -- the word of a counter, be it a step or the lap again
   counter : (v : ℕ) → v < h + d → getD w₁ v 0 ≡ getD w₀ (stepOf h l v) 0
   counter v p =
       pick v h (getD w₁ v 0 ≡ getD w₀ (stepOf h l v) 0) (λ q. again .below v (omega arith) ∙ ap (λ (j : ℕ). getD w₀ j 0) (sym (step-low h l v q)))
-      (λ q. own (StepOf h l w₀) h (h + d) w₀ w₁ again v q p)
+      (λ q. own (CounterAt h l w₀) h (h + d) w₀ w₁ again v q p)
 
   -- the two parts of a window together
   whole : (s : ℕ) → s < h → Window w₁ (d + 1) s (shared w₂ off s)

@@ -1,5 +1,7 @@
 -- definitions
 pub mod Words
+-- worked cases
+pub mod Examples
 -- laws
 pub mod OwnNumber
 pub mod Below

@@ -1,17 +1,18 @@
 -- The bits of a word are as many as the carts that have one.
-use Prim.Native.Nat.{ℕ, zero, suc, _+_, _/_, _%_, _^_, _≤_, _<_, min}
+use Prim.Native.Nat.{ℕ, zero, suc, _+_, _/_, _^_, _≤_, _<_, min}
 use mathlib.Core.Path.{_≡_, refl, sym, ap, ap₂, _∙_}
 use mathlib.Core.Bool.{Bool, true, false, cond, _&&_}
 use native.Mathlib.Omega.{arith}
 use native.Mathlib.Nat.{le-refl, pow-suc}
 use lib.Arith.{lt-one}
 use lib.Count.{ones, ones-step}
-use lib.Dec.{T, leb, eqb, leb→le, le→leb}
+use lib.Dec.{T, leb, leb→le, le→leb}
 use Rattle.cltl.specs.Rules.{tally, every}
-use Rattle.cltl.specs.Basics.{and-i, bool-ext}
+use Rattle.cltl.specs.Basics.{bool-ext}
 use Rattle.cltl.specs.Tally.{tally-le, tally-all, every-at}
 use Rattle.mask.specs.Mask.{on, Row}
-use Rattle.mask.specs.EachBit.{binary, on-shr}
+use Rattle.mask.specs.EachBit.{on-shr}
+use Rattle.quorum.specs.Below.{lowest}
 
 pub tally-agrees : (f g : ℕ → Bool) (n : ℕ) → ((i : ℕ) → i < n → f i ≡ g i) → tally f n ≡ tally g n
 unfolding tally
@@ -31,12 +32,6 @@ tally-first f (suc n) = ap (λ (k : ℕ). cond (f (suc n)) (suc k) k) (tally-fir
     go : (b : Bool) (a k : ℕ) → cond b (suc (a + k)) (a + k) ≡ a + cond b (suc k) k
     go true a k = omega arith
     go false a k = refl
-
-lowest : (x : ℕ) → x % 2 ≡ cond (on x 0) 1 0
-unfolding on
-lowest x =
-    let e : x % 2 ≡ x / 2 ^ 0 % 2 = omega arith in
-    binary (λ t. t ≡ cond (eqb t 1) 1 0) refl refl x ∙ ap (λ (t : ℕ). cond (eqb t 1) 1 0) e
 
 ones-tally : (k x : ℕ) → x < 2 ^ k → ones x ≡ tally (on x) k
 unfolding tally ones

@@ -16,8 +16,8 @@ abbrev pub CartsAt : (carts : ℕ) → (ℕ → ℕ → Bool) → ℕ → ℕ �
 CartsAt carts f s x = Row carts x (λ i. f i s)
 
 -- the word of counter s: that of the step on which it stands
-abbrev pub StepOf : (h l : ℕ) → List ℕ → ℕ → ℕ → Type 0
-StepOf h l w s x = x ≡ getD w (stepOf h l s) 0
+abbrev pub CounterAt : (h l : ℕ) → List ℕ → ℕ → ℕ → Type 0
+CounterAt h l w s x = x ≡ getD w (stepOf h l s) 0
 
 -- the bits of word s that the word k further on has too
 abbrev pub shared : List ℕ → ℕ → ℕ → ℕ
@@ -27,8 +27,8 @@ shared w k s = bitAnd (getD w s 0) (getD w (s + k) 0)
 abbrev pub Window : List ℕ → (n s x : ℕ) → Type 0
 Window w n s x = (i : ℕ) → on x i ≡ every (λ j. on (getD w (s + j) 0) i) n
 
--- Each word of a step, and each `off` further on, is a window of all of d + 1 counters but `off`, and these are no more than half. The words behind them
--- have served, and from h + d + 7 on are left alone.
+-- Of d + 1 counters the words of the steps, and those up to `off` further on, are windows of all but `off`, which is at most half: word s and the word
+-- `off` further on together are the window of all. The words behind them are of no use, and from h + d + 7 on are left alone.
 pub record Narrowed (h d off : ℕ) (before after : List ℕ) : Type 0 where
   pub short : 2 * off ≤ d + 1
   pub kept : length after ≡ length before

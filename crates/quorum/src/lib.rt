@@ -1,10 +1,9 @@
 // The rule for a count, on a table of truth by step and for all steps at once: a word a step, with bit i for cart i.
-mod tests;
+mod counting;
 mod windows;
 mod words;
 
 ghost use Prim.Native.Nat.{ℕ, _+_, _^_, _≤_, _<_};
-ghost use mathlib.Core.Path.{_≡_};
 ghost use mathlib.Core.Bool.{_&&_};
 ghost use lib.Dec.{eqb};
 ghost use lib.ListN.{length, getD};
@@ -12,14 +11,14 @@ ghost use Rattle.cltl.specs.Rules.{every, quorum};
 ghost use Rattle.mask.specs.Mask.{on, Row, signed};
 ghost use Rattle.table.specs.Table.{told};
 
-// With a threshold of 1: where all carts have their bit. A word is full if it has as many bits as there are carts.
+// Where all carts have their bit, if the threshold is 1: a word is full if it has as many bits as there are carts.
 fn all_row(w: &[u32], m: usize, carts: usize, h: usize) -> u64
-    requires { ⌜ (carts ≤ 32) × (h ≤ 64) × (h ≤ length (now w)) ⌝ }
+    requires { ⌜ (h ≤ 64) × (h ≤ length (now w)) ⌝ }
     requires { ⌜ ((s : ℕ) → s < h → getD (now w) s 0 < 2 ^ carts) ⌝ }
     ensures { λ r. ⌜ Row h r (λ s. eqb m 1 && every (on (getD (now (w .entry)) s 0)) carts) ⌝ }
 {
     if m == 1 {
-        tests::at_least(w, 0, carts, h)
+        counting::at_least(w, 0, carts, h)
     } else {
         0
     }
@@ -45,5 +44,5 @@ pub fn count_row(
     let all = all_row(&w, m, carts, h);
     words::repeat_lap(&mut w, h, l, d);
     let off = windows::narrow(&mut w, h, d);
-    tests::at_least(&w, off, m, h) | all
+    counting::at_least(&w, off, m, h) | all
 }

@@ -25,8 +25,8 @@ fn meet(from: &[u32; 88], k: usize, to: &mut [u32; 88], n: usize)
     }
 }
 
-// Makes of each word the window over at least half of d + 1 counters. The whole window is such a word and the one so far on as is answered:
-// whoever reads the words takes that last step. All words are gone through by eights, and what they reach behind the last counter is of no use.
+// Makes of each word the window over at least half of d + 1 counters. The answer is how far on the word stands that completes it: to read both
+// saves a pass over all words. The words go by eights, so that vectors leave none over; those behind the last counter are of no use.
 pub(crate) fn narrow(w: &mut [u32; 88], h: usize, d: usize) -> usize
     requires { ⌜ (h ≤ 64) × (d ≤ 16) ⌝ }
     requires { ⌜ length (now w) ≡ 88 ⌝ }

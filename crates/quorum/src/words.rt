@@ -1,11 +1,11 @@
 // The words of a text along the counters, the lap again behind the last step: no loop over them has to look where the lap ends.
-ghost use Prim.Native.Nat.{ℕ, _+_, _-_, _^_, _≤_, _<_};
+ghost use Prim.Native.Nat.{_+_, _-_, _^_, _≤_, _<_};
 ghost use mathlib.Core.Path.{_≡_};
 ghost use mathlib.Core.Bool.{not};
 ghost use lib.ListN.{length};
-ghost use Rattle.mask.specs.Mask.{on, signed};
+ghost use Rattle.mask.specs.Mask.{signed};
 ghost use Rattle.table.specs.Table.{told, Word, Stored};
-ghost use Rattle.quorum.specs.Words.{CartsAt, StepOf};
+ghost use Rattle.quorum.specs.Words.{CartsAt, CounterAt};
 
 // The bit of each cart.
 fn all_carts(carts: usize) -> u32
@@ -42,7 +42,7 @@ pub(crate) fn unroll(t: &[u32], at: usize, p: bool, carts: usize, h: usize, w: &
 pub(crate) fn repeat_lap(w: &mut [u32; 88], h: usize, l: usize, d: usize)
     requires { ⌜ (l < h) × (h ≤ 64) × (d ≤ 16) ⌝ }
     requires { ⌜ length (now w) ≡ 88 ⌝ }
-    ensures { λ _. ⌜ Stored (StepOf h l (now (w .entry))) 0 h (h + d) (now (w .entry)) (now (w .exit)) ⌝ }
+    ensures { λ _. ⌜ Stored (CounterAt h l (now (w .entry))) 0 h (h + d) (now (w .entry)) (now (w .exit)) ⌝ }
 {
     let lap = h - l;
     let end = h + d;

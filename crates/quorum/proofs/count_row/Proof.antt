@@ -26,7 +26,7 @@ all-row-requires c κs =
     let a = c .before .before .before .before .args in
     let u = c .before .unroll .ensures in
     let word = own (CartsAt (a .carts) (text (a .t .now) (a .at) (a .p))) 0 (a .h) _ _ u in
-    ((omega arith, omega arith, omega (arith, u .kept)), λ s p. word s (omega arith) p .low)
+    ((omega arith, omega (arith, u .kept)), λ s p. word s (omega arith) p .low)
 
 repeat-lap-requires : tie.Need-repeat-lap-requires
 repeat-lap-requires c κs = search needs

@@ -1,66 +1,83 @@
-use native.Mathlib.Omega.{arith}
 use mathlib.Core.Path.{sym, ap, _∙_}
 use mathlib.Core.Bool.{true, false}
+use native.Mathlib.Nat.{le-refl}
 use Rattle.refusal.specs.Faults.{not-is}
 use Rattle.refusal.specs.Accepting.{stops, goes-on}
 use Rattle.refusal.specs.declared.Verdict.the-variants.{Rules as AboutRules}
 use Rattle.cltl.specs.Meaning.{Rows}
 use Rattle.cltl.specs.Rules.{rules}
-use Rattle.marks.specs.Table.{tableRows}
+use Rattle.table.specs.Keeping.{kept-all, kept-then, kept-constants, kept-shown}
 use Rattle.drift.specs.Tree.{clauseTree}
+use Rattle.drift.specs.Answer.{rowsOn}
 use Rattle.plancheck.specs.Turns.{clause-kept, clause-fails}
+use native.Mathlib.Omega.{arith}
+use borrow.Author.Needs.{needs}
 use borrow.Author.Needs.{needs}
 use Rattle.plancheck.proofs.clauses.first_found.Statement.{statement}
 use Rattle.plancheck.proofs.clauses.first_found.Tie as tie
 
--- src/clauses.rt:45:9
 accepts-requires : tie.Need-accepts-requires
 accepts-requires c κs = search needs
 
--- src/clauses.rt:46:9
 returns : tie.Need-returns
-returns c = λ m q. sym (stops (c .before .before .before .before .args .found) _ (sym (c .before .accepts .ensures) ∙ not-is _ true (c .if1 .taken)))
+returns c =
+    let a = c .before .before .before .before .args in (
+      kept-all _ (a .t .now),
+      λ bears shown m q. sym (stops (a .found) _ (sym (c .before .accepts .ensures) ∙ not-is _ true (c .if1 .taken))),
+    )
 
--- src/clauses.rt:48:9
 clause-row-requires : tie.Need-clause-row-requires
 clause-row-requires c κs = search needs
 
--- src/clauses.rt:50:9
+same-length : tie.Need-same-length
+same-length c = search needs
+
 returns-2 : tie.Need-returns-2
 unfolding rules
 returns-2 c =
-    let a = c .before .before .before .before .before .before .args in
-    let P : Rows = tableRows (a .table .now) (a .g .carts) (a .g .h) (a .g .l) in
-    λ m q.
-    clause-kept P (a .g .d) (a .n) (clauseTree (a .nodes .now) m (a .k)) (c .before .clause-row .result) (omega arith)
-    (c .before .clause-row .ensures m q) (c .if2 .taken)
-    ∙ sym (goes-on (a .found) _ (sym (c .before .before .before .accepts .ensures) ∙ not-is _ false (c .before .before .if1 .left)))
+    let s = c .before .before .before .before .before .before .before .before .before in
+    let a = s .args in
+    let g = a .g in
+    let r = c .before .before .before .clause-row .ensures in (
+      r .0,
+      λ bears shown m q. clause-kept (rowsOn (g .carts) (g .h) (g .l) bears) (g .d) (a .n) (clauseTree (a .nodes .now) m (a .k)) (c .before .before .before .clause-row .result)
+          (omega (arith, s .pre .0 .0 .lap)) (r .1 bears shown m q) (c .if2 .taken)
+          ∙ sym (goes-on (a .found) _ (sym (c .before .before .before .before .before .before .accepts .ensures) ∙ not-is _ false (c .before .before .before .before .before .if1 .left))),
+    )
 
--- src/clauses.rt:52:9
 failing-step-requires : tie.Need-failing-step-requires
-failing-step-requires c κs = search needs
+failing-step-requires c κs =
+    let s = c .before .before .before .before .before .before .before .before .before .before in
+    let g = s .args .g in
+    let r = c .before .before .before .before .clause-row .ensures .0 in (
+      (s .pre .0 .0, kept-constants (g .marks) (g .h) (s .args .t .now) _ r (s .pre .0 .1)),
+      (s .pre .1 .0, (s .pre .1 .1 .0, omega (arith, r .size, s .pre .1 .1 .1))),
+    )
 
--- src/clauses.rt:53:43
 cast-refuse : tie.Need-cast-refuse
-cast-refuse c = search needs
+cast-refuse c = omega (arith, c .before .before .failing-step .ensures .1 .1)
 
--- src/clauses.rt:53:20
 refuse-requires : tie.Need-refuse-requires
 refuse-requires c κs = search needs
 
--- src/clauses.rt:29:1
+same-length-2 : tie.Need-same-length-2
+same-length-2 c = search needs
+
 returns-3 : tie.Need-returns-3
 unfolding rules
 returns-3 c =
-    let a = c .before .before .before .before .before .before .before .before .args in
-    let P : Rows = tableRows (a .table .now) (a .g .carts) (a .g .h) (a .g .l) in
-    λ m q.
-    ap AboutRules (c .refuse .ensures)
-    ∙ clause-fails P (a .g .d) (a .n) (clauseTree (a .nodes .now) m (a .k)) (c .before .before .before .clause-row .result) (omega arith)
-    (c .before .before .before .clause-row .ensures m q) (c .before .before .if2 .left) (c .before .failing-step .result)
-    (c .before .failing-step .ensures .0 m q)
-    ∙ sym
-    (goes-on (a .found) _ (sym (c .before .before .before .before .before .accepts .ensures) ∙ not-is _ false (c .before .before .before .before .if1 .left)))
+    let s = c .before .before .before .before .before .before .before .before .before .before .before .before .before .before in
+    let a = s .args in
+    let g = a .g in
+    let r = c .before .before .before .before .before .before .before .before .clause-row .ensures in
+    let f = c .before .before .before .failing-step .ensures in (
+      kept-then _ _ (a .t .now) _ _ (le-refl _) (r .0) (f .0),
+      λ bears shown m q. ap AboutRules (c .refuse .ensures)
+          ∙ clause-fails (rowsOn (g .carts) (g .h) (g .l) bears) (g .d) (a .n) (clauseTree (a .nodes .now) m (a .k)) (c .before .before .before .before .before .before .before .before .clause-row .result)
+          (omega (arith, s .pre .0 .0 .lap)) (r .1 bears shown m q) (c .before .before .before .before .before .if2 .left) (c .before .before .before .failing-step .result)
+          (f .1 .0 bears (kept-shown (g .marks) (g .h) (a .t .now) _ (r .0) (g .carts) bears shown) m q)
+          ∙ sym (goes-on (a .found) _ (sym (c .before .before .before .before .before .before .before .before .before .before .before .accepts .ensures) ∙ not-is _ false (c .before .before .before .before .before .before .before .before .before .before .if1 .left))),
+    )
 
 pub first-found-spec : {M : Type 1} → statement M
 first-found-spec =
@@ -69,8 +86,10 @@ first-found-spec =
     accepts-requires
     returns
     clause-row-requires
+    same-length
     returns-2
     failing-step-requires
     cast-refuse
     refuse-requires
+    same-length-2
     returns-3)

@@ -1,166 +1,240 @@
-use Prim.Native.Nat.{_-_}
-use native.Mathlib.Omega.{arith}
-use native.Mathlib.Nat.{le-refl}
+use Prim.Native.Nat.{ℕ, _+_, _*_, _-_, _≤_, _<_}
 use mathlib.Core.Path.{_≡_, refl, sym, ap, _∙_}
-use mathlib.Core.Bool.{true, false, cond}
-use lib.Dec.{eqb}
+use mathlib.Core.Bool.{Bool, true, false, cond}
+use mathlib.Core.List.{List}
+use native.Mathlib.Nat.{le-refl, mul-le-mul}
+use lib.Dec.{T, eqb, leb, leb→le, nleb→lt}
 use lib.ListN.{length}
-use borrow.Author.Needs.{needs}
+use Rattle.refusal.specs.Faults.{not-is}
 use Rattle.refusal.specs.Stages.{andThen}
 use Rattle.refusal.specs.declared.Verdict.the-variants.{Rules as AboutRules}
+use Rattle.plan.specs.Plan.{placeOnStep, heldNumbers}
+use Rattle.plan.specs.declared.Head.{Head}
+use Rattle.row.specs.Moves.{bit}
 use Rattle.grammar.specs.Grammar.{Clause}
 use Rattle.cltl.specs.Meaning.{Rows}
 use Rattle.cltl.specs.Rules.{hasNext}
-use Rattle.marks.specs.Table.{tableRows}
+use Rattle.table.specs.Layout.{Constants, Shown}
+use Rattle.table.specs.Keeping.{table-ends, kept-constants, kept-shown}
+use Rattle.drift.specs.Answer.{rowsOn}
 use Rattle.plancheck.specs.Lines.{accepted-short}
 use Rattle.plancheck.specs.LineHeld.{ready}
-use Rattle.plancheck.specs.Check.{clauseVerdict}
-use Rattle.plancheck.specs.Turns.{Going, going-start, going-end, going-16, going-on}
+use Rattle.plancheck.specs.Check.{marksAt, clauseVerdict}
+use Rattle.plancheck.specs.Marked.{placed, unborne, shown}
+use Rattle.plancheck.specs.Turns.{Going, going-end, going-16, going-on}
+use borrow.Author.Needs.{needs}
+use native.Mathlib.Omega.{arith}
 use Rattle.plancheck.proofs.clauses.judge_lines.Statement.{statement}
 use Rattle.plancheck.proofs.clauses.judge_lines.Tie as tie
 
+-- what the plan's rows bear, by the number of carts
+abbrev bears : List ℕ → ℕ → Head → List ℕ → ℕ → ℕ → ℕ → Bool
+bears floor carts h block i s k = bit k (marksAt floor (placeOnStep (heldNumbers carts h block) i s))
+
+abbrev rows : List ℕ → ℕ → Head → List ℕ → Rows
+rows floor carts h block = rowsOn carts (h .steps) (h .stem) (bears floor carts h block)
+
+is-so : (b : Bool) → b ≡ true → T b
+is-so b e = rw e tt
+
+-- the tables of n nodes are within the block
+slot-room : (marks h n words : ℕ) → 0 < n → (marks + 2 + n) * h ≤ words → (marks + 2 + (n - 1 - 0)) * h + h ≤ words
+slot-room marks h n words p q = omega (arith, table-ends h (marks + 2 + (n - 1 - 0)) (marks + 2 + n) (omega arith))
+
+-- a block for 128 nodes has room for a clause's
+no-room : (marks h n words before : ℕ) → n ≤ 128 → (marks + 2 + 128) * h ≤ before → words ≡ before → leb ((marks + 2 + n) * h) words ≡ false → ⊥
+no-room marks h n words before q r e f =
+    omega
+    (arith, nleb→lt ((marks + 2 + n) * h) words (rw f tt), mul-le-mul {n₁ = marks + 2 + n} {m₁ = h} {n₂ = marks + 2 + 128} {m₂ = h} (omega arith) (le-refl h))
+
 abbrev Inv-loop : tie.InvT-loop
-Inv-loop rules table g nodes₀ found₀ at₀ n₀ nodes found at n = (length nodes ≡ 512) × Going (tableRows table (g .carts) (g .h) (g .l)) (g .d) rules at n found
+Inv-loop floor h block rules marks t₀ g nodes₀ found₀ at₀ n₀ t nodes found at n =
+    (length nodes ≡ 512) × (length t ≡ length t₀) × Constants marks (h .steps) t × Shown marks (g .carts) (h .steps) (bears floor (g .carts) h block) t
+    × Going (rows floor (g .carts) h block) (h .drift) rules at n found
 
 abbrev μ-loop : tie.MeasureT-loop
-μ-loop rules table g nodes₀ found₀ at₀ n₀ nodes found at n = 32 - n
+μ-loop floor h block rules marks t₀ g nodes₀ found₀ at₀ n₀ t nodes found at n = 32 - n
 
--- src/clauses.rt:74:5
+fill-requires : tie.Need-fill-requires Inv-loop μ-loop
+fill-requires c κs =
+    let s = c .before .before .before .before .before in
+    let a = s .args in
+    let w = s .pre .0 in
+    let r = s .pre .1 .0 .0 in
+    let b = s .pre .1 .1 .1 .1 .0 in (
+      s .pre .1 .0 .1,
+      (
+        (w .valid .few-carts, r .steps, b .0 .few),
+        (
+          b .1,
+          (
+            placed (a .floor .now) (a .f) w (a .h) (a .block .now) (s .pre .1 .1 .0),
+            unborne (a .floor .now) (a .f) w (a .h) (a .block .now) (s .pre .1 .1 .0) (a .marks) (b .0),
+          ),
+        ),
+      ),
+    )
+
 loop-holds : tie.Need-loop-holds Inv-loop μ-loop
 loop-holds c =
-    let a = c .before .before .args in
-    (refl, going-start (tableRows (a .table .now) (a .g .carts) (a .g .h) (a .g .l)) (a .g .d) (a .rules .now) (c .before .before .pre .0))
+    let s = c .before .before .before .before .before .before .before .before in
+    let a = s .args in
+    let w = s .pre .0 in
+    let f = c .before .before .fill .ensures in (
+      refl,
+      refl,
+      f .constants,
+      shown (a .floor .now) (a .f) w (a .h) (a .block .now) (s .pre .1 .1 .0) (a .marks) _ _ f,
+      s .pre .1 .1 .1 .1 .1,
+    )
 
--- src/clauses.rt:75:47
 slice-aggregate-read-clause : tie.Need-slice-aggregate-read-clause Inv-loop μ-loop
 slice-aggregate-read-clause c = search needs
 
--- src/clauses.rt:75:13
 read-clause-requires : tie.Need-read-clause-requires Inv-loop μ-loop
 read-clause-requires c κs =
-    let s = c .before .before .before .before .before in
-    (omega arith, accepted-short (s .args .rules .now) (s .pre .0), c .before .before .loop .inv .0)
+    let s = c .before .before .before .before .before .before .before .before .before .before .before in
+    (omega arith, accepted-short (s .args .rules .now) (s .pre .1 .1 .1 .0), c .before .before .loop .inv .0)
 
--- src/clauses.rt:76:20
+fits-requires : tie.Need-fits-requires Inv-loop μ-loop
+fits-requires c κs =
+    let s = c .before .before .before .before .before .before .before .before .before .before .before .before .before in
+    let a = s .args in
+    let v = c .before .before .before .before .loop in
+    let w =
+    ready (a .rules .now) (v .nodes) _ _ (v .at) (v .n) (c .before .before .before .loop-test .taken) (c .before .read-clause .ensures) (v .inv .4 .rest) (v .inv .4 .left) (v .inv .0) in
+    (s .pre .1 .1 .1 .1 .0 .0 .few, s .pre .1 .0 .0 .steps, omega (arith, w .judge .ordered .room, w .judge .size, w .judge .some))
+
+same-length : tie.Need-same-length Inv-loop μ-loop
+same-length c = c .before .before .before .before .before .before .loop .inv .1 ∙ c .before .before .before .before .before .before .before .before .before .fill .ensures .kept
+
+returns : tie.Need-returns Inv-loop μ-loop
+returns c =
+    let s = c .before .before .before .before .before .before .before .before .before .before .before .before .before .before .before in
+    let a = s .args in
+    let v = c .before .before .before .before .before .before .loop in
+    let w =
+    ready (a .rules .now) (v .nodes) _ _ (v .at) (v .n) (c .before .before .before .before .before .loop-test .taken) (c .before .before .before .read-clause .ensures) (v .inv .4 .rest) (v .inv .4 .left) (v .inv .0) in
+    (v .inv .4, λ q. absurd (no-room _ _ _ _ _ (omega (arith, w .judge .ordered .room, w .judge .size, w .judge .some)) q
+    (v .inv .1 ∙ c .before .before .before .before .before .before .before .before .before .fill .ensures .kept) (sym (c .before .fits2 .ensures) ∙ not-is _ true (c .if1 .taken))))
+
 sub-last : tie.Need-sub-last Inv-loop μ-loop
 sub-last c =
-    let s = c .before .before .before .before .before .before .before .before .args .rules .now in
-    let v = c .before .before .before .before .before .loop in
+    let s = c .before .before .before .before .before .before .before .before .before .before .before .before .before .before .before .before in
+    let a = s .args in
+    let v = c .before .before .before .before .before .before .before .loop in
     let w =
-    ready s (v .nodes) _ _ (v .at) (v .n) (c .before .before .before .before .loop-test .taken) (c .before .before .read-clause .ensures)
-    (v .inv .1 .rest) (v .inv .1 .left) (v .inv .0) in
+    ready (a .rules .now) (v .nodes) _ _ (v .at) (v .n) (c .before .before .before .before .before .before .loop-test .taken) (c .before .before .before .before .read-clause .ensures) (v .inv .4 .rest) (v .inv .4 .left) (v .inv .0) in
     omega (arith, w .judge .some)
 
--- src/clauses.rt:77:21
 slice-aggregate-looks-on : tie.Need-slice-aggregate-looks-on Inv-loop μ-loop
 slice-aggregate-looks-on c =
-    let s = c .before .before .before .before .before .before .before .before .before .args .rules .now in
-    let v = c .before .before .before .before .before .before .loop in
+    let s = c .before .before .before .before .before .before .before .before .before .before .before .before .before .before .before .before .before in
+    let a = s .args in
+    let v = c .before .before .before .before .before .before .before .before .loop in
     let w =
-    ready s (v .nodes) _ _ (v .at) (v .n) (c .before .before .before .before .before .loop-test .taken)
-    (c .before .before .before .read-clause .ensures) (v .inv .1 .rest) (v .inv .1 .left) (v .inv .0) in
+    ready (a .rules .now) (v .nodes) _ _ (v .at) (v .n) (c .before .before .before .before .before .before .before .loop-test .taken) (c .before .before .before .before .before .read-clause .ensures) (v .inv .4 .rest) (v .inv .4 .left) (v .inv .0) in
     sym (w .judge .size)
 
--- src/clauses.rt:77:12
 looks-on-requires : tie.Need-looks-on-requires Inv-loop μ-loop
 looks-on-requires c κs =
-    let s = c .before .before .before .before .before .before .before .before .before .args .rules .now in
-    let v = c .before .before .before .before .before .before .loop in
+    let s = c .before .before .before .before .before .before .before .before .before .before .before .before .before .before .before .before .before in
+    let a = s .args in
+    let v = c .before .before .before .before .before .before .before .before .loop in
     let w =
-    ready s (v .nodes) _ _ (v .at) (v .n) (c .before .before .before .before .before .loop-test .taken)
-    (c .before .before .before .read-clause .ensures) (v .inv .1 .rest) (v .inv .1 .left) (v .inv .0) in
+    ready (a .rules .now) (v .nodes) _ _ (v .at) (v .n) (c .before .before .before .before .before .before .before .loop-test .taken) (c .before .before .before .before .before .read-clause .ensures) (v .inv .4 .rest) (v .inv .4 .left) (v .inv .0) in
     w .judge .ordered
 
--- src/clauses.rt:78:35
 refuse-requires : tie.Need-refuse-requires Inv-loop μ-loop
 refuse-requires c κs = tt
 
--- src/clauses.rt:78:13
-returns : tie.Need-returns Inv-loop μ-loop
-returns c =
-    let s = c .before .before .before .before .before .before .before .before .before .before .before .before .args .rules .now in
-    let v = c .before .before .before .before .before .before .before .before .before .loop in
-    let w =
-    ready s (v .nodes) _ _ (v .at) (v .n) (c .before .before .before .before .before .before .before .before .loop-test .taken)
-    (c .before .before .before .before .before .before .read-clause .ensures) (v .inv .1 .rest) (v .inv .1 .left) (v .inv .0) in
-    let e : true ≡ cond (eqb (c .before .before .before .before .before .before .before .before .before .before .before .before .args .g .d) 0) false
-    (hasNext (w .line .clause)) =
-    sym (c .before .if1 .taken) ∙ c .before .before .looks-on .ensures _ (le-refl _)
-    ∙ ap
-    (λ (x : Clause). cond
-    (eqb (c .before .before .before .before .before .before .before .before .before .before .before .before .args .g .d) 0) false (hasNext x))
-    (w .judge .tree _ (le-refl _)) in
-    ap AboutRules (c .refuse .ensures)
-    ∙ going-16 _ (c .before .before .before .before .before .before .before .before .before .before .before .before .args .g .d) s (v .nodes) _ _
-    (v .at) (v .n) (v .found) (v .inv .1) (w .line) e
+same-length-2 : tie.Need-same-length-2 Inv-loop μ-loop
+same-length-2 c = c .before .before .before .before .before .before .before .before .before .before .before .loop .inv .1 ∙ c .before .before .before .before .before .before .before .before .before .before .before .before .before .before .fill .ensures .kept
 
--- src/clauses.rt:80:36
-slice-aggregate-first-found : tie.Need-slice-aggregate-first-found Inv-loop μ-loop
-slice-aggregate-first-found c =
-    let s = c .before .before .before .before .before .before .before .before .before .before .before .before .args .rules .now in
-    let v = c .before .before .before .before .before .before .before .before .before .loop in
-    let w =
-    ready s (v .nodes) _ _ (v .at) (v .n) (c .before .before .before .before .before .before .before .before .loop-test .taken)
-    (c .before .before .before .before .before .before .read-clause .ensures) (v .inv .1 .rest) (v .inv .1 .left) (v .inv .0) in
-    sym (w .judge .size)
-
--- src/clauses.rt:80:9
-first-found-requires : tie.Need-first-found-requires Inv-loop μ-loop
-first-found-requires c κs =
-    let s = c .before .before .before .before .before .before .before .before .before .before .before .before .args .rules .now in
-    let v = c .before .before .before .before .before .before .before .before .before .loop in
-    let w =
-    ready s (v .nodes) _ _ (v .at) (v .n) (c .before .before .before .before .before .before .before .before .loop-test .taken)
-    (c .before .before .before .before .before .before .read-clause .ensures) (v .inv .1 .rest) (v .inv .1 .left) (v .inv .0) in (
-      c .before .before .before .before .before .before .before .before .before .before .before .before .pre .1 .0,
-      (w .judge .ordered, c .before .before .before .before .before .before .before .before .before .before .before .before .pre .1 .1),
-    )
-
--- src/clauses.rt:82:9
-add-n : tie.Need-add-n Inv-loop μ-loop
-add-n c =
-    let s = c .before .before .before .before .before .before .before .before .before .before .before .before .before .args .rules .now in
-    let v = c .before .before .before .before .before .before .before .before .before .before .loop in
-    let w =
-    ready s (v .nodes) _ _ (v .at) (v .n) (c .before .before .before .before .before .before .before .before .before .loop-test .taken)
-    (c .before .before .before .before .before .before .before .read-clause .ensures) (v .inv .1 .rest) (v .inv .1 .left) (v .inv .0) in
-    omega (arith, w .line .more)
-
--- src/clauses.rt:74:5
-loop-less : tie.Need-loop-less Inv-loop μ-loop
-loop-less c =
-    let s = c .before .before .before .before .before .before .before .before .before .before .before .before .before .args .rules .now in
-    let v = c .before .before .before .before .before .before .before .before .before .before .loop in
-    let w =
-    ready s (v .nodes) _ _ (v .at) (v .n) (c .before .before .before .before .before .before .before .before .before .loop-test .taken)
-    (c .before .before .before .before .before .before .before .read-clause .ensures) (v .inv .1 .rest) (v .inv .1 .left) (v .inv .0) in
-    omega (arith, w .line .more)
-
--- src/clauses.rt:74:5
-loop-again : tie.Need-loop-again Inv-loop μ-loop
-loop-again c =
-    let s = c .before .before .before .before .before .before .before .before .before .before .before .before .before .args .rules .now in
-    let v = c .before .before .before .before .before .before .before .before .before .before .loop in
-    let w =
-    ready s (v .nodes) _ _ (v .at) (v .n) (c .before .before .before .before .before .before .before .before .before .loop-test .taken)
-    (c .before .before .before .before .before .before .before .read-clause .ensures) (v .inv .1 .rest) (v .inv .1 .left) (v .inv .0) in
-    let a = c .before .before .before .before .before .before .before .before .before .before .before .before .before .args in
-    let P : Rows = tableRows (a .table .now) (a .g .carts) (a .g .h) (a .g .l) in
-    let t = w .judge .tree _ (le-refl _) in
-    let e : false ≡ cond (eqb (a .g .d) 0) false (hasNext (w .line .clause)) =
-    sym (c .before .before .if1 .left) ∙ c .before .before .before .looks-on .ensures _ (le-refl _)
-    ∙ ap (λ (x : Clause). cond (eqb (a .g .d) 0) false (hasNext x)) t in (
-      w .judge .size,
-      going-on P (a .g .d) s (v .nodes) _ _ (v .at) (v .n) (v .found) (v .inv .1) (w .line) e (c .first-found .result)
-          (c .first-found .ensures _ (le-refl _) ∙ ap (λ (x : Clause). andThen (v .found) (clauseVerdict P (a .g .d) (v .n) x)) t),
-    )
-
--- src/clauses.rt:57:1
 returns-2 : tie.Need-returns-2 Inv-loop μ-loop
 returns-2 c =
-    let a = c .before .before .before .before .args in
-    going-end (tableRows (a .table .now) (a .g .carts) (a .g .h) (a .g .l)) (a .g .d) (a .rules .now) (c .before .loop .at) (c .before .loop .n)
-    (c .before .loop .found) (c .before .loop .inv .1) (omega arith)
+    let s = c .before .before .before .before .before .before .before .before .before .before .before .before .before .before .before .before .before .before .before .before in
+    let a = s .args in
+    let v = c .before .before .before .before .before .before .before .before .before .before .before .loop in
+    let w =
+    ready (a .rules .now) (v .nodes) _ _ (v .at) (v .n) (c .before .before .before .before .before .before .before .before .before .before .loop-test .taken) (c .before .before .before .before .before .before .before .before .read-clause .ensures) (v .inv .4 .rest) (v .inv .4 .left) (v .inv .0) in
+    let d = a .h .drift in
+    let e : true ≡ cond (eqb d 0) false (hasNext (w .line .clause)) =
+    sym (c .before .if2 .taken) ∙ c .before .before .looks-on .ensures _ (le-refl _) ∙ ap (λ (x : Clause). cond (eqb d 0) false (hasNext x)) (w .judge .tree _ (le-refl _)) in (
+      ap AboutRules (c .refuse .ensures) ∙ going-16 _ d (a .rules .now) (v .nodes) _ _ (v .at) (v .n) (v .found) (v .inv .4) (w .line) e,
+      λ q. refl,
+    )
+
+slice-aggregate-first-found : tie.Need-slice-aggregate-first-found Inv-loop μ-loop
+slice-aggregate-first-found c =
+    let s = c .before .before .before .before .before .before .before .before .before .before .before .before .before .before .before .before .before .before .before .before in
+    let a = s .args in
+    let v = c .before .before .before .before .before .before .before .before .before .before .before .loop in
+    let w =
+    ready (a .rules .now) (v .nodes) _ _ (v .at) (v .n) (c .before .before .before .before .before .before .before .before .before .before .loop-test .taken) (c .before .before .before .before .before .before .before .before .read-clause .ensures) (v .inv .4 .rest) (v .inv .4 .left) (v .inv .0) in
+    sym (w .judge .size)
+
+first-found-requires : tie.Need-first-found-requires Inv-loop μ-loop
+first-found-requires c κs =
+    let s = c .before .before .before .before .before .before .before .before .before .before .before .before .before .before .before .before .before .before .before .before .before in
+    let a = s .args in
+    let v = c .before .before .before .before .before .before .before .before .before .before .before .before .loop in
+    let w =
+    ready (a .rules .now) (v .nodes) _ _ (v .at) (v .n) (c .before .before .before .before .before .before .before .before .before .before .before .loop-test .taken) (c .before .before .before .before .before .before .before .before .before .read-clause .ensures) (v .inv .4 .rest) (v .inv .4 .left) (v .inv .0) in
+    let r = s .pre .1 .0 .0 in
+    let n = c .before .before .before .before .before .before .before .before .before .read-clause .result .n in
+    let room = leb→le ((a .marks + 2 + n) * a .h .steps) (length (v .t)) (is-so _ (sym (c .before .before .before .before .before .before .before .fits2 .ensures) ∙ not-is _ false (c .before .before .before .before .before .before .if1 .left))) in (
+      ((record { some = s .pre .0 .valid .some-cart; few = s .pre .0 .valid .few-carts; lap = r .stem; steps = r .steps; drift = r .drift; marks = s .pre .1 .1 .1 .1 .0 .0 .few }), v .inv .2),
+      (w .judge .ordered, (omega (arith, w .judge .ordered .room, w .judge .size, w .judge .some), slot-room (a .marks) (a .h .steps) n (length (v .t)) (w .judge .some) room)),
+    )
+
+add-n : tie.Need-add-n Inv-loop μ-loop
+add-n c =
+    let s = c .before .before .before .before .before .before .before .before .before .before .before .before .before .before .before .before .before .before .before .before .before .before .before .before in
+    let a = s .args in
+    let v = c .before .before .before .before .before .before .before .before .before .before .before .before .before .before .before .loop in
+    let w =
+    ready (a .rules .now) (v .nodes) _ _ (v .at) (v .n) (c .before .before .before .before .before .before .before .before .before .before .before .before .before .before .loop-test .taken) (c .before .before .before .before .before .before .before .before .before .before .before .before .read-clause .ensures) (v .inv .4 .rest) (v .inv .4 .left) (v .inv .0) in
+    omega (arith, w .line .more)
+
+loop-less : tie.Need-loop-less Inv-loop μ-loop
+loop-less c =
+    let s = c .before .before .before .before .before .before .before .before .before .before .before .before .before .before .before .before .before .before .before .before .before .before .before .before in
+    let a = s .args in
+    let v = c .before .before .before .before .before .before .before .before .before .before .before .before .before .before .before .loop in
+    let w =
+    ready (a .rules .now) (v .nodes) _ _ (v .at) (v .n) (c .before .before .before .before .before .before .before .before .before .before .before .before .before .before .loop-test .taken) (c .before .before .before .before .before .before .before .before .before .before .before .before .read-clause .ensures) (v .inv .4 .rest) (v .inv .4 .left) (v .inv .0) in
+    omega (arith, w .line .more)
+
+loop-again : tie.Need-loop-again Inv-loop μ-loop
+loop-again c =
+    let s = c .before .before .before .before .before .before .before .before .before .before .before .before .before .before .before .before .before .before .before .before .before .before .before .before in
+    let a = s .args in
+    let v = c .before .before .before .before .before .before .before .before .before .before .before .before .before .before .before .loop in
+    let w =
+    ready (a .rules .now) (v .nodes) _ _ (v .at) (v .n) (c .before .before .before .before .before .before .before .before .before .before .before .before .before .before .loop-test .taken) (c .before .before .before .before .before .before .before .before .before .before .before .before .read-clause .ensures) (v .inv .4 .rest) (v .inv .4 .left) (v .inv .0) in
+    let d = a .h .drift in
+    let P : Rows = rows (a .floor .now) (a .f .carts) (a .h) (a .block .now) in
+    let tree = w .judge .tree _ (le-refl _) in
+    let f = c .before .before .first-found .ensures in
+    let e : false ≡ cond (eqb d 0) false (hasNext (w .line .clause)) =
+    sym (c .before .before .before .before .before .if2 .left) ∙ c .before .before .before .before .before .before .looks-on .ensures _ (le-refl _) ∙ ap (λ (x : Clause). cond (eqb d 0) false (hasNext x)) tree in (
+      w .judge .size,
+      f .0 .size ∙ v .inv .1,
+      kept-constants (a .marks) (a .h .steps) (v .t) _ (f .0) (v .inv .2),
+      kept-shown (a .marks) (a .h .steps) (v .t) _ (f .0) (a .f .carts) _ (v .inv .3),
+      going-on P d (a .rules .now) (v .nodes) _ _ (v .at) (v .n) (v .found) (v .inv .4) (w .line) e (c .before .before .first-found .result)
+          (f .1 _ (v .inv .3) _ (le-refl _) ∙ ap (λ (x : Clause). andThen (v .found) (clauseVerdict P d (v .n) x)) tree),
+    )
+
+same-length-3 : tie.Need-same-length-3 Inv-loop μ-loop
+same-length-3 c = c .before .loop .inv .1 ∙ c .before .before .before .before .fill .ensures .kept
+
+returns-3 : tie.Need-returns-3 Inv-loop μ-loop
+returns-3 c =
+    let a = c .before .before .before .before .before .before .before .before .before .before .args in
+    let v = c .before .loop in
+    (going-end _ (a .h .drift) (a .rules .now) (v .at) (v .n) (v .found) (v .inv .4) (omega (arith, c .loop-test .left)), λ q. refl)
 
 pub judge-lines-spec : {M : Type 1} → statement M
 judge-lines-spec =
@@ -168,17 +242,23 @@ judge-lines-spec =
     (tie.spec
     Inv-loop
     μ-loop
+    fill-requires
     loop-holds
     slice-aggregate-read-clause
     read-clause-requires
+    fits-requires
+    same-length
+    returns
     sub-last
     slice-aggregate-looks-on
     looks-on-requires
     refuse-requires
-    returns
+    same-length-2
+    returns-2
     slice-aggregate-first-found
     first-found-requires
     add-n
     loop-less
     loop-again
-    returns-2)
+    same-length-3
+    returns-3)

@@ -65,7 +65,7 @@ loop-again c =
       second .kept ∙ v .inv .0,
       first .kept ∙ v .inv .1,
       onward (a .h) (a .d) (v .width) (2 * v .width) (least .result) ((a .h + a .d + 7) / 8 * 8) (a .w .now) (v .w) (v .v) _ _ (omega arith)
-          (least .ensures) (omega arith) (omega arith) (v .inv .2) (omega arith) first second,
+          (omega (arith, least .ensures)) (omega arith) (omega arith) (v .inv .2) (omega arith) first second,
     )
 
 add-result : tie.Need-add-result Inv-loop μ-loop

@@ -4,13 +4,13 @@ use native.Mathlib.Omega.{arith}
 use lib.ListN.{length}
 use Rattle.table.specs.Table.{Stored}
 use Rattle.table.specs.Storing.{begun, upward}
-use Rattle.quorum.specs.Words.{StepOf}
+use Rattle.quorum.specs.Words.{CounterAt}
 use Rattle.quorum.proofs.Unrolling.{lap-earlier}
 use Rattle.quorum.proofs.words.repeat_lap.Statement.{statement}
 use Rattle.quorum.proofs.words.repeat_lap.Tie as tie
 
 abbrev Inv-loop : tie.InvT-loop
-Inv-loop w₀ h l d lap end s₀ w s = (h ≤ s) × (s ≤ h + d) × Stored (StepOf h l w₀) 0 h s w₀ w
+Inv-loop w₀ h l d lap end s₀ w s = (h ≤ s) × (s ≤ h + d) × Stored (CounterAt h l w₀) 0 h s w₀ w
 
 abbrev μ-loop : tie.MeasureT-loop
 μ-loop w₀ h l d lap end s₀ w s = h + d - s
@@ -24,7 +24,7 @@ add-end c = omega arith
 loop-holds : tie.Need-loop-holds Inv-loop μ-loop
 loop-holds c =
     let a = c .args in
-    (omega arith, omega arith, begun (StepOf (a .h) (a .l) (a .w .now)) 0 (a .h) (a .w .now))
+    (omega arith, omega arith, begun (CounterAt (a .h) (a .l) (a .w .now)) 0 (a .h) (a .w .now))
 
 sub-w : tie.Need-sub-w Inv-loop μ-loop
 sub-w c = omega arith
@@ -54,7 +54,7 @@ loop-again c =
     let inside : v .s < length (v .w) = omega (arith, v .inv .2 .kept) in (
       omega arith,
       omega arith,
-      upward (StepOf (a .h) (a .l) (a .w .now)) 0 (a .h) (v .s) _ _ (a .w .now) (v .w) (v .inv .2) (omega arith) inside (omega arith)
+      upward (CounterAt (a .h) (a .l) (a .w .now)) 0 (a .h) (v .s) _ _ (a .w .now) (v .w) (v .inv .2) (omega arith) inside (omega arith)
           (lap-earlier (a .h) (a .l) (v .s) _ (a .w .now) (v .w) (omega arith) (omega arith) (omega arith) (v .inv .2)),
     )
 
@@ -63,7 +63,7 @@ returns c =
     let a = c .before .before .args in
     let v = c .before .loop in
     let e : v .s ≡ a .h + a .d = omega arith in
-    subst (λ (n : ℕ). Stored (StepOf (a .h) (a .l) (a .w .now)) 0 (a .h) n (a .w .now) (v .w)) e (v .inv .2)
+    subst (λ (n : ℕ). Stored (CounterAt (a .h) (a .l) (a .w .now)) 0 (a .h) n (a .w .now) (v .w)) e (v .inv .2)
 
 pub repeat-lap-spec : {M : Type 1} → statement M
 repeat-lap-spec =

@@ -59,8 +59,9 @@ loop-again c =
     let a = c .before .before .before .before .before .before .args in
     let v = c .before .before .loop in
     let inside : v .s < length (v .w) = omega (arith, v .inv .1 .kept) in
+    let full = c .before .before .before .before .all-carts in
     let word =
-    carts-at (a .carts) (getD (a .t .now) (a .at + v .s) 0) _ _ (a .p) (omega arith) (c .before .before .before .before .all-carts .ensures)
+    carts-at (a .carts) (getD (a .t .now) (a .at + v .s) 0) _ (full .result) (a .p) (omega arith) (omega (arith, full .ensures))
     (c .before .before .before .turn .ensures) in
     (omega arith, upward (Each (a .t .now) (a .at) (a .p) (a .carts)) 0 0 (v .s) _ _ (a .w .now) (v .w) (v .inv .1) (omega arith) inside (omega arith) word)
 

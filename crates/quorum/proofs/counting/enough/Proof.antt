@@ -1,7 +1,7 @@
 use native.Mathlib.Omega.{arith}
 use Rattle.quorum.proofs.Testing.{yes, no}
-use Rattle.quorum.proofs.tests.enough.Statement.{statement}
-use Rattle.quorum.proofs.tests.enough.Tie as tie
+use Rattle.quorum.proofs.counting.enough.Statement.{statement}
+use Rattle.quorum.proofs.counting.enough.Tie as tie
 
 returns : tie.Need-returns
 returns c = yes (c .before .args .m) (c .before .args .n) _ (omega arith) (omega arith)

@@ -1,11 +1,11 @@
-use Prim.Native.Nat.{ℕ, _-_, _^_, _<_}
+use Prim.Native.Nat.{_-_, _^_, _<_}
 use mathlib.Core.Path.{refl}
 use native.Mathlib.Omega.{arith}
 use lib.Dec.{eqb}
 use lib.ListN.{getD}
 use Rattle.quorum.proofs.Building.{Building, begun, small, onward, ended}
-use Rattle.quorum.proofs.tests.gather.Statement.{statement}
-use Rattle.quorum.proofs.tests.gather.Tie as tie
+use Rattle.quorum.proofs.counting.gather.Statement.{statement}
+use Rattle.quorum.proofs.counting.gather.Tie as tie
 
 abbrev Inv-loop : tie.InvT-loop
 Inv-loop c h row₀ s₀ row s = Building h (λ j. eqb (getD c j 0) 1) row s

@@ -5,8 +5,8 @@ use borrow.Author.Needs.{needs}
 use Rattle.quorum.specs.Words.{shared, Enough}
 use Rattle.quorum.specs.OwnNumber.{own}
 use Rattle.quorum.proofs.Testing.{digit-lt, digit-one}
-use Rattle.quorum.proofs.tests.at_least.Statement.{statement}
-use Rattle.quorum.proofs.tests.at_least.Tie as tie
+use Rattle.quorum.proofs.counting.at_least.Statement.{statement}
+use Rattle.quorum.proofs.counting.at_least.Tie as tie
 
 test-words-requires : tie.Need-test-words-requires
 test-words-requires c κs = search needs

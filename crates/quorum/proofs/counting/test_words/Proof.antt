@@ -6,8 +6,8 @@ use Rattle.table.specs.Table.{Stored}
 use Rattle.table.specs.Storing.{begun, upward}
 use Rattle.quorum.specs.Words.{Enough}
 use Rattle.quorum.proofs.Testing.{tested}
-use Rattle.quorum.proofs.tests.test_words.Statement.{statement}
-use Rattle.quorum.proofs.tests.test_words.Tie as tie
+use Rattle.quorum.proofs.counting.test_words.Statement.{statement}
+use Rattle.quorum.proofs.counting.test_words.Tie as tie
 
 abbrev Inv-loop : tie.InvT-loop
 Inv-loop w off m h c₀ least s₀ c s = (s ≤ h) × Stored (Enough m w off) 0 0 s c₀ c
