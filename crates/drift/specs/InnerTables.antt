@@ -70,7 +70,7 @@ module _ (P : Rows) (proper : Proper P) (nodes t : List ℕ) (k at kind x : ℕ)
     unfolding inner innerTree
     inner-one q q′ g = record {
       is = λ i n s c z u. at-one (P .h) (P .l) (proper .lap) nodes (rule i) marks none true k _ kind x ek ex _ o q q′ (operand (oneOf kind) i c)
-        (λ s u. g i c s u ∙ exact-one (P .h) (P .l) (oneOf kind) (told before a i) s) n z s u;
+          (λ s u. g i c s u ∙ exact-one (P .h) (P .l) (oneOf kind) (told before a i) s) n z s u;
     }
 
     pub inner-two : (b y : ℕ) → y ≡ secondAt nodes k → 6 ≤ kind → kind < 10 → InnerTable P nodes y before b

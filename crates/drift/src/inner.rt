@@ -61,7 +61,11 @@ fn mark_at(g: Ground, m: usize) -> usize
     requires { ⌜ InRange g ⌝ }
     ensures { λ r. ⌜ r ≡ markAt (g .marks) (g .h) m ⌝ }
 {
-    if m < g.marks { m * g.h } else { constant_at(g, false) }
+    if m < g.marks {
+        m * g.h
+    } else {
+        constant_at(g, false)
+    }
 }
 
 // The place for node k's own table, in a text that begins at node `first`.

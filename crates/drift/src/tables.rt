@@ -16,7 +16,11 @@ pub fn constant_at(g: Ground, p: bool) -> usize
     requires { ⌜ InRange g ⌝ }
     ensures { λ r. ⌜ r ≡ constantAt (g .marks) (g .h) p ⌝ }
 {
-    if p { g.marks * g.h } else { (g.marks + 1) * g.h }
+    if p {
+        g.marks * g.h
+    } else {
+        (g.marks + 1) * g.h
+    }
 }
 
 // "not", "next", F or G.

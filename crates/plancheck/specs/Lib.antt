@@ -17,5 +17,6 @@ pub mod Lines
 pub mod LineHeld
 pub mod Turns
 pub mod Standing
+pub mod Room
 pub mod Marked
 pub mod NodesHeld

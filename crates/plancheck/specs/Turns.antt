@@ -116,3 +116,7 @@ module _ (P : Rows) (d : ℕ) where
       same =
           ap (λ (f : Verdict). seen f (n + 1) (l .rest)) q ∙ sym (goes-on-to found n (l .clause) (l .rest) e) ∙ ap (seen found n) (sym (l .first)) ∙ g .same;
     }
+
+  -- before the first clause, by the numbers that say so
+  pub going-first : (s : List ℕ) → rulesVerdict s ≡ Accepted → (at n : ℕ) (found : Verdict) → found ≡ Accepted → at ≡ 0 → n ≡ 0 → Going s at n found
+  going-first s e at n found f a z = rw (f, a, z) (going-start s e)

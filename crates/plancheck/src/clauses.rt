@@ -108,15 +108,30 @@ pub fn judge_lines(
     while at < rules.len() {
         let r = sheet::read_clause(rules, at, &mut nodes);
         if !fits(marks, h.steps, r.n, t.len()) {
-            return Reached { done: false, found, at, n };
+            return Reached {
+                done: false,
+                found,
+                at,
+                n,
+            };
         }
         let last = r.n - 1;
         if looks_on(&nodes, last, g.d) {
-            return Reached { done: true, found: Verdict::Rules(refusal::refuse(16, n, 0)), at, n };
+            return Reached {
+                done: true,
+                found: Verdict::Rules(refusal::refuse(16, n, 0)),
+                at,
+                n,
+            };
         }
         found = first_found(found, &nodes, t, g, last, n);
         at = r.at;
         n += 1;
     }
-    Reached { done: true, found, at, n }
+    Reached {
+        done: true,
+        found,
+        at,
+        n,
+    }
 }

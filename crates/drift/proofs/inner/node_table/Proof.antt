@@ -113,9 +113,14 @@ two-table-requires c κs =
     let t = c .before .before .before .before .before .before .slot-at .ensures in
     let low = two-low (a .nodes .now) (a .k) (s .pre .1 .0) (omega (arith, c .before .before .before .if3 .left)) (omega (arith, c .before .before .before .before .before .before .before .if2 .left)) in
     let from = two-from (a .nodes .now) (a .first) (a .k) (s .pre .1 .1 .0 .0) (s .pre .1 .1 .0 .1) (omega (arith, c .before .before .before .if3 .left)) (omega (arith, c .before .before .before .before .before .before .before .if2 .left)) in
-    let ends : (y : ℕ) → a .first ≤ y → y < a .k → _ = λ y p q. place-ends (a .g .marks) (a .g .h) (a .first) y (a .k) (nodeAt (a .nodes .now) y) p q in
-    (s .pre .0 .0, (omega (arith, ends _ (subst (λ (n : ℕ). a .first ≤ n) (sym f) (from .0)) (subst (λ (n : ℕ). n < a .k) (sym f) (low .0))),
-    omega (arith, ends _ (subst (λ (n : ℕ). a .first ≤ n) (sym f′) (from .1)) (subst (λ (n : ℕ). n < a .k) (sym f′) (low .1))), omega (arith, s .pre .1 .1 .1 .1)))
+    let ends : (y : ℕ) → a .first ≤ y → y < a .k → _ = λ y p q. place-ends (a .g .marks) (a .g .h) (a .first) y (a .k) (nodeAt (a .nodes .now) y) p q in (
+      s .pre .0 .0,
+      (
+        omega (arith, ends _ (subst (λ (n : ℕ). a .first ≤ n) (sym f) (from .0)) (subst (λ (n : ℕ). n < a .k) (sym f) (low .0))),
+        omega (arith, ends _ (subst (λ (n : ℕ). a .first ≤ n) (sym f′) (from .1)) (subst (λ (n : ℕ). n < a .k) (sym f′) (low .1))),
+        omega (arith, s .pre .1 .1 .1 .1),
+      ),
+    )
 
 same-length-2 : tie.Need-same-length-2
 same-length-2 c = search needs

@@ -1,9 +1,9 @@
 use Prim.Native.Nat.{ℕ, _+_, _*_, _-_, _≤_, _<_}
-use mathlib.Core.Path.{_≡_, refl, sym, ap, _∙_}
+use mathlib.Core.Path.{_≡_, refl, sym, ap, subst, _∙_}
 use mathlib.Core.Bool.{Bool, true, false, cond}
 use mathlib.Core.List.{List}
-use native.Mathlib.Nat.{le-refl, mul-le-mul}
-use lib.Dec.{T, eqb, leb, leb→le, nleb→lt}
+use native.Mathlib.Nat.{le-refl}
+use lib.Dec.{eqb}
 use lib.ListN.{length}
 use Rattle.refusal.specs.Faults.{not-is}
 use Rattle.refusal.specs.Stages.{andThen}
@@ -15,12 +15,13 @@ use Rattle.grammar.specs.Grammar.{Clause}
 use Rattle.cltl.specs.Meaning.{Rows}
 use Rattle.cltl.specs.Rules.{hasNext}
 use Rattle.table.specs.Layout.{Constants, Shown}
-use Rattle.table.specs.Keeping.{table-ends, kept-constants, kept-shown}
+use Rattle.table.specs.Keeping.{kept-constants, kept-shown}
 use Rattle.drift.specs.Answer.{rowsOn}
 use Rattle.plancheck.specs.Lines.{accepted-short}
 use Rattle.plancheck.specs.LineHeld.{ready}
 use Rattle.plancheck.specs.Check.{marksAt, clauseVerdict}
 use Rattle.plancheck.specs.Marked.{placed, unborne, shown}
+use Rattle.plancheck.specs.Room.{last-room, no-room}
 use Rattle.plancheck.specs.Turns.{Going, going-end, going-16, going-on}
 use borrow.Author.Needs.{needs}
 use native.Mathlib.Omega.{arith}
@@ -33,19 +34,6 @@ bears floor carts h block i s k = bit k (marksAt floor (placeOnStep (heldNumbers
 
 abbrev rows : List ℕ → ℕ → Head → List ℕ → Rows
 rows floor carts h block = rowsOn carts (h .steps) (h .stem) (bears floor carts h block)
-
-is-so : (b : Bool) → b ≡ true → T b
-is-so b e = rw e tt
-
--- the tables of n nodes are within the block
-slot-room : (marks h n words : ℕ) → 0 < n → (marks + 2 + n) * h ≤ words → (marks + 2 + (n - 1 - 0)) * h + h ≤ words
-slot-room marks h n words p q = omega (arith, table-ends h (marks + 2 + (n - 1 - 0)) (marks + 2 + n) (omega arith))
-
--- a block for 128 nodes has room for a clause's
-no-room : (marks h n words before : ℕ) → n ≤ 128 → (marks + 2 + 128) * h ≤ before → words ≡ before → leb ((marks + 2 + n) * h) words ≡ false → ⊥
-no-room marks h n words before q r e f =
-    omega
-    (arith, nleb→lt ((marks + 2 + n) * h) words (rw f tt), mul-le-mul {n₁ = marks + 2 + n} {m₁ = h} {n₂ = marks + 2 + 128} {m₂ = h} (omega arith) (le-refl h))
 
 abbrev Inv-loop : tie.InvT-loop
 Inv-loop floor h block rules marks t₀ g nodes₀ found₀ at₀ n₀ t nodes found at n =
@@ -114,9 +102,11 @@ returns c =
     let a = s .args in
     let v = c .before .before .before .before .before .before .loop in
     let w =
-    ready (a .rules .now) (v .nodes) _ _ (v .at) (v .n) (c .before .before .before .before .before .loop-test .taken) (c .before .before .before .read-clause .ensures) (v .inv .4 .rest) (v .inv .4 .left) (v .inv .0) in
-    (v .inv .4, λ q. absurd (no-room _ _ _ _ _ (omega (arith, w .judge .ordered .room, w .judge .size, w .judge .some)) q
-    (v .inv .1 ∙ c .before .before .before .before .before .before .before .before .before .fill .ensures .kept) (sym (c .before .fits2 .ensures) ∙ not-is _ true (c .if1 .taken))))
+    ready (a .rules .now) (v .nodes) _ _ (v .at) (v .n) (c .before .before .before .before .before .loop-test .taken) (c .before .before .before .read-clause .ensures) (v .inv .4 .rest) (v .inv .4 .left) (v .inv .0) in (
+      v .inv .4,
+      λ q. absurd (no-room _ _ _ _ (omega (arith, w .judge .ordered .room, w .judge .size, w .judge .some))
+          (subst (λ (n : ℕ). (a .marks + 2 + 128) * a .h .steps ≤ n) (sym (v .inv .1 ∙ c .before .before .before .before .before .before .before .before .before .fill .ensures .kept)) q) (sym (c .before .fits2 .ensures) ∙ not-is _ true (c .if1 .taken))),
+    )
 
 sub-last : tie.Need-sub-last Inv-loop μ-loop
 sub-last c =
@@ -183,9 +173,9 @@ first-found-requires c κs =
     ready (a .rules .now) (v .nodes) _ _ (v .at) (v .n) (c .before .before .before .before .before .before .before .before .before .before .before .loop-test .taken) (c .before .before .before .before .before .before .before .before .before .read-clause .ensures) (v .inv .4 .rest) (v .inv .4 .left) (v .inv .0) in
     let r = s .pre .1 .0 .0 in
     let n = c .before .before .before .before .before .before .before .before .before .read-clause .result .n in
-    let room = leb→le ((a .marks + 2 + n) * a .h .steps) (length (v .t)) (is-so _ (sym (c .before .before .before .before .before .before .before .fits2 .ensures) ∙ not-is _ false (c .before .before .before .before .before .before .if1 .left))) in (
+    let fits = sym (c .before .before .before .before .before .before .before .fits2 .ensures) ∙ not-is _ false (c .before .before .before .before .before .before .if1 .left) in (
       ((record { some = s .pre .0 .valid .some-cart; few = s .pre .0 .valid .few-carts; lap = r .stem; steps = r .steps; drift = r .drift; marks = s .pre .1 .1 .1 .1 .0 .0 .few }), v .inv .2),
-      (w .judge .ordered, (omega (arith, w .judge .ordered .room, w .judge .size, w .judge .some), slot-room (a .marks) (a .h .steps) n (length (v .t)) (w .judge .some) room)),
+      (w .judge .ordered, (omega (arith, w .judge .ordered .room, w .judge .size, w .judge .some), last-room (a .marks) (a .h .steps) n (length (v .t)) (w .judge .some) fits)),
     )
 
 add-n : tie.Need-add-n Inv-loop μ-loop
