@@ -1,4 +1,1 @@
-pub mod Staying
-pub mod Rippling
-pub mod Spreading
 pub mod Doubling

@@ -45,17 +45,3 @@ module _ (a h l : ℕ) (low : a < 2 ^ h) (some : l < h) (few : h ≤ 64) where
   turned t e =
       subst (λ (x : ℕ). Row h (bitOr (a / 2) x) (λ s. on a (nextStep h l s))) (sym (ap (λ (x : ℕ). x * 2 ^ (h - 1) % 2 ^ 64) e ∙ last-fits))
       (record { low = or-lt h (a / 2) last (omega (arith, low)) last-lt; at = turns })
-
-module _ (h l : ℕ) (some : l < h) where
-  -- counters go on from the next step
-  pub on-from-next : (s i : ℕ) → s < h → stepOf h l (nextStep h l s + i) ≡ stepOf h l (s + suc i)
-  on-from-next s zero p =
-      let e : nextStep h l s + 0 ≡ nextStep h l s = omega arith in
-      let f : suc s ≡ s + 1 = omega arith in
-      ap (stepOf h l) e ∙ step-low h l (nextStep h l s) (next-below h l some s) ∙ ap (nextStep h l) (sym (step-low h l s p))
-      ∙ sym (step-next h l some s) ∙ ap (stepOf h l) f
-  on-from-next s (suc i) p =
-      let e : nextStep h l s + suc i ≡ suc (nextStep h l s + i) = omega arith in
-      let f : suc (s + suc i) ≡ s + suc (suc i) = omega arith in
-      ap (stepOf h l) e ∙ step-next h l some (nextStep h l s + i) ∙ ap (nextStep h l) (on-from-next s i p) ∙ sym (step-next h l some (s + suc i))
-      ∙ ap (stepOf h l) f

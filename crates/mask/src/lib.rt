@@ -1,16 +1,12 @@
 // Truth rows over a lasso of h steps, whose lap begins at l, as masks: bit s is the truth at step s.
-mod planes;
 mod until;
 
-pub use planes::add_row;
-pub use planes::reached;
-pub use planes::start_planes;
 pub use until::fix_row;
 pub use until::until_row;
 ghost use mathlib.Core.Bool.{true, not};
 ghost use Prim.Native.Nat.{ℕ, _<_, _≤_, _^_};
 ghost use Rattle.row.specs.Lasso.{nextStep};
-ghost use Rattle.cltl.specs.Rules.{join, window};
+ghost use Rattle.cltl.specs.Rules.{join};
 ghost use Rattle.mask.specs.Mask.{on, Row, signed};
 
 // True at every step.
@@ -61,21 +57,4 @@ pub fn next_row(a: u64, h: usize, l: usize) -> u64
 {
     let last = h - 1;
     (a >> 1) | (((a >> l) % 2) << last)
-}
-
-// What is true at a step and at the d counters after it.
-pub fn window_row(a: u64, h: usize, l: usize, d: usize) -> u64
-    requires { ⌜ (l < h) × (h ≤ 64) ⌝ }
-    requires { ⌜ a < 2 ^ h ⌝ }
-    ensures { λ r. ⌜ Row h r (window h l (on a) d) ⌝ }
-{
-    let mut here = a;
-    let mut all = a;
-    let mut left = d;
-    while 0 < left {
-        here = next_row(here, h, l);
-        all = here & all;
-        left -= 1;
-    }
-    all
 }
