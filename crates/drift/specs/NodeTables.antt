@@ -9,7 +9,7 @@ use Rattle.grammar.specs.Nodes.{Node, oneN, twoN}
 use Rattle.cltl.specs.Meaning.{Rows, Proper}
 use Rattle.cltl.specs.Basics.{lt-or-le}
 use Rattle.table.specs.Table.{told, Table, Kept}
-use Rattle.table.specs.Layout.{allAt, markAt, nodesAt, Constants, Shown}
+use Rattle.table.specs.Layout.{Constants, Shown}
 use Rattle.table.specs.Keeping.{kept-told}
 use Rattle.drift.specs.Tree.{kindAt, firstAt, secondAt, nodeAt, oneOf, twoOf, Ordered}
 use Rattle.drift.specs.Operator.{exactRule, twoRule}

@@ -1,11 +1,12 @@
 -- Where the tables of inner text lie, and the range of its nodes.
-use Prim.Native.Nat.{ℕ, _+_, _*_, _-_, _≤_, _<_, min}
+use Prim.Native.Nat.{ℕ, zero, suc, _+_, _*_, _-_, _≤_, _<_, min}
 use mathlib.Core.Bool.{Bool, cond}
+use lib.Dec.{ltb}
 use mathlib.Core.List.{List}
 use Rattle.grammar.specs.Nodes.{Node, topN, markN, countN, oneN, twoN}
 use Rattle.cltl.specs.Meaning.{Rows}
 use Rattle.table.specs.Layout.{allAt, noneAt, markAt}
-use Rattle.drift.specs.Tree.{nodeAt}
+use Rattle.drift.specs.Tree.{kindAt, firstAt, nodeAt}
 use Rattle.drift.specs.Answer.{InnerTable}
 
 module _ (marks h : ℕ) where
@@ -51,3 +52,19 @@ lowestOf first (markN m) = first
 lowestOf first (countN i m percent) = first
 lowestOf first (oneN o i) = min first i
 lowestOf first (twoN o i j) = min (min first i) j
+
+-- downwards from node k on, as long as it is in the text: where the text begins, where `first` is the lowest operand so far
+unfoldable pub startFrom : List ℕ → (k first : ℕ) → ℕ
+startFrom nodes zero first = first
+startFrom nodes (suc k) first = cond (ltb first (suc k)) (startFrom nodes k (lowestOf first (nodeAt nodes k))) first
+
+-- "operands come first, the text is a range of node numbers": the first of node k's text, and how many there are
+abbrev pub textStart : List ℕ → ℕ → ℕ
+textStart nodes k = startFrom nodes (k + 1) k
+
+abbrev pub textSize : List ℕ → ℕ → ℕ
+textSize nodes k = k + 1 - textStart nodes k
+
+-- a block of so many words has room for the text of each count among n nodes
+abbrev pub HasRoom : (marks h : ℕ) → List ℕ → (n words : ℕ) → Type 0
+HasRoom marks h nodes n words = (k : ℕ) → k < n → 10 ≤ kindAt nodes k → (marks + 2 + textSize nodes (firstAt nodes k)) * h ≤ words

@@ -1,6 +1,6 @@
 -- Where tables lie does not clash, and numbers of nodes go round a text.
-use Prim.Native.Nat.{ℕ, suc, _+_, _*_, _-_, _≤_, _<_, min}
-use mathlib.Core.Path.{_≡_, sym, ap, _∙_}
+use Prim.Native.Nat.{ℕ, zero, suc, _+_, _*_, _-_, _≤_, _<_, min}
+use mathlib.Core.Path.{_≡_, refl, sym, ap, _∙_}
 use mathlib.Core.Bool.{Bool, true, false}
 use mathlib.Core.List.{List}
 use mathlib.Core.Logic.{⊎-elim}
@@ -11,12 +11,12 @@ use borrow.Author.Tests.{lt-ltb, le-ltb}
 use Rattle.grammar.specs.Nodes.{Node, topN, markN, countN, oneN, twoN, Op₁, Op₂}
 use Rattle.cltl.specs.Basics.{lt-or-le}
 use Rattle.table.specs.Table.{told}
-use Rattle.table.specs.Layout.{allAt, noneAt, nodesAt, markAt, Constants}
+use Rattle.table.specs.Layout.{noneAt, nodesAt, markAt, Constants}
 use Rattle.table.specs.Keeping.{table-ends, all-ends, none-ends, mark-ends}
 use Rattle.drift.specs.Tree.{kindAt, firstAt, secondAt, thirdAt, nodeAt, oneOf, twoOf}
 use Rattle.drift.specs.declared.Ground.{Ground}
 use Rattle.drift.specs.Ground.{InRange}
-use Rattle.drift.specs.Places.{slotAt, placeOf, constantAt, OperandsFrom, lowestOf}
+use Rattle.drift.specs.Places.{slotAt, placeOf, constantAt, OperandsFrom, lowestOf, startFrom, HasRoom}
 use Rattle.drift.specs.Kinds.{kind-top, kind-mark, kind-one, kind-two, kind-count}
 
 -- so many tables are so many words at most
@@ -110,3 +110,21 @@ from-less first less (markN m) q f = tt
 from-less first less (countN i m percent) q f = tt
 from-less first less (oneN o i) q f = omega arith
 from-less first less (twoN o i j) q f = (omega (arith, f .0), omega (arith, f .1))
+
+-- one node further down, and the end
+pub start-on : (nodes : List ℕ) (k first : ℕ) → first < k → startFrom nodes k first ≡ startFrom nodes (k - 1) (lowestOf first (nodeAt nodes (k - 1)))
+unfolding startFrom
+start-on nodes zero first q = absurd (omega arith)
+start-on nodes (suc k) first q = let e : suc k - 1 ≡ k = omega arith in rw (lt-ltb first (suc k) q, e)
+
+pub start-ends : (nodes : List ℕ) (k first : ℕ) → k ≤ first → startFrom nodes k first ≡ first
+unfolding startFrom
+start-ends nodes zero first q = refl
+start-ends nodes (suc k) first q = rw (le-ltb first (suc k) q)
+
+-- the tables of a text end where its room does
+pub text-room : (marks h first k words : ℕ) → first ≤ k → (marks + 2 + (k + 1 - first)) * h ≤ words → slotAt marks h first k + h ≤ words
+text-room marks h first k words q r = omega (arith, table-ends h (marks + 2 + (k - first)) (marks + 2 + (k + 1 - first)) (omega arith))
+
+pub room-less : (marks h : ℕ) (nodes : List ℕ) (n m words : ℕ) → m ≤ n → HasRoom marks h nodes n words → HasRoom marks h nodes m words
+room-less marks h nodes n m words q f k p = f k (omega arith)

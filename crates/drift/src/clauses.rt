@@ -17,14 +17,14 @@ ghost use Rattle.table.specs.Table.{Kept};
 ghost use Rattle.table.specs.Layout.{nodesAt, Constants, Shown};
 ghost use Rattle.drift.specs.Tree.{Ordered, kindAt};
 ghost use Rattle.drift.specs.Ground.{InRange};
-ghost use Rattle.drift.specs.Places.{slotAt};
+ghost use Rattle.drift.specs.Places.{HasRoom};
 ghost use Rattle.drift.specs.Answer.{rowsOn, ClauseRow};
 
 // A count's row, or its negation's.
 fn leaf_row(nodes: &[u8], t: &mut [u32], g: Ground, p: bool, k: usize) -> u64
     requires { ⌜ InRange g × Constants (g .marks) (g .h) (now t) ⌝ }
     requires { ⌜ Ordered (now nodes) (k + 1) ⌝ }
-    requires { ⌜ (k < 128) × (slotAt (g .marks) (g .h) 0 k + g .h ≤ length (now t)) ⌝ }
+    requires { ⌜ (k < 128) × HasRoom (g .marks) (g .h) (now nodes) (k + 1) (length (now t)) ⌝ }
     requires { ⌜ 10 ≤ kindAt (now nodes) k ⌝ }
     ensures { λ _. ⌜ Kept (nodesAt (g .marks) (g .h)) (now (t .entry)) (now (t .exit)) ⌝ }
     ensures { λ r. ⌜ ((bears : ℕ → ℕ → ℕ → Bool) → Shown (g .marks) (g .carts) (g .h) bears (now (t .entry))
@@ -39,7 +39,7 @@ fn leaf_row(nodes: &[u8], t: &mut [u32], g: Ground, p: bool, k: usize) -> u64
 pub fn clause_row(nodes: &[u8], t: &mut [u32], g: Ground, p: bool, k: usize) -> u64
     requires { ⌜ InRange g × Constants (g .marks) (g .h) (now t) ⌝ }
     requires { ⌜ Ordered (now nodes) (k + 1) ⌝ }
-    requires { ⌜ (k < 128) × (slotAt (g .marks) (g .h) 0 k + g .h ≤ length (now t)) ⌝ }
+    requires { ⌜ (k < 128) × HasRoom (g .marks) (g .h) (now nodes) (k + 1) (length (now t)) ⌝ }
     ensures { λ _. ⌜ Kept (nodesAt (g .marks) (g .h)) (now (t .entry)) (now (t .exit)) ⌝ }
     ensures { λ r. ⌜ ((bears : ℕ → ℕ → ℕ → Bool) → Shown (g .marks) (g .carts) (g .h) bears (now (t .entry))
         → ClauseRow (rowsOn (g .carts) (g .h) (g .l) bears) (g .d) (now (nodes .entry)) p k r) ⌝ }

@@ -3,7 +3,7 @@ use crate::Ground;
 use crate::inner::inner_table;
 ghost use mathlib.Core.Path.{_≡_};
 ghost use mathlib.Core.Bool.{Bool};
-ghost use Prim.Native.Nat.{ℕ, _+_, _<_, _≤_};
+ghost use Prim.Native.Nat.{ℕ, _+_, _*_, _<_, _≤_};
 ghost use lib.ListN.{length};
 ghost use Rattle.cltl.specs.Threshold.{threshold as «threshold_of», quota as «quota_of»};
 ghost use Rattle.cltl.specs.Rules.{inner, quorum};
@@ -12,7 +12,7 @@ ghost use Rattle.table.specs.Table.{Kept};
 ghost use Rattle.table.specs.Layout.{nodesAt, Constants, Shown};
 ghost use Rattle.drift.specs.Tree.{Ordered, innerTree};
 ghost use Rattle.drift.specs.Ground.{InRange};
-ghost use Rattle.drift.specs.Places.{slotAt};
+ghost use Rattle.drift.specs.Places.{textSize};
 ghost use Rattle.drift.specs.Answer.{rowsOn};
 
 // The number of carts that a count over so many carts asks for: a share is rounded to the nearest, a half going up.
@@ -42,7 +42,7 @@ pub fn quota(p: bool, m: usize, size: usize) -> usize
 pub fn count_row(nodes: &[u8], t: &mut [u32], g: Ground, p: bool, m: usize, x: usize) -> u64
     requires { ⌜ InRange g × Constants (g .marks) (g .h) (now t) ⌝ }
     requires { ⌜ Ordered (now nodes) (x + 1) ⌝ }
-    requires { ⌜ (x < 128) × (slotAt (g .marks) (g .h) 0 x + g .h ≤ length (now t)) ⌝ }
+    requires { ⌜ (x < 128) × ((g .marks + 2 + textSize (now nodes) x) * g .h ≤ length (now t)) ⌝ }
     ensures { λ _. ⌜ Kept (nodesAt (g .marks) (g .h)) (now (t .entry)) (now (t .exit)) ⌝ }
     ensures { λ r. ⌜ ((bears : ℕ → ℕ → ℕ → Bool) → Shown (g .marks) (g .carts) (g .h) bears (now (t .entry)) → Row (g .h) r (quorum (g .h) (g .l) (g .carts) (g .d) m
         (λ i. inner (rowsOn (g .carts) (g .h) (g .l) bears) i p (innerTree (now (nodes .entry)) (length (now (nodes .entry))) x)))) ⌝ }

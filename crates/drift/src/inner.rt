@@ -8,13 +8,13 @@ use crate::tables::one_table;
 use crate::tables::two_table;
 ghost use mathlib.Core.Path.{_≡_};
 ghost use mathlib.Core.Bool.{Bool};
-ghost use Prim.Native.Nat.{ℕ, _+_, _≤_, _<_, min};
+ghost use Prim.Native.Nat.{ℕ, _+_, _*_, _≤_, _<_, min, max};
 ghost use lib.ListN.{length};
 ghost use Rattle.table.specs.Table.{Kept};
 ghost use Rattle.table.specs.Layout.{nodesAt, markAt, Constants, Shown};
-ghost use Rattle.drift.specs.Tree.{Ordered, nodeAt};
+ghost use Rattle.drift.specs.Tree.{Ordered, kindAt, firstAt, nodeAt};
 ghost use Rattle.drift.specs.Ground.{InRange};
-ghost use Rattle.drift.specs.Places.{slotAt, tableAt, TablesBelow, lowestOf, Range};
+ghost use Rattle.drift.specs.Places.{slotAt, tableAt, TablesBelow, lowestOf, Range, textStart, textSize};
 ghost use Rattle.drift.specs.Answer.{rowsOn, InnerTable};
 
 fn smaller(a: usize, b: usize) -> usize
@@ -45,7 +45,7 @@ fn lowest(nodes: &[u8], k: usize, first: usize) -> usize
 // Where the text of node `last` begins.
 fn text_start(nodes: &[u8], last: usize) -> usize
     requires { ⌜ Ordered (now nodes) (last + 1) ⌝ }
-    ensures { λ r. ⌜ (r ≤ last) × Range (now (nodes .entry)) r last ⌝ }
+    ensures { λ r. ⌜ (r ≡ textStart (now (nodes .entry)) last) × (r ≤ last) × Range (now (nodes .entry)) r last ⌝ }
 {
     let mut first = last;
     let mut k = last + 1;
@@ -146,7 +146,7 @@ fn make_tables(nodes: &[u8], t: &mut [u32], g: Ground, first: usize, last: usize
 pub fn inner_table(nodes: &[u8], t: &mut [u32], g: Ground, k: usize) -> usize
     requires { ⌜ InRange g × Constants (g .marks) (g .h) (now t) ⌝ }
     requires { ⌜ Ordered (now nodes) (k + 1) ⌝ }
-    requires { ⌜ (k < 128) × (slotAt (g .marks) (g .h) 0 k + g .h ≤ length (now t)) ⌝ }
+    requires { ⌜ (k < 128) × ((g .marks + 2 + textSize (now nodes) k) * g .h ≤ length (now t)) ⌝ }
     ensures { λ _. ⌜ Kept (nodesAt (g .marks) (g .h)) (now (t .entry)) (now (t .exit)) ⌝ }
     ensures { λ r. ⌜ (r + g .h ≤ length (now (t .exit))) × ((bears : ℕ → ℕ → ℕ → Bool) → Shown (g .marks) (g .carts) (g .h) bears (now (t .entry))
         → InnerTable (rowsOn (g .carts) (g .h) (g .l) bears) (now (nodes .entry)) k (now (t .exit)) r) ⌝ }
@@ -154,4 +154,36 @@ pub fn inner_table(nodes: &[u8], t: &mut [u32], g: Ground, k: usize) -> usize
     let first = text_start(nodes, k);
     make_tables(nodes, t, g, first, k);
     table_at(nodes, g, first, k)
+}
+
+// How many nodes the text of a count has, if node k is one.
+fn count_size(nodes: &[u8], k: usize) -> usize
+    requires { ⌜ Ordered (now nodes) (k + 1) ⌝ }
+    ensures { λ r. ⌜ (r ≤ k) × (10 ≤ kindAt (now (nodes .entry)) k → r ≡ textSize (now (nodes .entry)) (firstAt (now (nodes .entry)) k)) ⌝ }
+{
+    if kind_at(nodes, k) < 10 {
+        return 0;
+    }
+    let x = first_at(nodes, k);
+    x + 1 - text_start(nodes, x)
+}
+
+fn larger(a: usize, b: usize) -> usize
+    ensures { λ r. ⌜ r ≡ max a b ⌝ }
+{
+    if a < b { b } else { a }
+}
+
+// The most nodes that the text of a count has among n nodes.
+pub fn longest_text(nodes: &[u8], n: usize) -> usize
+    requires { ⌜ Ordered (now nodes) n ⌝ }
+    ensures { λ r. ⌜ (r ≤ n) × ((k : ℕ) → k < n → 10 ≤ kindAt (now (nodes .entry)) k → textSize (now (nodes .entry)) (firstAt (now (nodes .entry)) k) ≤ r) ⌝ }
+{
+    let mut most = 0;
+    let mut k = 0;
+    while k < n {
+        most = larger(most, count_size(nodes, k));
+        k += 1;
+    }
+    most
 }

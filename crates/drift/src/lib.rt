@@ -8,6 +8,7 @@ mod refused;
 mod tables;
 
 pub use clauses::clause_row;
+pub use inner::longest_text;
 pub use refused::failing_step;
 pub use refused::has_next;
 

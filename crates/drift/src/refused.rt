@@ -15,7 +15,7 @@ ghost use Rattle.table.specs.Table.{Kept};
 ghost use Rattle.table.specs.Layout.{nodesAt, Constants, Shown};
 ghost use Rattle.drift.specs.Tree.{Ordered, clauseTree};
 ghost use Rattle.drift.specs.Ground.{InRange};
-ghost use Rattle.drift.specs.Places.{slotAt};
+ghost use Rattle.drift.specs.Places.{HasRoom};
 ghost use Rattle.drift.specs.Answer.{rowsOn};
 
 // Whether "next" stands outside the counts of node k's clause.
@@ -59,7 +59,7 @@ fn lowest_off(a: u64, h: usize) -> usize
 pub fn failing_step(nodes: &[u8], t: &mut [u32], g: Ground, k: usize) -> usize
     requires { ⌜ InRange g × Constants (g .marks) (g .h) (now t) ⌝ }
     requires { ⌜ Ordered (now nodes) (k + 1) ⌝ }
-    requires { ⌜ (k < 128) × (slotAt (g .marks) (g .h) 0 k + g .h ≤ length (now t)) ⌝ }
+    requires { ⌜ (k < 128) × HasRoom (g .marks) (g .h) (now nodes) (k + 1) (length (now t)) ⌝ }
     ensures { λ _. ⌜ Kept (nodesAt (g .marks) (g .h)) (now (t .entry)) (now (t .exit)) ⌝ }
     ensures { λ r. ⌜ ((bears : ℕ → ℕ → ℕ → Bool) → Shown (g .marks) (g .carts) (g .h) bears (now (t .entry)) → (n : ℕ) → k < n
         → r ≡ failing (rowsOn (g .carts) (g .h) (g .l) bears) (g .d) (clauseTree (now (nodes .entry)) n k)) × (r ≤ 64) ⌝ }

@@ -1,13 +1,13 @@
 -- The row of what comes a step later.
-use Prim.Native.Nat.{ℕ, zero, suc, _+_, _*_, _-_, _/_, _%_, _^_, _≤_, _<_}
+use Prim.Native.Nat.{ℕ, suc, _+_, _*_, _-_, _/_, _%_, _^_, _≤_, _<_}
 use mathlib.Core.Path.{_≡_, sym, ap, ap₂, subst, _∙_}
 use mathlib.Core.Bool.{Bool, _||_, or-false}
 use native.Mathlib.Omega.{arith}
 use native.Mathlib.Nat.{mod-eq-of-lt}
 use lib.Bits.{bitOr, or-lt}
 use lib.Pow.{pow-mono, shl-lt}
-use Rattle.row.specs.Lasso.{nextStep, stepOf}
-use Rattle.row.specs.Round.{pick, next-low, next-last, next-below, step-low, step-next}
+use Rattle.row.specs.Lasso.{nextStep}
+use Rattle.row.specs.Round.{pick, next-low, next-last}
 use Rattle.mask.specs.Mask.{on, Row}
 use Rattle.mask.specs.EachBit.{on-or, on-shr, on-beyond, on-moved, on-under}
 

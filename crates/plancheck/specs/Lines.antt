@@ -124,10 +124,6 @@ pub accepted-short : (s : List ℕ) → rulesVerdict s ≡ Accepted → length s
 unfolding rulesVerdict
 accepted-short s e = promises s .sound (clausesOf (readSheet s)) (sheet-read (readSheet s) e) .short
 
-pub accepted-good : (s : List ℕ) → rulesVerdict s ≡ Accepted → All Good (clausesOf (readSheet s))
-unfolding rulesVerdict
-accepted-good s e = let a = promises s .sound (clausesOf (readSheet s)) (sheet-read (readSheet s) e) in fits-good (a .sheet) (a .fits)
-
 ---- From the first line on.
 module _ (s : List ℕ) where
   abbrev From : List Clause → Type 0

@@ -4,7 +4,7 @@ use native.Mathlib.Omega.{arith}
 use native.Mathlib.Numerals.{add-one}
 use mathlib.Core.Path.{_≡_, refl, sym, ap, ap₂, _∙_}
 use mathlib.Core.Bool.{Bool, true, false, cond}
-use mathlib.Core.List.{List, [], _∷_}
+use mathlib.Core.List.{List, _∷_}
 use lib.Dec.{eqb}
 use borrow.Author.Tests.{eq-eqb, ne-eqb}
 use Rattle.refusal.specs.Codes.{refused}
@@ -12,7 +12,6 @@ use Rattle.refusal.specs.Stages.{isAccepted, andThen}
 use Rattle.refusal.specs.Accepting.{accepted-is}
 use Rattle.refusal.specs.declared.Verdict.{Verdict}
 use Rattle.refusal.specs.declared.Verdict.the-variants.{Accepted, Rules as AboutRules}
-use Rattle.record.specs.All.{All}
 use Rattle.grammar.specs.Grammar.{Clause}
 use Rattle.grammar.specs.Reader.{readSheet}
 use Rattle.sheet.specs.Rules.{rulesVerdict}
@@ -22,7 +21,7 @@ use Rattle.cltl.specs.Rules.{rules, hasNext}
 use Rattle.cltl.specs.Step.{failing}
 use Rattle.mask.specs.Mask.{on, Row}
 use Rattle.plancheck.specs.Check.{clauseVerdict, clausesOf, nextVerdict, keptVerdict, clausesVerdict}
-use Rattle.plancheck.specs.Lines.{Good, Left, Line, all-left, none-left}
+use Rattle.plancheck.specs.Lines.{Left, Line, all-left, none-left}
 use lib.ListN.{length}
 use Prim.Native.Nat.{_≤_}
 

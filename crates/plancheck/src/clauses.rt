@@ -17,7 +17,7 @@ ghost use Rattle.table.specs.Layout.{nodesAt, Constants, Shown};
 ghost use Rattle.marks.specs.Bears.{Borne};
 ghost use Rattle.drift.specs.Tree.{Ordered, clauseTree};
 ghost use Rattle.drift.specs.Ground.{InRange};
-ghost use Rattle.drift.specs.Places.{slotAt};
+ghost use Rattle.drift.specs.Places.{HasRoom};
 ghost use Rattle.drift.specs.Answer.{rowsOn};
 ghost use Rattle.floor.specs.Promises.{AcceptedFloor};
 ghost use Rattle.plan.specs.Plan.{placeOnStep, heldNumbers};
@@ -49,7 +49,7 @@ pub struct Reached {
 fn first_found(found: Verdict, nodes: &[u8], t: &mut [u32], g: Ground, k: usize, n: u32) -> Verdict
     requires { ⌜ InRange g × Constants (g .marks) (g .h) (now t) ⌝ }
     requires { ⌜ Ordered (now nodes) (k + 1) ⌝ }
-    requires { ⌜ (k < 128) × (slotAt (g .marks) (g .h) 0 k + g .h ≤ length (now t)) ⌝ }
+    requires { ⌜ (k < 128) × HasRoom (g .marks) (g .h) (now nodes) (k + 1) (length (now t)) ⌝ }
     ensures { λ _. ⌜ Kept (nodesAt (g .marks) (g .h)) (now (t .entry)) (now (t .exit)) ⌝ }
     ensures { λ v. ⌜ ((bears : ℕ → ℕ → ℕ → Bool) → Shown (g .marks) (g .carts) (g .h) bears (now (t .entry)) → (m : ℕ) → k < m → v ≡ andThen found
         (clauseVerdict (rowsOn (g .carts) (g .h) (g .l) bears) (g .d) n (clauseTree (now (nodes .entry)) m k))) ⌝ }

@@ -6,7 +6,6 @@ use mathlib.Core.List.{List}
 use native.Mathlib.Omega.{arith}
 use native.Mathlib.Nat.{suc-mul, mul-le-mul, le-refl}
 use lib.Dec.{T, ltb, ltb→lt}
-use lib.ListN.{length}
 use Rattle.mask.specs.Mask.{on}
 use Rattle.table.specs.Table.{told, Stored, Kept}
 use Rattle.table.specs.Layout.{allAt, noneAt, nodesAt, markAt, Constants, Shown}

@@ -1,11 +1,10 @@
 -- The tables that passes over the steps leave.
 use Prim.Native.Nat.{ℕ, zero, suc, _+_, _-_, _≤_, _<_}
-use mathlib.Core.Path.{_≡_, refl, sym, ap, ap₂, _∙_}
+use mathlib.Core.Path.{_≡_, ap, _∙_}
 use mathlib.Core.Bool.{Bool, not}
 use mathlib.Core.List.{List}
 use native.Mathlib.Omega.{arith}
-use lib.ListN.{getD}
-use Rattle.cltl.specs.Rules.{mix, fix}
+use Rattle.cltl.specs.Rules.{fix}
 use Rattle.mask.specs.Mask.{on}
 use Rattle.table.specs.Table.{told, Word, Stored, Table}
 use Rattle.table.specs.Straight.{straight}

@@ -1,6 +1,6 @@
 -- One word, bit by bit.
-use Prim.Native.Nat.{ℕ, _-_, _^_, _<_}
-use mathlib.Core.Path.{_≡_, ap, ap₂, _∙_}
+use Prim.Native.Nat.{ℕ, _-_, _^_}
+use mathlib.Core.Path.{ap, _∙_}
 use mathlib.Core.Bool.{Bool, true, false, not, xor, _&&_, _||_}
 use lib.Bits.{bitAnd, bitOr, bitXor}
 use Rattle.cltl.specs.Rules.{join, mix}

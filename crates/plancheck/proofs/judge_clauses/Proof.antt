@@ -1,6 +1,5 @@
-use mathlib.Core.Path.{_≡_, sym, subst, _∙_}
+use mathlib.Core.Path.{subst}
 use mathlib.Core.Bool.{Bool}
-use Rattle.refusal.specs.Faults.{not-is}
 use Rattle.row.specs.FloorBytes.{file-length}
 use Rattle.plan.specs.Plan.{heldNumbers}
 use Rattle.plancheck.specs.Check.{planRows}

@@ -1,4 +1,4 @@
-use mathlib.Core.Path.{_≡_, sym, subst, _∙_}
+use mathlib.Core.Path.{sym, subst, _∙_}
 use mathlib.Core.Bool.{Bool}
 use Rattle.plan.specs.Plan.{heldNumbers}
 use Rattle.plancheck.specs.Check.{planRows}

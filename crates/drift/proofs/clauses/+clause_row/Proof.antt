@@ -1,6 +1,6 @@
 use Prim.Native.Nat.{ℕ, _+_, _<_}
 use native.Mathlib.Omega.{arith}
-use mathlib.Core.Path.{refl, _∙_}
+use mathlib.Core.Path.{refl, sym, subst, _∙_}
 use native.Mathlib.Nat.{le-refl}
 use Rattle.drift.specs.Tree.{oneOf}
 use Rattle.drift.specs.Operator.{under}
@@ -8,7 +8,8 @@ use Rattle.table.specs.Keeping.{kept-all, kept-then, kept-constants, kept-shown
 use Rattle.drift.specs.Answer.{rowsOn, ClauseRow}
 use Rattle.drift.specs.Judged.{ordered-less}
 use Rattle.drift.specs.NodeTruth.{first-low, two-low}
-use Rattle.drift.specs.Placing.{slot-low}
+use Rattle.drift.specs.Placing.{room-less}
+use Rattle.drift.specs.Places.{HasRoom}
 use Rattle.drift.specs.ClauseRows.{clause-top, clause-one, clause-two}
 use borrow.Fn.Kinds.{In}
 use borrow.Fn.PlainCycle.{Measures, is, falls, and}
@@ -81,11 +82,11 @@ clause-row-clause-row-requires t c κs =
     let k = c .before .before .before .before .before .kind-at .ensures in
     let f = c .before .before .first-at .ensures in
     let low = first-low (a .nodes .now) (a .k) (s .pre .1 .1 .0) (omega (arith, c .before .before .before .if2 .left)) in
-    let room = slot-low (a .g .marks) (a .g .h) 0 (c .before .before .first-at .result) (a .k) (omega arith) in (
+    let room = room-less (a .g .marks) (a .g .h) (a .nodes .now) (a .k + 1) (c .before .before .first-at .result + 1) _ (omega arith) (s .pre .1 .1 .1 .1) in (
       omega (arith, s .pre .0),
       (
         s .pre .1 .0,
-        (ordered-less (a .nodes .now) (a .k + 1) _ (omega arith) (s .pre .1 .1 .0), (omega (arith, s .pre .1 .1 .1 .0), omega (arith, s .pre .1 .1 .1 .1))),
+        (ordered-less (a .nodes .now) (a .k + 1) _ (omega arith) (s .pre .1 .1 .0), (omega (arith, s .pre .1 .1 .1 .0), room)),
       ),
     )
 
@@ -120,14 +121,14 @@ clause-row-clause-row-requires-2 t c κs =
     let k = c .before .before .before .before .before .before .before .before .before .before .before .kind-at .ensures in
     let f = c .second-at .ensures in
     let low = two-low (a .nodes .now) (a .k) (s .pre .1 .1 .0) (omega (arith, c .before .before .if3 .left)) (omega (arith, c .before .before .before .before .before .before .before .before .before .before .if1 .left)) .1 in
-    let room = slot-low (a .g .marks) (a .g .h) 0 (c .second-at .result) (a .k) (omega arith) in
+    let room = room-less (a .g .marks) (a .g .h) (a .nodes .now) (a .k + 1) (c .second-at .result + 1) _ (omega arith) (s .pre .1 .1 .1 .1) in
     let kept = c .before .before .before .before .before .clause-row .ensures .0 in (
       omega (arith, s .pre .0),
       (
         (s .pre .1 .0 .0, kept-constants (a .g .marks) (a .g .h) (a .t .now) _ kept (s .pre .1 .0 .1)),
         (
           ordered-less (a .nodes .now) (a .k + 1) _ (omega arith) (s .pre .1 .1 .0),
-          (omega (arith, s .pre .1 .1 .1 .0), omega (arith, s .pre .1 .1 .1 .1, kept .size)),
+          (omega (arith, s .pre .1 .1 .1 .0), subst (HasRoom (a .g .marks) (a .g .h) (a .nodes .now) _) (sym (kept .size)) room),
         ),
       ),
     )

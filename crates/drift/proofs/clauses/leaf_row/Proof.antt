@@ -1,5 +1,5 @@
-use mathlib.Core.Path.{_≡_, refl, sym, ap, subst, _∙_}
-use Prim.Native.Nat.{ℕ, _+_}
+use mathlib.Core.Path.{sym, ap, subst, _∙_}
+use Prim.Native.Nat.{ℕ, _+_, _*_, _≤_}
 use lib.ListN.{length}
 use Rattle.cltl.specs.Threshold.{quota}
 use Rattle.cltl.specs.Rules.{inner, quorum}
@@ -8,7 +8,7 @@ use Rattle.drift.specs.Tree.{innerTree}
 use Rattle.drift.specs.Answer.{rowsOn}
 use Rattle.drift.specs.Judged.{ordered-less}
 use Rattle.drift.specs.NodeTruth.{count-low}
-use Rattle.drift.specs.Placing.{slot-low}
+use Rattle.drift.specs.Places.{textSize}
 use Rattle.drift.specs.ClauseRows.{clause-count}
 use native.Mathlib.Omega.{arith}
 use borrow.Author.Needs.{needs}
@@ -37,9 +37,9 @@ count-row-requires c κs =
     let a = s .args in
     let f = c .first-at .ensures in
     let low = count-low (a .nodes .now) (a .k) (s .pre .1 .0) (s .pre .1 .1 .1) in
-    let room = slot-low (a .g .marks) (a .g .h) 0 (c .first-at .result) (a .k) (omega arith) in (
+    let room = s .pre .1 .1 .0 .1 (a .k) (omega arith) (s .pre .1 .1 .1) in (
       s .pre .0,
-      (ordered-less (a .nodes .now) (a .k + 1) _ (omega arith) (s .pre .1 .0), (omega (arith, s .pre .1 .1 .0 .0), omega (arith, s .pre .1 .1 .0 .1))),
+      (ordered-less (a .nodes .now) (a .k + 1) _ (omega arith) (s .pre .1 .0), (omega (arith, s .pre .1 .1 .0 .0), subst (λ (x : ℕ). (a .g .marks + 2 + textSize (a .nodes .now) x) * a .g .h ≤ length (a .t .now)) (sym f) room)),
     )
 
 same-length : tie.Need-same-length

@@ -1,4 +1,3 @@
-use mathlib.Core.Path.{_≡_, refl, sym, ap, subst, _∙_}
 use Rattle.drift.specs.Answer.{rowsOn}
 use Rattle.drift.specs.InnerTables.{count-signed}
 use native.Mathlib.Omega.{arith}

@@ -1,5 +1,5 @@
-use mathlib.Core.Path.{_≡_, refl, sym, ap, ap₂, subst, _∙_}
-use Prim.Native.Nat.{ℕ, min}
+use mathlib.Core.Path.{refl, ap, ap₂, _∙_}
+use Prim.Native.Nat.{min}
 use Rattle.drift.specs.Places.{lowestOf}
 use Rattle.drift.specs.Placing.{of-leaf, of-count, of-one, of-two}
 use native.Mathlib.Omega.{arith}

@@ -1,16 +1,13 @@
-use mathlib.Core.Path.{_≡_, refl, sym, ap, subst, _∙_}
-use Prim.Native.Nat.{ℕ, _+_, _-_, _≤_, _<_}
+use Prim.Native.Nat.{ℕ, _+_, _-_, _≤_}
 use mathlib.Core.Bool.{Bool}
-use Rattle.cltl.specs.Meaning.{Rows, Proper}
-use Rattle.table.specs.Layout.{nodesAt, Constants, Shown}
-use Rattle.table.specs.Keeping.{kept-all, kept-then, stored-keeps, kept-constants, kept-shown}
+use Rattle.table.specs.Layout.{nodesAt, Shown}
+use Rattle.table.specs.Keeping.{kept-all, kept-then, kept-constants, kept-shown}
 use Rattle.drift.specs.Judged.{ordered-less}
 use Rattle.drift.specs.Answer.{rowsOn}
-use Rattle.drift.specs.Places.{slotAt, TablesBelow}
+use Rattle.drift.specs.Places.{TablesBelow}
 use Rattle.table.specs.Table.{Kept}
 use Rattle.drift.specs.Placing.{nodes-low, slot-low}
 use Rattle.drift.specs.NodeTables.{one-more}
-use borrow.Author.Needs.{needs}
 use native.Mathlib.Omega.{arith}
 use Rattle.drift.proofs.inner.make_tables.Statement.{statement}
 use Rattle.drift.proofs.inner.make_tables.Tie as tie

@@ -1,4 +1,4 @@
-use mathlib.Core.Path.{_≡_, refl, sym, ap, subst, _∙_}
+use mathlib.Core.Path.{_∙_}
 use Rattle.drift.specs.Placing.{at-most, mark-low, mark-high}
 use native.Mathlib.Omega.{arith}
 use borrow.Author.Needs.{needs}

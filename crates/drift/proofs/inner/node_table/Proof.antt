@@ -1,14 +1,10 @@
-use mathlib.Core.Path.{_≡_, refl, sym, ap, subst, _∙_}
+use mathlib.Core.Path.{sym, subst}
 use Prim.Native.Nat.{ℕ, _+_, _-_, _≤_, _<_}
-use mathlib.Core.Bool.{Bool}
-use Rattle.cltl.specs.Meaning.{Rows, Proper}
-use Rattle.table.specs.Layout.{nodesAt, Constants, Shown}
-use Rattle.table.specs.Keeping.{kept-all, kept-then, stored-keeps, kept-constants, kept-shown}
+use Rattle.table.specs.Keeping.{kept-all, stored-keeps}
 use Rattle.drift.specs.Judged.{ordered-less}
 use Rattle.drift.specs.Answer.{rowsOn}
-use Rattle.drift.specs.Places.{slotAt, TablesBelow}
 use Rattle.drift.specs.NodeTruth.{first-low, two-low}
-use Rattle.drift.specs.Placing.{nodes-low, place-ends, slot-low}
+use Rattle.drift.specs.Placing.{nodes-low, place-ends}
 use Rattle.drift.specs.NodeTables.{first-from, two-from, leaf-table, count-table, one-table, two-table, table-moved}
 use Rattle.drift.specs.Tree.{nodeAt}
 use native.Mathlib.Omega.{arith}

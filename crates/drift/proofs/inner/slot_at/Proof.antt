@@ -1,8 +1,7 @@
-use mathlib.Core.Path.{_≡_, refl, sym, ap, subst, _∙_}
+use mathlib.Core.Path.{refl}
 use Prim.Native.Nat.{_+_, _-_}
 use Rattle.drift.specs.Placing.{at-most}
 use native.Mathlib.Omega.{arith}
-use borrow.Author.Needs.{needs}
 use Rattle.drift.proofs.inner.slot_at.Statement.{statement}
 use Rattle.drift.proofs.inner.slot_at.Tie as tie
 

@@ -1,4 +1,4 @@
-use mathlib.Core.Path.{_≡_, refl, sym, ap, subst, _∙_}
+use mathlib.Core.Path.{refl, ap, _∙_}
 use Rattle.drift.specs.Places.{placeOf}
 use Rattle.drift.specs.Placing.{of-top, of-mark, of-count, of-operator}
 use Rattle.drift.specs.NodeTruth.{two-or-more}

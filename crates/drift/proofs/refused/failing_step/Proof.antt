@@ -1,4 +1,4 @@
-use mathlib.Core.Path.{_≡_, refl, sym, ap, subst, _∙_}
+use mathlib.Core.Path.{sym, _∙_}
 use Prim.Native.Nat.{_+_}
 use Rattle.cltl.specs.Rules.{rules}
 use Rattle.cltl.specs.Agree.{lowest-agrees}
@@ -6,7 +6,7 @@ use Rattle.table.specs.Keeping.{kept-all}
 use Rattle.drift.specs.Answer.{rowsOn}
 use Rattle.drift.specs.Judged.{ordered-less}
 use Rattle.drift.specs.NodeTruth.{first-low}
-use Rattle.drift.specs.Placing.{slot-low}
+use Rattle.drift.specs.Placing.{room-less}
 use Rattle.drift.specs.Trees.{globally-step, other-step}
 use native.Mathlib.Omega.{arith}
 use borrow.Author.Needs.{needs}
@@ -27,9 +27,9 @@ clause-row-requires c κs =
     let e = sym (c .before .before .before .kind-at .ensures) ∙ c .before .before .if1 .taken in
     let f = c .first-at .ensures in
     let low = first-low (a .nodes .now) (a .k) (s .pre .1 .0) (omega arith) in
-    let room = slot-low (a .g .marks) (a .g .h) 0 (c .first-at .result) (a .k) (omega arith) in (
+    let room = room-less (a .g .marks) (a .g .h) (a .nodes .now) (a .k + 1) (c .first-at .result + 1) _ (omega arith) (s .pre .1 .1 .1) in (
       s .pre .0,
-      (ordered-less (a .nodes .now) (a .k + 1) _ (omega arith) (s .pre .1 .0), (omega (arith, s .pre .1 .1 .0), omega (arith, s .pre .1 .1 .1))),
+      (ordered-less (a .nodes .now) (a .k + 1) _ (omega arith) (s .pre .1 .0), (omega (arith, s .pre .1 .1 .0), room)),
     )
 
 lowest-off-requires : tie.Need-lowest-off-requires

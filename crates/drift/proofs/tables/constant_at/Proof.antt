@@ -1,10 +1,9 @@
 use Prim.Native.Nat.{_+_, _*_}
-use mathlib.Core.Path.{_≡_, refl, sym, ap, subst, _∙_}
+use mathlib.Core.Path.{_≡_, refl, sym, subst}
 use mathlib.Core.Bool.{Bool}
 use Rattle.drift.specs.Places.{constantAt}
 use Rattle.drift.specs.Placing.{at-most}
 use native.Mathlib.Omega.{arith}
-use borrow.Author.Needs.{needs}
 use Rattle.drift.proofs.tables.constant_at.Statement.{statement}
 use Rattle.drift.proofs.tables.constant_at.Tie as tie
 

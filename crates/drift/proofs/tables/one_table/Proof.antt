@@ -1,5 +1,4 @@
 use lib.Dec.{eqb}
-use mathlib.Core.Path.{_≡_, refl, sym, ap, subst, _∙_}
 use Rattle.drift.specs.OperatorTables.{negated-table, later-table, ever-table}
 use Rattle.drift.specs.Placing.{constant-ends, constant-told}
 use native.Mathlib.Omega.{arith}

@@ -1,4 +1,3 @@
-use mathlib.Core.Path.{_≡_, refl, sym, ap, subst, _∙_}
 use Rattle.drift.specs.OperatorTables.{both-table, either-table, reach-table}
 use borrow.Author.Needs.{needs}
 use Rattle.drift.proofs.tables.two_table.Statement.{statement}

@@ -4,7 +4,6 @@ use native.Mathlib.Nat.{le-refl}
 use Rattle.refusal.specs.Faults.{not-is}
 use Rattle.refusal.specs.Accepting.{stops, goes-on}
 use Rattle.refusal.specs.declared.Verdict.the-variants.{Rules as AboutRules}
-use Rattle.cltl.specs.Meaning.{Rows}
 use Rattle.cltl.specs.Rules.{rules}
 use Rattle.table.specs.Keeping.{kept-all, kept-then, kept-constants, kept-shown}
 use Rattle.drift.specs.Tree.{clauseTree}

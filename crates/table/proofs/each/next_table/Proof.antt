@@ -1,7 +1,6 @@
 use Prim.Native.Nat.{ℕ, _+_, _-_, _≤_, _<_}
-use mathlib.Core.Path.{_≡_, refl, sym, ap, ap₂, subst, _∙_}
+use mathlib.Core.Path.{_≡_, refl, ap, subst, _∙_}
 use lib.ListN.{getD, length, set, length-set}
-use mathlib.Core.Bool.{not}
 use mathlib.Core.List.{List}
 use Rattle.row.specs.Lasso.{nextStep}
 use Rattle.row.specs.Round.{next-low, next-last}

@@ -1,6 +1,6 @@
 use Prim.Native.Nat.{ℕ, _+_, _-_, _≤_, _<_}
-use mathlib.Core.Path.{_≡_, refl, sym, ap, ap₂, subst, _∙_}
-use lib.ListN.{getD, length}
+use mathlib.Core.Path.{_≡_, refl, subst}
+use lib.ListN.{length}
 use Rattle.table.specs.Table.{Stored}
 use Rattle.table.specs.Storing.{begun, upward}
 use native.Mathlib.Omega.{arith}
