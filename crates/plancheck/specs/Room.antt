@@ -1,13 +1,17 @@
 -- The room that tables need, by the test for it.
 use Prim.Native.Nat.{ℕ, _+_, _*_, _-_, _≤_, _<_}
 use mathlib.Core.Path.{_≡_}
-use mathlib.Core.Bool.{true, false}
+use mathlib.Core.Bool.{true}
+use mathlib.Core.List.{List}
 use native.Mathlib.Omega.{arith}
 use native.Mathlib.Nat.{le-refl, mul-le-mul}
-use lib.Dec.{leb, leb→le, nleb→lt}
+use lib.Dec.{leb, leb→le}
+use borrow.Author.Tests.{le-leb}
 use Rattle.table.specs.Layout.{nodesAt}
-use Rattle.table.specs.Keeping.{table-ends}
-use Rattle.drift.specs.Places.{slotAt}
+use Rattle.drift.specs.Tree.{Ordered, kindAt, firstAt}
+use Rattle.drift.specs.Places.{textSize, HasRoom}
+use Rattle.drift.specs.Judged.{ordered-less}
+use Rattle.drift.specs.NodeTruth.{count-low}
 
 module _ (marks h n words : ℕ) where
   -- more nodes need more
@@ -20,15 +24,25 @@ module _ (marks h n words : ℕ) where
       omega
       (arith, leb→le ((marks + 2 + n) * h) words (rw e tt), mul-le-mul {n₁ = marks + 2} {m₁ = h} {n₂ = marks + 2 + n} {m₂ = h} (omega arith) (le-refl h))
 
-  -- so is the table of the last of n nodes
-  pub last-room : 0 < n → leb ((marks + 2 + n) * h) words ≡ true → slotAt marks h 0 (n - 1) + h ≤ words
-  last-room p e =
-      omega (arith, leb→le ((marks + 2 + n) * h) words (rw e tt), table-ends h (marks + 2 + (n - 1 - 0)) (marks + 2 + n) (omega arith))
+  -- so are those of each text, if there is room for the longest
+  pub texts-room : (nodes : List ℕ) (k : ℕ) → ((j : ℕ) → j < k → 10 ≤ kindAt nodes j → textSize nodes (firstAt nodes j) ≤ n)
+      → leb ((marks + 2 + n) * h) words ≡ true → HasRoom marks h nodes k words
+  texts-room nodes k f e j p q =
+      let s : ℕ = textSize nodes (firstAt nodes j) in
+      omega (
+        arith,
+        leb→le ((marks + 2 + n) * h) words (rw e tt),
+        mul-le-mul {n₁ = marks + 2 + s} {m₁ = h} {n₂ = marks + 2 + n} {m₂ = h} (let z = f j p q in omega arith) (le-refl h),
+      )
 
-  -- a block for 128 nodes has room for a clause's
-  pub no-room : n ≤ 128 → (marks + 2 + 128) * h ≤ words → leb ((marks + 2 + n) * h) words ≡ false → ⊥
-  no-room q r f = omega (arith, nleb→lt ((marks + 2 + n) * h) words (rw f tt), more 128 q)
+  -- a block for 128 nodes has room for any text
+  pub all-fits : n ≤ 128 → (marks + 2 + 128) * h ≤ words → leb ((marks + 2 + n) * h) words ≡ true
+  all-fits q r = le-leb ((marks + 2 + n) * h) words (omega (arith, more 128 q))
 
 -- and the largest block has room for 128
 pub all-room : (marks h : ℕ) → marks ≤ 32 → h ≤ 64 → (marks + 2 + 128) * h ≤ 10368
 all-room marks h p q = mul-le-mul {n₁ = marks + 2 + 128} {m₁ = h} {n₂ = 162} {m₂ = 64} (omega arith) q
+
+-- a count's text is before the count
+pub text-before : (nodes : List ℕ) (n : ℕ) → Ordered nodes n → (k : ℕ) → k < n → 10 ≤ kindAt nodes k → textSize nodes (firstAt nodes k) ≤ n
+text-before nodes n o k p q = let low = count-low nodes k (ordered-less nodes n (k + 1) (omega arith) o) q in omega arith

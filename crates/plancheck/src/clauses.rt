@@ -73,7 +73,19 @@ pub fn fits(marks: usize, steps: usize, nodes: usize, words: usize) -> bool
     (marks + 2 + nodes) * steps <= words
 }
 
-// Fills the tables of the marks, and judges clause after clause from where others stopped, up to one whose nodes have no room.
+// Whether there is room for the tables of each count of n nodes. Mostly there is room for all nodes at once, and no count is looked at.
+fn has_room(nodes: &[u8], n: usize, marks: usize, steps: usize, words: usize) -> bool
+    requires { ⌜ Ordered (now nodes) n ⌝ }
+    requires { ⌜ (marks ≤ 32) × (steps ≤ 64) × (n ≤ 128) ⌝ }
+    ensures { λ r. ⌜ (r ≡ true → HasRoom marks steps (now (nodes .entry)) n words) × ((marks + 2 + 128) * steps ≤ words → r ≡ true) ⌝ }
+{
+    if fits(marks, steps, n, words) {
+        return true;
+    }
+    fits(marks, steps, drift::longest_text(nodes, n), words)
+}
+
+// Fills the tables of the marks, and judges clause after clause from where others stopped, up to one with a count that has no room.
 pub fn judge_lines(
     floor: &[u8],
     f: Floor,
@@ -107,7 +119,7 @@ pub fn judge_lines(
     let mut n = from.n;
     while at < rules.len() {
         let r = sheet::read_clause(rules, at, &mut nodes);
-        if !fits(marks, h.steps, r.n, t.len()) {
+        if !has_room(&nodes, r.n, marks, h.steps, t.len()) {
             return Reached {
                 done: false,
                 found,

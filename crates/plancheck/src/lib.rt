@@ -34,12 +34,12 @@ fn begun() -> Reached
     }
 }
 
-// The nodes that a clause of a sheet this long may well have; more are seldom, and then there is room for all.
+// The nodes that a count's text may well have in a sheet this long; where one has more, the full block is used.
 fn few_nodes(length: usize) -> usize
     requires { ⌜ length ≤ 16384 ⌝ }
     ensures { λ r. ⌜ r ≤ 128 ⌝ }
 {
-    let n = length / 16 + 8;
+    let n = length / 64 + 8;
     if n < 128 { n } else { 128 }
 }
 
@@ -59,10 +59,6 @@ fn judge_small(floor: &[u8], f: Floor, h: Head, block: &[u8], rules: &[u8], mark
     }
     if fits(marks, h.steps, nodes, 1000) {
         let mut t = [0u32; 1000];
-        return judge_lines(floor, f, h, block, rules, marks, &mut t, begun());
-    }
-    if fits(marks, h.steps, nodes, 4000) {
-        let mut t = [0u32; 4000];
         return judge_lines(floor, f, h, block, rules, marks, &mut t, begun());
     }
     begun()

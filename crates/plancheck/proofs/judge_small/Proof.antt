@@ -1,4 +1,4 @@
-use mathlib.Core.Path.{sym, subst, _∙_}
+use mathlib.Core.Path.{_≡_, sym, subst, _∙_}
 use mathlib.Core.Bool.{Bool}
 use Rattle.plan.specs.Plan.{heldNumbers}
 use Rattle.plancheck.specs.Check.{planRows}
@@ -82,50 +82,16 @@ judge-lines-requires-2 c κs =
 returns-2 : tie.Need-returns-2
 returns-2 c = c .before .judge-lines2 .ensures .0
 
-fits-requires-3 : tie.Need-fits-requires-3
-fits-requires-3 c κs = let s = c .before .before .before .before .before .before .before .before in (s .pre .1 .1 .1 .1 .few, s .pre .1 .0 .0 .steps, c .before .before .before .before .few-nodes .ensures)
-
-slice-aggregate-judge-lines-3 : tie.Need-slice-aggregate-judge-lines-3
-slice-aggregate-judge-lines-3 c = search needs
-
 begun-requires-3 : tie.Need-begun-requires-3
 begun-requires-3 c κs = search needs
 
-judge-lines-requires-3 : tie.Need-judge-lines-requires-3
-judge-lines-requires-3 c κs =
-    let s = c .before .before .before .before .before .before .before .before .before .before .before .before in
+returns-3 : tie.Need-returns-3
+returns-3 c =
+    let s = c .before .before .before .before .before .before .before .before .before in
     let a = s .args in
     let b = c .begun3 .ensures in
-    let rows = planRows (a .floor .now) (a .f) (heldNumbers (a .f .carts) (a .h) (a .block .now)) in (
-      s .pre .0,
-      (
-        s .pre .1 .0,
-        (
-          s .pre .1 .1 .0,
-          (
-            s .pre .1 .1 .1 .0,
-            (
-              (s .pre .1 .1 .1 .1, marks-room (a .marks) (a .h .steps) _ _ (sym (c .before .before .before .fits4 .ensures) ∙ c .before .before .if3 .taken)),
-              going-first rows (a .h .drift) (a .rules .now) (s .pre .1 .1 .1 .0) _ _ _ (b .1) (b .2) (b .3),
-            ),
-          ),
-        ),
-      ),
-    )
-
-returns-3 : tie.Need-returns-3
-returns-3 c = c .before .judge-lines3 .ensures .0
-
-begun-requires-4 : tie.Need-begun-requires-4
-begun-requires-4 c κs = search needs
-
-returns-4 : tie.Need-returns-4
-returns-4 c =
-    let s = c .before .before .before .before .before .before .before .before .before .before .before in
-    let a = s .args in
-    let b = c .begun4 .ensures in
     let rows = planRows (a .floor .now) (a .f) (heldNumbers (a .f .carts) (a .h) (a .block .now)) in
-    subst (λ (x : Bool). StandingBy rows (a .h .drift) (a .rules .now) x (c .begun4 .result)) (sym (b .0))
+    subst (λ (x : Bool). StandingBy rows (a .h .drift) (a .rules .now) x (c .begun3 .result)) (sym (b .0))
     (going-first rows (a .h .drift) (a .rules .now) (s .pre .1 .1 .1 .0) _ _ _ (b .1) (b .2) (b .3))
 
 pub judge-small-spec : {M : Type 1} → statement M
@@ -143,10 +109,5 @@ judge-small-spec =
     begun-requires-2
     judge-lines-requires-2
     returns-2
-    fits-requires-3
-    slice-aggregate-judge-lines-3
     begun-requires-3
-    judge-lines-requires-3
-    returns-3
-    begun-requires-4
-    returns-4)
+    returns-3)

@@ -40,9 +40,12 @@ returns c =
     let room = subst (λ (n : ℕ). (a .g .marks + 2 + (a .k + 1 - n)) * a .g .h ≤ length (a .t .now)) (sym (f .0)) (s .pre .1 .1 .1) in (
       m .0,
       (
-        omega
-            (arith, m .0 .size, place-inside (a .g .marks) (a .g .h) first (a .k) (nodeAt (a .nodes .now) (a .k)),
-            text-room (a .g .marks) (a .g .h) first (a .k) (length (a .t .now)) (f .1) room),
+        omega (
+          arith,
+          m .0 .size,
+          place-inside (a .g .marks) (a .g .h) first (a .k) (nodeAt (a .nodes .now) (a .k)),
+          text-room (a .g .marks) (a .g .h) first (a .k) (length (a .t .now)) (f .1) room,
+        ),
         λ bears shown. rw (sym e) at (m .1 bears shown (a .k) (f .1) (omega arith)),
       ),
     )

@@ -1,4 +1,4 @@
-use mathlib.Core.Path.{sym, ap, _∙_}
+use mathlib.Core.Path.{sym, ap, subst, _∙_}
 use mathlib.Core.Bool.{true, false}
 use native.Mathlib.Nat.{le-refl}
 use Rattle.refusal.specs.Faults.{not-is}
@@ -7,6 +7,7 @@ use Rattle.refusal.specs.declared.Verdict.the-variants.{Rules as AboutRules}
 use Rattle.cltl.specs.Rules.{rules}
 use Rattle.table.specs.Keeping.{kept-all, kept-then, kept-constants, kept-shown}
 use Rattle.drift.specs.Tree.{clauseTree}
+use Rattle.drift.specs.Places.{HasRoom}
 use Rattle.drift.specs.Answer.{rowsOn}
 use Rattle.plancheck.specs.Turns.{clause-kept, clause-fails}
 use native.Mathlib.Omega.{arith}
@@ -50,7 +51,7 @@ failing-step-requires c κs =
     let g = s .args .g in
     let r = c .before .before .before .before .clause-row .ensures .0 in (
       (s .pre .0 .0, kept-constants (g .marks) (g .h) (s .args .t .now) _ r (s .pre .0 .1)),
-      (s .pre .1 .0, (s .pre .1 .1 .0, omega (arith, r .size, s .pre .1 .1 .1))),
+      (s .pre .1 .0, (s .pre .1 .1 .0, subst (HasRoom (g .marks) (g .h) (s .args .nodes .now) _) (sym (r .size)) (s .pre .1 .1 .1))),
     )
 
 cast-refuse : tie.Need-cast-refuse

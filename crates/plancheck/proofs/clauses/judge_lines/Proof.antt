@@ -1,6 +1,6 @@
-use Prim.Native.Nat.{ℕ, _+_, _*_, _-_, _≤_}
+use Prim.Native.Nat.{ℕ, _+_, _*_, _-_, _≤_, _<_}
 use mathlib.Core.Path.{_≡_, refl, sym, ap, subst, _∙_}
-use mathlib.Core.Bool.{Bool, true, false, cond}
+use mathlib.Core.Bool.{Bool, true, false, cond, true≢false}
 use mathlib.Core.List.{List}
 use native.Mathlib.Nat.{le-refl}
 use lib.Dec.{eqb}
@@ -16,12 +16,12 @@ use Rattle.cltl.specs.Meaning.{Rows}
 use Rattle.cltl.specs.Rules.{hasNext}
 use Rattle.table.specs.Layout.{Constants, Shown}
 use Rattle.table.specs.Keeping.{kept-constants, kept-shown}
+use Rattle.drift.specs.Judged.{ordered-less}
 use Rattle.drift.specs.Answer.{rowsOn}
 use Rattle.plancheck.specs.Lines.{accepted-short}
 use Rattle.plancheck.specs.LineHeld.{ready}
 use Rattle.plancheck.specs.Check.{marksAt, clauseVerdict}
 use Rattle.plancheck.specs.Marked.{placed, unborne, shown}
-use Rattle.plancheck.specs.Room.{last-room, no-room}
 use Rattle.plancheck.specs.Turns.{Going, going-end, going-16, going-on}
 use borrow.Author.Needs.{needs}
 use native.Mathlib.Omega.{arith}
@@ -84,70 +84,82 @@ read-clause-requires c κs =
     let s = c .before .before .before .before .before .before .before .before .before .before .before in
     (omega arith, accepted-short (s .args .rules .now) (s .pre .1 .1 .1 .0), c .before .before .loop .inv .0)
 
-fits-requires : tie.Need-fits-requires Inv-loop μ-loop
-fits-requires c κs =
-    let s = c .before .before .before .before .before .before .before .before .before .before .before .before .before in
+slice-aggregate-has-room : tie.Need-slice-aggregate-has-room Inv-loop μ-loop
+slice-aggregate-has-room c =
+    let s = c .before .before .before .before .before .before .before .before .before .before .before .before .before .before in
     let a = s .args in
-    let v = c .before .before .before .before .loop in
+    let v = c .before .before .before .before .before .loop in
     let w =
-    ready (a .rules .now) (v .nodes) _ _ (v .at) (v .n) (c .before .before .before .loop-test .taken) (c .before .read-clause .ensures) (v .inv .4 .rest) (v .inv .4 .left) (v .inv .0) in
-    (s .pre .1 .1 .1 .1 .0 .0 .few, s .pre .1 .0 .0 .steps, omega (arith, w .judge .ordered .room, w .judge .size, w .judge .some))
+    ready (a .rules .now) (v .nodes) _ _ (v .at) (v .n) (c .before .before .before .before .loop-test .taken) (c .before .before .read-clause .ensures) (v .inv .4 .rest) (v .inv .4 .left) (v .inv .0) in
+    sym (w .judge .size)
+
+has-room-requires : tie.Need-has-room-requires Inv-loop μ-loop
+has-room-requires c κs =
+    let s = c .before .before .before .before .before .before .before .before .before .before .before .before .before .before in
+    let a = s .args in
+    let v = c .before .before .before .before .before .loop in
+    let w =
+    ready (a .rules .now) (v .nodes) _ _ (v .at) (v .n) (c .before .before .before .before .loop-test .taken) (c .before .before .read-clause .ensures) (v .inv .4 .rest) (v .inv .4 .left) (v .inv .0) in
+    let j = w .judge in (
+      ordered-less _ _ _ (omega (arith, j .some)) (j .ordered),
+      (s .pre .1 .1 .1 .1 .0 .0 .few, s .pre .1 .0 .0 .steps, omega (arith, j .ordered .room, j .size, j .some)),
+    )
 
 same-length : tie.Need-same-length Inv-loop μ-loop
-same-length c = c .before .before .before .before .before .before .loop .inv .1 ∙ c .before .before .before .before .before .before .before .before .before .fill .ensures .kept
+same-length c = c .before .before .before .before .before .before .before .loop .inv .1 ∙ c .before .before .before .before .before .before .before .before .before .before .fill .ensures .kept
 
 returns : tie.Need-returns Inv-loop μ-loop
 returns c =
-    let s = c .before .before .before .before .before .before .before .before .before .before .before .before .before .before .before in
-    let a = s .args in
-    let v = c .before .before .before .before .before .before .loop in
-    let w =
-    ready (a .rules .now) (v .nodes) _ _ (v .at) (v .n) (c .before .before .before .before .before .loop-test .taken) (c .before .before .before .read-clause .ensures) (v .inv .4 .rest) (v .inv .4 .left) (v .inv .0) in (
-      v .inv .4,
-      λ q. absurd (no-room _ _ _ _ (omega (arith, w .judge .ordered .room, w .judge .size, w .judge .some))
-          (subst (λ (n : ℕ). (a .marks + 2 + 128) * a .h .steps ≤ n) (sym (v .inv .1 ∙ c .before .before .before .before .before .before .before .before .before .fill .ensures .kept)) q) (sym (c .before .fits2 .ensures) ∙ not-is _ true (c .if1 .taken))),
-    )
-
-sub-last : tie.Need-sub-last Inv-loop μ-loop
-sub-last c =
     let s = c .before .before .before .before .before .before .before .before .before .before .before .before .before .before .before .before in
     let a = s .args in
     let v = c .before .before .before .before .before .before .before .loop in
     let w =
     ready (a .rules .now) (v .nodes) _ _ (v .at) (v .n) (c .before .before .before .before .before .before .loop-test .taken) (c .before .before .before .before .read-clause .ensures) (v .inv .4 .rest) (v .inv .4 .left) (v .inv .0) in
+    let size = v .inv .1 ∙ c .before .before .before .before .before .before .before .before .before .before .fill .ensures .kept in (
+      v .inv .4,
+      λ q. absurd (true≢false (sym (c .before .has-room .ensures .1 (subst (λ (n : ℕ). (a .marks + 2 + 128) * a .h .steps ≤ n) (sym size) q)) ∙ not-is _ true (c .if1 .taken))),
+    )
+
+sub-last : tie.Need-sub-last Inv-loop μ-loop
+sub-last c =
+    let s = c .before .before .before .before .before .before .before .before .before .before .before .before .before .before .before .before .before in
+    let a = s .args in
+    let v = c .before .before .before .before .before .before .before .before .loop in
+    let w =
+    ready (a .rules .now) (v .nodes) _ _ (v .at) (v .n) (c .before .before .before .before .before .before .before .loop-test .taken) (c .before .before .before .before .before .read-clause .ensures) (v .inv .4 .rest) (v .inv .4 .left) (v .inv .0) in
     omega (arith, w .judge .some)
 
 slice-aggregate-looks-on : tie.Need-slice-aggregate-looks-on Inv-loop μ-loop
 slice-aggregate-looks-on c =
-    let s = c .before .before .before .before .before .before .before .before .before .before .before .before .before .before .before .before .before in
+    let s = c .before .before .before .before .before .before .before .before .before .before .before .before .before .before .before .before .before .before in
     let a = s .args in
-    let v = c .before .before .before .before .before .before .before .before .loop in
+    let v = c .before .before .before .before .before .before .before .before .before .loop in
     let w =
-    ready (a .rules .now) (v .nodes) _ _ (v .at) (v .n) (c .before .before .before .before .before .before .before .loop-test .taken) (c .before .before .before .before .before .read-clause .ensures) (v .inv .4 .rest) (v .inv .4 .left) (v .inv .0) in
+    ready (a .rules .now) (v .nodes) _ _ (v .at) (v .n) (c .before .before .before .before .before .before .before .before .loop-test .taken) (c .before .before .before .before .before .before .read-clause .ensures) (v .inv .4 .rest) (v .inv .4 .left) (v .inv .0) in
     sym (w .judge .size)
 
 looks-on-requires : tie.Need-looks-on-requires Inv-loop μ-loop
 looks-on-requires c κs =
-    let s = c .before .before .before .before .before .before .before .before .before .before .before .before .before .before .before .before .before in
+    let s = c .before .before .before .before .before .before .before .before .before .before .before .before .before .before .before .before .before .before in
     let a = s .args in
-    let v = c .before .before .before .before .before .before .before .before .loop in
+    let v = c .before .before .before .before .before .before .before .before .before .loop in
     let w =
-    ready (a .rules .now) (v .nodes) _ _ (v .at) (v .n) (c .before .before .before .before .before .before .before .loop-test .taken) (c .before .before .before .before .before .read-clause .ensures) (v .inv .4 .rest) (v .inv .4 .left) (v .inv .0) in
+    ready (a .rules .now) (v .nodes) _ _ (v .at) (v .n) (c .before .before .before .before .before .before .before .before .loop-test .taken) (c .before .before .before .before .before .before .read-clause .ensures) (v .inv .4 .rest) (v .inv .4 .left) (v .inv .0) in
     w .judge .ordered
 
 refuse-requires : tie.Need-refuse-requires Inv-loop μ-loop
 refuse-requires c κs = tt
 
 same-length-2 : tie.Need-same-length-2 Inv-loop μ-loop
-same-length-2 c = c .before .before .before .before .before .before .before .before .before .before .before .loop .inv .1 ∙ c .before .before .before .before .before .before .before .before .before .before .before .before .before .before .fill .ensures .kept
+same-length-2 c = c .before .before .before .before .before .before .before .before .before .before .before .before .loop .inv .1 ∙ c .before .before .before .before .before .before .before .before .before .before .before .before .before .before .before .fill .ensures .kept
 
 returns-2 : tie.Need-returns-2 Inv-loop μ-loop
 returns-2 c =
-    let s = c .before .before .before .before .before .before .before .before .before .before .before .before .before .before .before .before .before .before .before .before in
+    let s = c .before .before .before .before .before .before .before .before .before .before .before .before .before .before .before .before .before .before .before .before .before in
     let a = s .args in
-    let v = c .before .before .before .before .before .before .before .before .before .before .before .loop in
+    let v = c .before .before .before .before .before .before .before .before .before .before .before .before .loop in
     let w =
-    ready (a .rules .now) (v .nodes) _ _ (v .at) (v .n) (c .before .before .before .before .before .before .before .before .before .before .loop-test .taken) (c .before .before .before .before .before .before .before .before .read-clause .ensures) (v .inv .4 .rest) (v .inv .4 .left) (v .inv .0) in
+    ready (a .rules .now) (v .nodes) _ _ (v .at) (v .n) (c .before .before .before .before .before .before .before .before .before .before .before .loop-test .taken) (c .before .before .before .before .before .before .before .before .before .read-clause .ensures) (v .inv .4 .rest) (v .inv .4 .left) (v .inv .0) in
     let d = a .h .drift in
     let e : true ≡ cond (eqb d 0) false (hasNext (w .line .clause)) =
     sym (c .before .if2 .taken) ∙ c .before .before .looks-on .ensures _ (le-refl _) ∙ ap (λ (x : Clause). cond (eqb d 0) false (hasNext x)) (w .judge .tree _ (le-refl _)) in (
@@ -157,52 +169,52 @@ returns-2 c =
 
 slice-aggregate-first-found : tie.Need-slice-aggregate-first-found Inv-loop μ-loop
 slice-aggregate-first-found c =
-    let s = c .before .before .before .before .before .before .before .before .before .before .before .before .before .before .before .before .before .before .before .before in
-    let a = s .args in
-    let v = c .before .before .before .before .before .before .before .before .before .before .before .loop in
-    let w =
-    ready (a .rules .now) (v .nodes) _ _ (v .at) (v .n) (c .before .before .before .before .before .before .before .before .before .before .loop-test .taken) (c .before .before .before .before .before .before .before .before .read-clause .ensures) (v .inv .4 .rest) (v .inv .4 .left) (v .inv .0) in
-    sym (w .judge .size)
-
-first-found-requires : tie.Need-first-found-requires Inv-loop μ-loop
-first-found-requires c κs =
     let s = c .before .before .before .before .before .before .before .before .before .before .before .before .before .before .before .before .before .before .before .before .before in
     let a = s .args in
     let v = c .before .before .before .before .before .before .before .before .before .before .before .before .loop in
     let w =
     ready (a .rules .now) (v .nodes) _ _ (v .at) (v .n) (c .before .before .before .before .before .before .before .before .before .before .before .loop-test .taken) (c .before .before .before .before .before .before .before .before .before .read-clause .ensures) (v .inv .4 .rest) (v .inv .4 .left) (v .inv .0) in
+    sym (w .judge .size)
+
+first-found-requires : tie.Need-first-found-requires Inv-loop μ-loop
+first-found-requires c κs =
+    let s = c .before .before .before .before .before .before .before .before .before .before .before .before .before .before .before .before .before .before .before .before .before .before in
+    let a = s .args in
+    let v = c .before .before .before .before .before .before .before .before .before .before .before .before .before .loop in
+    let w =
+    ready (a .rules .now) (v .nodes) _ _ (v .at) (v .n) (c .before .before .before .before .before .before .before .before .before .before .before .before .loop-test .taken) (c .before .before .before .before .before .before .before .before .before .before .read-clause .ensures) (v .inv .4 .rest) (v .inv .4 .left) (v .inv .0) in
     let r = s .pre .1 .0 .0 in
-    let n = c .before .before .before .before .before .before .before .before .before .read-clause .result .n in
-    let fits = sym (c .before .before .before .before .before .before .before .fits2 .ensures) ∙ not-is _ false (c .before .before .before .before .before .before .if1 .left) in (
+    let j = w .judge in
+    let room = c .before .before .before .before .before .before .before .has-room .ensures .0 (not-is _ false (c .before .before .before .before .before .before .if1 .left)) in (
       ((record { some = s .pre .0 .valid .some-cart; few = s .pre .0 .valid .few-carts; lap = r .stem; steps = r .steps; drift = r .drift; marks = s .pre .1 .1 .1 .1 .0 .0 .few }), v .inv .2),
-      (w .judge .ordered, (omega (arith, w .judge .ordered .room, w .judge .size, w .judge .some), last-room (a .marks) (a .h .steps) n (length (v .t)) (w .judge .some) fits)),
+      (j .ordered, (omega (arith, j .ordered .room, j .size, j .some), λ k p q. room k (omega (arith, j .some)) q)),
     )
 
 add-n : tie.Need-add-n Inv-loop μ-loop
 add-n c =
-    let s = c .before .before .before .before .before .before .before .before .before .before .before .before .before .before .before .before .before .before .before .before .before .before .before .before in
+    let s = c .before .before .before .before .before .before .before .before .before .before .before .before .before .before .before .before .before .before .before .before .before .before .before .before .before in
     let a = s .args in
-    let v = c .before .before .before .before .before .before .before .before .before .before .before .before .before .before .before .loop in
+    let v = c .before .before .before .before .before .before .before .before .before .before .before .before .before .before .before .before .loop in
     let w =
-    ready (a .rules .now) (v .nodes) _ _ (v .at) (v .n) (c .before .before .before .before .before .before .before .before .before .before .before .before .before .before .loop-test .taken) (c .before .before .before .before .before .before .before .before .before .before .before .before .read-clause .ensures) (v .inv .4 .rest) (v .inv .4 .left) (v .inv .0) in
+    ready (a .rules .now) (v .nodes) _ _ (v .at) (v .n) (c .before .before .before .before .before .before .before .before .before .before .before .before .before .before .before .loop-test .taken) (c .before .before .before .before .before .before .before .before .before .before .before .before .before .read-clause .ensures) (v .inv .4 .rest) (v .inv .4 .left) (v .inv .0) in
     omega (arith, w .line .more)
 
 loop-less : tie.Need-loop-less Inv-loop μ-loop
 loop-less c =
-    let s = c .before .before .before .before .before .before .before .before .before .before .before .before .before .before .before .before .before .before .before .before .before .before .before .before in
+    let s = c .before .before .before .before .before .before .before .before .before .before .before .before .before .before .before .before .before .before .before .before .before .before .before .before .before in
     let a = s .args in
-    let v = c .before .before .before .before .before .before .before .before .before .before .before .before .before .before .before .loop in
+    let v = c .before .before .before .before .before .before .before .before .before .before .before .before .before .before .before .before .loop in
     let w =
-    ready (a .rules .now) (v .nodes) _ _ (v .at) (v .n) (c .before .before .before .before .before .before .before .before .before .before .before .before .before .before .loop-test .taken) (c .before .before .before .before .before .before .before .before .before .before .before .before .read-clause .ensures) (v .inv .4 .rest) (v .inv .4 .left) (v .inv .0) in
+    ready (a .rules .now) (v .nodes) _ _ (v .at) (v .n) (c .before .before .before .before .before .before .before .before .before .before .before .before .before .before .before .loop-test .taken) (c .before .before .before .before .before .before .before .before .before .before .before .before .before .read-clause .ensures) (v .inv .4 .rest) (v .inv .4 .left) (v .inv .0) in
     omega (arith, w .line .more)
 
 loop-again : tie.Need-loop-again Inv-loop μ-loop
 loop-again c =
-    let s = c .before .before .before .before .before .before .before .before .before .before .before .before .before .before .before .before .before .before .before .before .before .before .before .before in
+    let s = c .before .before .before .before .before .before .before .before .before .before .before .before .before .before .before .before .before .before .before .before .before .before .before .before .before in
     let a = s .args in
-    let v = c .before .before .before .before .before .before .before .before .before .before .before .before .before .before .before .loop in
+    let v = c .before .before .before .before .before .before .before .before .before .before .before .before .before .before .before .before .loop in
     let w =
-    ready (a .rules .now) (v .nodes) _ _ (v .at) (v .n) (c .before .before .before .before .before .before .before .before .before .before .before .before .before .before .loop-test .taken) (c .before .before .before .before .before .before .before .before .before .before .before .before .read-clause .ensures) (v .inv .4 .rest) (v .inv .4 .left) (v .inv .0) in
+    ready (a .rules .now) (v .nodes) _ _ (v .at) (v .n) (c .before .before .before .before .before .before .before .before .before .before .before .before .before .before .before .loop-test .taken) (c .before .before .before .before .before .before .before .before .before .before .before .before .before .read-clause .ensures) (v .inv .4 .rest) (v .inv .4 .left) (v .inv .0) in
     let d = a .h .drift in
     let P : Rows = rows (a .floor .now) (a .f .carts) (a .h) (a .block .now) in
     let tree = w .judge .tree _ (le-refl _) in
@@ -236,7 +248,8 @@ judge-lines-spec =
     loop-holds
     slice-aggregate-read-clause
     read-clause-requires
-    fits-requires
+    slice-aggregate-has-room
+    has-room-requires
     same-length
     returns
     sub-last
