@@ -4,6 +4,8 @@ pub mod Operator
 pub mod Ground
 pub mod Answer
 pub mod Places
+-- worked cases
+pub mod Examples
 -- laws
 pub mod Judged
 pub mod Kinds

@@ -2,6 +2,8 @@
 pub mod Table
 pub mod Layout
 pub mod Straight
+-- worked cases
+pub mod Examples
 -- laws
 pub mod Words
 pub mod Storing

@@ -30,7 +30,7 @@ node-table-requires c κs =
     let v = c .before .before .loop in
     let k = v .inv .2 in
     let q = c .before .loop-test .taken in
-    let room = slot-low (a .g .marks) (a .g .h) (a .first) (v .k) (a .last) q in (
+    let room = slot-low (a .g .marks) (a .g .h) (a .first) (v .k) (a .last) (omega (arith, q)) in (
       (s .pre .0 .0, kept-constants (a .g .marks) (a .g .h) (a .t .now) (v .t) k (s .pre .0 .1)),
       (
         ordered-less (a .nodes .now) (a .last + 1) _ (omega arith) (s .pre .1 .0),

@@ -12,7 +12,7 @@ constant-at-requires : tie.Need-constant-at-requires
 constant-at-requires c κs = search needs
 
 returns : tie.Need-returns
-returns c = let a = c .before .before .before .args in mark-low (a .g .marks) (a .g .h) (a .m) (c .before .if1 .taken)
+returns c = let a = c .before .before .before .args in mark-low (a .g .marks) (a .g .h) (a .m) (omega (arith, c .before .if1 .taken))
 
 returns-2 : tie.Need-returns-2
 returns-2 c = let a = c .before .before .before .args in c .constant-at .ensures ∙ mark-high (a .g .marks) (a .g .h) (a .m) (omega (arith, c .before .if1 .left))
