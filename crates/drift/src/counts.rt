@@ -10,6 +10,7 @@ ghost use Rattle.cltl.specs.Rules.{inner, quorum};
 ghost use Rattle.mask.specs.Mask.{Row};
 ghost use Rattle.table.specs.Table.{Kept};
 ghost use Rattle.table.specs.Layout.{nodesAt, Constants, Shown};
+ghost use Rattle.quorum.specs.Words.{Bits};
 ghost use Rattle.drift.specs.Tree.{Ordered, innerTree};
 ghost use Rattle.drift.specs.Ground.{InRange};
 ghost use Rattle.drift.specs.Places.{textSize};
@@ -39,14 +40,24 @@ pub fn quota(p: bool, m: usize, size: usize) -> usize
 }
 
 // The rule for a count of threshold m over the inner text of node x.
-pub fn count_row(nodes: &[u8], t: &mut [u32], g: Ground, p: bool, m: usize, x: usize) -> u64
+pub fn count_row(
+    nodes: &[u8],
+    t: &mut [u32],
+    w: &mut [u32; 88],
+    bits: &[u32; 32],
+    g: Ground,
+    p: bool,
+    m: usize,
+    x: usize,
+) -> u64
     requires { ⌜ InRange g × Constants (g .marks) (g .h) (now t) ⌝ }
     requires { ⌜ Ordered (now nodes) (x + 1) ⌝ }
     requires { ⌜ (x < 128) × ((g .marks + 2 + textSize (now nodes) x) * g .h ≤ length (now t)) ⌝ }
-    ensures { λ _. ⌜ Kept (nodesAt (g .marks) (g .h)) (now (t .entry)) (now (t .exit)) ⌝ }
+    requires { ⌜ (length (now w) ≡ 88) × Bits (now bits) ⌝ }
+    ensures { λ _. ⌜ Kept (nodesAt (g .marks) (g .h)) (now (t .entry)) (now (t .exit)) × (length (now (w .exit)) ≡ 88) ⌝ }
     ensures { λ r. ⌜ ((bears : ℕ → ℕ → ℕ → Bool) → Shown (g .marks) (g .carts) (g .h) bears (now (t .entry)) → Row (g .h) r (quorum (g .h) (g .l) (g .carts) (g .d) m
         (λ i. inner (rowsOn (g .carts) (g .h) (g .l) bears) i p (innerTree (now (nodes .entry)) (length (now (nodes .entry))) x)))) ⌝ }
 {
     let at = inner_table(nodes, t, g, x);
-    quorum::count_row(t, at, p, m, g.carts, g.h, g.l, g.d)
+    quorum::count_row(t, at, p, m, g.carts, g.h, g.l, g.d, w, bits)
 }

@@ -15,6 +15,7 @@ ghost use Rattle.cltl.specs.Rules.{hasNext};
 ghost use Rattle.table.specs.Table.{Kept};
 ghost use Rattle.table.specs.Layout.{nodesAt, Constants, Shown};
 ghost use Rattle.marks.specs.Bears.{Borne};
+ghost use Rattle.quorum.specs.Words.{Bits};
 ghost use Rattle.drift.specs.Tree.{Ordered, clauseTree};
 ghost use Rattle.drift.specs.Ground.{InRange};
 ghost use Rattle.drift.specs.Places.{HasRoom};
@@ -45,23 +46,39 @@ pub struct Reached {
     pub n: u32,
 }
 
+pub fn reached(done: bool, found: Verdict, at: usize, n: u32) -> Reached
+    ensures { λ r. ⌜ (r .done ≡ done) × (r .found ≡ found) × (r .at ≡ at) × (r .n ≡ n) ⌝ }
+{
+    Reached { done, found, at, n }
+}
+
 // What was found before clause n, or the verdict on clause n.
-fn first_found(found: Verdict, nodes: &[u8], t: &mut [u32], g: Ground, k: usize, n: u32) -> Verdict
+fn first_found(
+    found: Verdict,
+    nodes: &[u8],
+    t: &mut [u32],
+    w: &mut [u32; 88],
+    bits: &[u32; 32],
+    g: Ground,
+    k: usize,
+    n: u32,
+) -> Verdict
     requires { ⌜ InRange g × Constants (g .marks) (g .h) (now t) ⌝ }
     requires { ⌜ Ordered (now nodes) (k + 1) ⌝ }
     requires { ⌜ (k < 128) × HasRoom (g .marks) (g .h) (now nodes) (k + 1) (length (now t)) ⌝ }
-    ensures { λ _. ⌜ Kept (nodesAt (g .marks) (g .h)) (now (t .entry)) (now (t .exit)) ⌝ }
+    requires { ⌜ (length (now w) ≡ 88) × Bits (now bits) ⌝ }
+    ensures { λ _. ⌜ Kept (nodesAt (g .marks) (g .h)) (now (t .entry)) (now (t .exit)) × (length (now (w .exit)) ≡ 88) ⌝ }
     ensures { λ v. ⌜ ((bears : ℕ → ℕ → ℕ → Bool) → Shown (g .marks) (g .carts) (g .h) bears (now (t .entry)) → (m : ℕ) → k < m → v ≡ andThen found
         (clauseVerdict (rowsOn (g .carts) (g .h) (g .l) bears) (g .d) n (clauseTree (now (nodes .entry)) m k))) ⌝ }
 {
     if !refusal::accepts(found) {
         return found;
     }
-    let row = drift::clause_row(nodes, t, g, true, k);
+    let row = drift::clause_row(nodes, t, w, bits, g, true, k);
     if row % 2 == 1 {
         return Verdict::Accepted;
     }
-    let step = drift::failing_step(nodes, t, g, k);
+    let step = drift::failing_step(nodes, t, w, bits, g, k);
     Verdict::Rules(refusal::refuse(17, n, step as u32))
 }
 
@@ -114,36 +131,24 @@ pub fn judge_lines(
         marks,
     };
     let mut nodes = [0u8; 512];
+    let mut w = [0u32; 88];
+    let mut bits = [0u32; 32];
+    quorum::fill_bits(&mut bits);
     let mut found = from.found;
     let mut at = from.at;
     let mut n = from.n;
     while at < rules.len() {
         let r = sheet::read_clause(rules, at, &mut nodes);
         if !has_room(&nodes, r.n, marks, h.steps, t.len()) {
-            return Reached {
-                done: false,
-                found,
-                at,
-                n,
-            };
+            return reached(false, found, at, n);
         }
         let last = r.n - 1;
         if looks_on(&nodes, last, g.d) {
-            return Reached {
-                done: true,
-                found: Verdict::Rules(refusal::refuse(16, n, 0)),
-                at,
-                n,
-            };
+            return reached(true, Verdict::Rules(refusal::refuse(16, n, 0)), at, n);
         }
-        found = first_found(found, &nodes, t, g, last, n);
+        found = first_found(found, &nodes, t, &mut w, &bits, g, last, n);
         at = r.at;
         n += 1;
     }
-    Reached {
-        done: true,
-        found,
-        at,
-        n,
-    }
+    reached(true, found, at, n)
 }

@@ -1,4 +1,3 @@
 pub mod Unrolling
 pub mod Narrowing
-pub mod Building
 pub mod Testing

@@ -1,48 +1,45 @@
 -- Windows grow from one counter to at least half of those wanted.
-use Prim.Native.Nat.{ℕ, _+_, _*_, _-_, _≤_, _<_, min}
-use mathlib.Core.Path.{_≡_, refl, sym, subst, _∙_}
+use Prim.Native.Nat.{ℕ, _+_, _*_, _-_, _≤_, _<_}
+use mathlib.Core.Path.{_≡_, refl, sym, ap₂, subst, _∙_}
 use mathlib.Core.List.{List}
 use native.Mathlib.Omega.{arith}
+use lib.Bits.{bitAnd}
 use lib.ListN.{getD, length}
 use Rattle.table.specs.Table.{Stored}
-use Rattle.quorum.specs.Words.{shared, Window, Narrowed}
+use Rattle.quorum.specs.Words.{sharedByThree, Window, Narrowed}
 use Rattle.quorum.specs.OwnNumber.{own}
 use Rattle.quorum.specs.Widened.{single, widened}
 
+-- the words ahead of those stored are as they were
+pub ahead : (P : ℕ → ℕ → Type 0) (k s : ℕ) (before after : List ℕ) → Stored P 0 0 s before after → sharedByThree after k s ≡ sharedByThree before k s
+ahead P k s before after r =
+    ap₂ bitAnd (ap₂ bitAnd (r .above s (omega arith)) (r .above (s + k) (omega arith))) (r .above (s + 2 * k) (omega arith))
+
 -- each word whose window ends within h + d words is a window of so many counters
 pub record Narrowing (h d width : ℕ) (before after : List ℕ) : Type 0 where
-  pub some : 0 < width
-  pub within : width ≤ d + 1
   pub kept : length after ≡ length before
   pub each : (s : ℕ) → s + width ≤ h + d → Window before width s (getD after s 0)
   pub above : (j : ℕ) → h + d + 7 ≤ j → getD after j 0 ≡ getD before j 0
 
 pub begun : (h d : ℕ) (w : List ℕ) → Narrowing h d 1 w w
-begun h d w = record { some = omega arith; within = omega arith; kept = refl; each = λ s p. single w s; above = λ j p. refl }
+begun h d w = record { kept = refl; each = λ s p. single w s; above = λ j p. refl }
 
--- the words that two by two make longer windows
-grown : (w from to old : List ℕ) (c k n s : ℕ) → k ≤ c → Stored (λ s x. x ≡ shared from k s) 0 0 n old to → s < n
-    → Window w c s (getD from s 0) → Window w c (s + k) (getD from (s + k) 0) → Window w (c + k) s (getD to s 0)
-grown w from to old c k n s near r p a b =
-    subst (Window w (c + k) s) (sym (own (λ s x. x ≡ shared from k s) 0 n old to r s (omega arith) p)) (widened w c k (c + k) s _ _ near refl a b)
-
-module _ (h d width twice more n : ℕ) (w₀ w v₀ v w′ : List ℕ) (double : twice ≡ width + width) (least : more ≡ min twice (d + 1 - twice))
-    (all : h + d ≤ n) (few : n ≤ h + d + 7) where
-  pub onward : Narrowing h d width w₀ w → 2 * width ≤ d → Stored (λ s x. x ≡ shared w width s) 0 0 n v₀ v → Stored (λ s x. x ≡ shared v more s) 0 0 n w w′
-      → Narrowing h d (twice + more) w₀ w′
-  onward g left first second = record {
-    some = omega (arith, g .some);
-    within = omega (arith, g .within);
-    kept = second .kept ∙ g .kept;
-    each =
-        λ s p. grown w₀ v w′ w twice more n s (omega arith) second (omega (arith, g .some)) (doubled s (omega arith)) (doubled (s + more) (omega arith));
-    above = λ j p. second .above j (omega arith) ∙ g .above j p;
+module _ (h d c k n : ℕ) (w₀ w w′ : List ℕ) (some : 0 < c) (near : k ≤ c) (all : h + d ≤ n) (few : n ≤ h + d + 7) where
+  -- three windows that touch or overlap
+  pub onward : Narrowing h d c w₀ w → Stored (λ s x. x ≡ sharedByThree w k s) 0 0 n w w′ → Narrowing h d (2 * k + c) w₀ w′
+  onward g r = record {
+    kept = r .kept ∙ g .kept;
+    each = λ s p.
+        let a = g .each s (omega arith) in
+        let b = g .each (s + k) (omega arith) in
+        let t = g .each (s + 2 * k) (omega arith) in
+        subst (Window w₀ (2 * k + c) s) (sym (own (λ s x. x ≡ sharedByThree w k s) 0 n w w′ r s (omega arith) (omega arith)))
+        (widened w₀ (k + c) (2 * k) c (2 * k + c) s _ _ (omega arith) (omega arith) refl (widened w₀ c k c (k + c) s _ _ near (omega arith) refl a b) t);
+    above = λ j p. r .above j (omega arith) ∙ g .above j p;
   }
-    where
-      doubled : (s : ℕ) → s + twice ≤ h + d → Window w₀ twice s (getD v s 0)
-      doubled s p =
-          subst (λ (k : ℕ). Window w₀ k s (getD v s 0)) (sym double)
-          (grown w₀ w v v₀ width width n s (omega arith) first (omega (arith, g .some)) (g .each s (omega arith)) (g .each (s + width) (omega arith)))
+
+pub first : (h d n : ℕ) (w w′ : List ℕ) → h + d ≤ n → n ≤ h + d + 7 → Stored (λ s x. x ≡ sharedByThree w 1 s) 0 0 n w w′ → Narrowing h d 3 w w′
+first h d n w w′ all few = onward h d 1 1 n w w w′ (omega arith) (omega arith) all few (begun h d w)
 
 pub ended : (h d width off : ℕ) (before after : List ℕ) → Narrowing h d width before after → d < 2 * width → off + width ≡ d + 1 → Narrowed h d off before after
 ended h d width off before after g past e = record {

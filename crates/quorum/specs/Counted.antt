@@ -55,7 +55,7 @@ module _ (h l d off : ℕ) (some : l < h) (w₀ w₁ w₂ : List ℕ) (again : S
   -- the two parts of a window together
   whole : (s : ℕ) → s < h → Window w₁ (d + 1) s (shared w₂ off s)
   whole s p =
-      widened w₁ (d + 1 - off) off (d + 1) s _ _ (omega (arith, narrow .short)) (omega (arith, narrow .short)) (narrow .each s (omega arith))
+      widened w₁ (d + 1 - off) off (d + 1 - off) (d + 1) s _ _ (omega (arith, narrow .short)) (omega arith) (omega (arith, narrow .short)) (narrow .each s (omega arith))
       (narrow .each (s + off) (omega arith))
 
   module _ (m carts : ℕ) (f : ℕ → ℕ → Bool) (steps : (s : ℕ) → s < h → CartsAt carts f s (getD w₀ s 0)) where
@@ -74,7 +74,7 @@ module _ (h l d off : ℕ) (some : l < h) (w₀ w₁ w₂ : List ℕ) (again : S
         (on-beyond (getD w₀ (stepOf h l (s + d)) 0) carts i (steps (stepOf h l (s + d)) (step-below h l some (s + d)) .low) q)
 
     -- the carts that satisfy f all along
-    windows : (s : ℕ) → s < h → Row carts (shared w₂ off s) (λ i. window h l (f i) d s)
+    pub windows : (s : ℕ) → s < h → Row carts (shared w₂ off s) (λ i. window h l (f i) d s)
     unfolding window
     windows s p = record {
       low = below (shared w₂ off s) carts (λ i. no-cart s i p);

@@ -6,5 +6,7 @@ pub mod Examples
 pub mod OwnNumber
 pub mod Below
 pub mod Widened
+pub mod BitByBit
 pub mod Ones
+pub mod WithoutCounting
 pub mod Counted

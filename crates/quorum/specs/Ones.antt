@@ -1,18 +1,24 @@
 -- The bits of a word are as many as the carts that have one.
-use Prim.Native.Nat.{ℕ, zero, suc, _+_, _/_, _^_, _≤_, _<_, min}
-use mathlib.Core.Path.{_≡_, refl, sym, ap, ap₂, _∙_}
-use mathlib.Core.Bool.{Bool, true, false, cond, _&&_}
+use Prim.Native.Nat.{ℕ, zero, suc, _+_, _-_, _/_, _^_, _≤_, _<_}
+use mathlib.Core.Path.{_≡_, refl, sym, ap, ap₂, subst, _∙_}
+use mathlib.Core.Bool.{Bool, true, false, not, cond, _&&_}
 use native.Mathlib.Omega.{arith}
 use native.Mathlib.Nat.{le-refl, pow-suc}
-use lib.Arith.{lt-one}
-use lib.Count.{ones, ones-step}
-use lib.Dec.{T, leb, leb→le, le→leb}
+use lib.Arith.{lt-one, bin-ind}
+use lib.Count.{ones, ones-step, ones-ones, ones-le}
+use lib.Dec.{T, leb, eqb, leb→le, le→leb, eqb→eq, eqb-refl, not-T}
+use lib.Pow.{pow-pos}
+use borrow.Author.Tests.{lt-leb}
+use Rattle.row.specs.Round.{pick}
 use Rattle.cltl.specs.Rules.{tally, every}
 use Rattle.cltl.specs.Basics.{bool-ext}
 use Rattle.cltl.specs.Tally.{tally-le, tally-all, every-at}
 use Rattle.mask.specs.Mask.{on, Row}
 use Rattle.mask.specs.EachBit.{on-shr}
 use Rattle.quorum.specs.Below.{lowest}
+
+eq→eqb : (m n : ℕ) → m ≡ n → T (eqb m n)
+eq→eqb m n e = subst (λ (k : ℕ). T (eqb m k)) e (eqb-refl m)
 
 pub tally-agrees : (f g : ℕ → Bool) (n : ℕ) → ((i : ℕ) → i < n → f i ≡ g i) → tally f n ≡ tally g n
 unfolding tally
@@ -59,7 +65,34 @@ pub all-counted : (f : ℕ → Bool) (n : ℕ) → leb n (tally f n) ≡ every f
 all-counted f n =
     bool-ext _ _ (λ t. full f n (leb→le n _ t)) (λ t. let e = tally-all f n (λ i p. every-at f n i p t) in le→leb n _ (omega arith))
 
--- no word has 33 bits
-pub capped-same : (m n : ℕ) → n ≤ 32 → leb (min m 33) n ≡ leb m n
-capped-same m n p =
-    bool-ext _ _ (λ t. let q = leb→le (min m 33) n t in le→leb m n (omega arith)) (λ t. let q = leb→le m n t in le→leb (min m 33) n (omega arith))
+-- as many bits as there is room for: every one of them
+most : (k x : ℕ) → x < 2 ^ k → k ≤ ones x → x ≡ 2 ^ k - 1
+most zero x p q = omega arith
+most (suc k) x p q =
+    let few = ones-le k (x / 2) (omega (arith, pow-suc 2 k)) in
+    let rest = most k (x / 2) (omega (arith, pow-suc 2 k)) (omega (arith, ones-step x)) in
+    omega (arith, ones-step x, pow-suc 2 k, pow-pos k)
+
+pub full-word : (k x : ℕ) → x < 2 ^ k → eqb x (2 ^ k - 1) ≡ leb k (ones x)
+full-word k x p =
+    bool-ext _ _
+    (λ t. let e : ones x ≡ k = ap ones (eqb→eq x (2 ^ k - 1) t) ∙ ones-ones k in le→leb k (ones x) (omega arith))
+    (λ t. eq→eqb x (2 ^ k - 1) (most k x p (leb→le k (ones x) t)))
+
+-- no bit at all
+none : (x : ℕ) → ones x ≡ 0 → x ≡ 0
+none = bin-ind (λ (x : ℕ). ones x ≡ 0 → x ≡ 0) (λ _. refl) (λ x ih e. let half = ih (omega (arith, ones-step x)) in omega (arith, ones-step x))
+
+pub bits-left : (x : ℕ) → not (eqb x 0) ≡ leb 1 (ones x)
+unfolding ones
+bits-left x =
+    bool-ext _ _ (λ t. le→leb 1 (ones x) (go (eqb x 0) (eq→eqb x 0) t))
+    (λ t. not-T (eqb x 0) (λ u. let e : ones x ≡ 0 = ap ones (eqb→eq x 0 u) in let q = leb→le 1 (ones x) t in omega arith))
+  where
+    go : (b : Bool) → (x ≡ 0 → T b) → T (not b) → 1 ≤ ones x
+    go true f t = absurd t
+    go false f t = pick (ones x) 1 (1 ≤ ones x) (λ q. absurd (f (none x (omega arith)))) (λ q. q)
+
+-- more bits than there is room for
+pub too-many : (k m x : ℕ) → x < 2 ^ k → k < m → leb m (ones x) ≡ false
+too-many k m x p q = lt-leb m (ones x) (omega (arith, ones-le k x p))

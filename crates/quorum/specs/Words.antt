@@ -1,11 +1,9 @@
 -- The words of a count: one a step or a counter, with bit i for cart i.
-use Prim.Native.Nat.{ℕ, _+_, _*_, _-_, _≤_, _<_}
+use Prim.Native.Nat.{ℕ, _+_, _*_, _-_, _^_, _≤_, _<_}
 use mathlib.Core.Path.{_≡_}
-use mathlib.Core.Bool.{Bool, cond}
+use mathlib.Core.Bool.{Bool}
 use mathlib.Core.List.{List}
 use lib.Bits.{bitAnd}
-use lib.Count.{ones}
-use lib.Dec.{leb}
 use lib.ListN.{getD, length}
 use Rattle.row.specs.Lasso.{stepOf}
 use Rattle.cltl.specs.Rules.{every}
@@ -23,6 +21,10 @@ CounterAt h l w s x = x ≡ getD w (stepOf h l s) 0
 abbrev pub shared : List ℕ → ℕ → ℕ → ℕ
 shared w k s = bitAnd (getD w s 0) (getD w (s + k) 0)
 
+-- the bits of word s that the words k and 2 * k further on have too
+abbrev pub sharedByThree : List ℕ → ℕ → ℕ → ℕ
+sharedByThree w k s = bitAnd (shared w k s) (getD w (s + 2 * k) 0)
+
 -- x has the bits that all of n words from s on have
 abbrev pub Window : List ℕ → (n s x : ℕ) → Type 0
 Window w n s x = (i : ℕ) → on x i ≡ every (λ j. on (getD w (s + j) 0) i) n
@@ -35,6 +37,7 @@ pub record Narrowed (h d off : ℕ) (before after : List ℕ) : Type 0 where
   pub each : (s : ℕ) → s < h + off → Window before (d + 1 - off) s (getD after s 0)
   pub above : (j : ℕ) → h + d + 7 ≤ j → getD after j 0 ≡ getD before j 0
 
--- 1 if word s and the word k further on share at least m bits, else 0
-abbrev pub Enough : ℕ → List ℕ → ℕ → ℕ → ℕ → Type 0
-Enough m w k s x = x ≡ cond (leb m (ones (shared w k s))) 1 0
+-- a table of the 32 bits: word j is bit j alone
+pub record Bits (b : List ℕ) : Type 0 where
+  pub size : length b ≡ 32
+  pub each : (j : ℕ) → j < 32 → getD b j 0 ≡ 2 ^ j

@@ -1,63 +1,105 @@
-// The steps whose words have bits enough.
-ghost use Prim.Native.Nat.{ℕ, _+_, _≤_, _<_, min};
+// The steps whose words have bits enough. A table of the bits is lent: to join its words makes vectors of a loop where to move bits does not.
+ghost use Prim.Native.Nat.{ℕ, _+_, _^_, _≤_, _<_};
 ghost use mathlib.Core.Path.{_≡_};
 ghost use mathlib.Core.Bool.{cond};
 ghost use lib.Dec.{leb, eqb};
 ghost use lib.Count.{ones};
-ghost use lib.ListN.{length, getD};
+ghost use lib.ListN.{length};
 ghost use Rattle.mask.specs.Mask.{Row};
-ghost use Rattle.table.specs.Table.{Stored};
-ghost use Rattle.quorum.specs.Words.{shared, Enough};
+ghost use Rattle.quorum.specs.Words.{shared, Bits};
 
-// More than 32 bits no word has.
-fn capped(m: usize) -> u32
-    ensures { λ r. ⌜ r ≡ min m 33 ⌝ }
+fn if_same(x: u32, y: u32, bit: u32) -> u32
+    ensures { λ r. ⌜ r ≡ cond (eqb x y) bit 0 ⌝ }
 {
-    if m < 33 { m as u32 } else { 33 }
+    if x == y { bit } else { 0 }
 }
 
-fn enough(m: u32, n: u32) -> u32
-    ensures { λ r. ⌜ r ≡ cond (leb m n) 1 0 ⌝ }
+fn if_enough(m: u32, n: u32, bit: u32) -> u32
+    ensures { λ r. ⌜ r ≡ cond (leb m n) bit 0 ⌝ }
 {
-    if m <= n { 1 } else { 0 }
+    if m <= n { bit } else { 0 }
 }
 
-// Whether word s and the word `off` further on share at least m bits.
-fn test_words(w: &[u32], off: usize, m: usize, h: usize, c: &mut [u32; 64])
-    requires { ⌜ (h ≤ 64) × (h + off ≤ length (now w)) ⌝ }
-    requires { ⌜ length (now c) ≡ 64 ⌝ }
-    ensures { λ _. ⌜ Stored (Enough m (now (w .entry)) off) 0 0 h (now (c .entry)) (now (c .exit)) ⌝ }
-{
-    let least = capped(m);
-    let mut s = 0;
-    while s < h {
-        c[s] = enough(least, u32::count_ones(w[s] & w[s + off]));
-        s += 1;
-    }
-}
-
-// Digits one behind the other, the last step's first.
-fn gather(c: &[u32; 64], h: usize) -> u64
-    requires { ⌜ length (now c) ≡ 64 ⌝ }
-    requires { ⌜ h ≤ 64 ⌝ }
-    requires { ⌜ ((s : ℕ) → s < h → getD (now c) s 0 < 2) ⌝ }
-    ensures { λ r. ⌜ Row h r (λ s. eqb (getD (now (c .entry)) s 0) 1) ⌝ }
+// Of the n steps from `at` on, those where word s and the word `off` further on share the bits x and no others.
+fn same(w: &[u32; 88], at: usize, off: usize, x: u32, n: usize, bits: &[u32; 32]) -> u32
+    requires { ⌜ length (now w) ≡ 88 ⌝ }
+    requires { ⌜ (n ≤ 32) × (at + n + off ≤ 88) ⌝ }
+    requires { ⌜ Bits (now bits) ⌝ }
+    ensures { λ r. ⌜ Row n r (λ j. eqb (shared (now (w .entry)) off (at + j)) x) ⌝ }
 {
     let mut row = 0;
-    let mut s = h;
-    while 0 < s {
-        s -= 1;
-        row = row * 2 + (c[s] as u64);
+    let mut j = 0;
+    while j < n {
+        row = row | if_same(w[at + j] & w[at + j + off], x, bits[j]);
+        j += 1;
     }
     row
 }
 
-// The steps where word s and the word `off` further on share at least m bits.
-pub(crate) fn at_least(w: &[u32], off: usize, m: usize, h: usize) -> u64
-    requires { ⌜ (h ≤ 64) × (h + off ≤ length (now w)) ⌝ }
+// Of the n steps from `at` on, those where word s and the word `off` further on share at least m bits.
+fn counted(w: &[u32; 88], at: usize, off: usize, m: u32, n: usize, bits: &[u32; 32]) -> u32
+    requires { ⌜ length (now w) ≡ 88 ⌝ }
+    requires { ⌜ (n ≤ 32) × (at + n + off ≤ 88) ⌝ }
+    requires { ⌜ Bits (now bits) ⌝ }
+    ensures { λ r. ⌜ Row n r (λ j. leb m (ones (shared (now (w .entry)) off (at + j)))) ⌝ }
+{
+    let mut row = 0;
+    let mut j = 0;
+    while j < n {
+        row = row | if_enough(m, u32::count_ones(w[at + j] & w[at + j + off]), bits[j]);
+        j += 1;
+    }
+    row
+}
+
+// The same, where the words have bits of carts alone: all carts, or at least one, need no counting, and more
+// carts than there are no word has.
+fn part(
+    w: &[u32; 88],
+    at: usize,
+    off: usize,
+    m: usize,
+    carts: usize,
+    n: usize,
+    bits: &[u32; 32],
+) -> u32
+    requires { ⌜ length (now w) ≡ 88 ⌝ }
+    requires { ⌜ (carts ≤ 32) × (n ≤ 32) × (at + n + off ≤ 88) ⌝ }
+    requires { ⌜ Bits (now bits) ⌝ }
+    requires { ⌜ ((j : ℕ) → j < n → shared (now w) off (at + j) < 2 ^ carts) ⌝ }
+    ensures { λ r. ⌜ Row n r (λ j. leb m (ones (shared (now (w .entry)) off (at + j)))) ⌝ }
+{
+    if carts < m {
+        return 0;
+    }
+    if m == carts {
+        return same(w, at, off, crate::words::lowest(carts), n, bits);
+    }
+    if m == 1 {
+        return same(w, at, off, 0, n, bits) ^ crate::words::lowest(n);
+    }
+    counted(w, at, off, m as u32, n, bits)
+}
+
+// The steps where word s and the word `off` further on share at least m bits, in two parts: there are 32 bits in the table.
+pub(crate) fn at_least(
+    w: &[u32; 88],
+    off: usize,
+    m: usize,
+    carts: usize,
+    h: usize,
+    bits: &[u32; 32],
+) -> u64
+    requires { ⌜ length (now w) ≡ 88 ⌝ }
+    requires { ⌜ (carts ≤ 32) × (h ≤ 64) × (h + off ≤ 88) ⌝ }
+    requires { ⌜ Bits (now bits) ⌝ }
+    requires { ⌜ ((s : ℕ) → s < h → shared (now w) off s < 2 ^ carts) ⌝ }
     ensures { λ r. ⌜ Row h r (λ s. leb m (ones (shared (now (w .entry)) off s))) ⌝ }
 {
-    let mut c = [0u32; 64];
-    test_words(w, off, m, h, &mut c);
-    gather(&c, h)
+    if h <= 32 {
+        return part(w, 0, off, m, carts, h, bits) as u64;
+    }
+    let low = part(w, 0, off, m, carts, 32, bits) as u64;
+    let high = part(w, 32, off, m, carts, h - 32, bits) as u64;
+    low | (high << 32)
 }

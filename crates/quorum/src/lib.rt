@@ -4,27 +4,44 @@ mod windows;
 mod words;
 
 ghost use Prim.Native.Nat.{ℕ, _+_, _^_, _≤_, _<_};
+ghost use mathlib.Core.Path.{_≡_};
 ghost use mathlib.Core.Bool.{_&&_};
 ghost use lib.Dec.{eqb};
 ghost use lib.ListN.{length, getD};
 ghost use Rattle.cltl.specs.Rules.{every, quorum};
 ghost use Rattle.mask.specs.Mask.{on, Row, signed};
 ghost use Rattle.table.specs.Table.{told};
+ghost use Rattle.quorum.specs.Words.{Bits};
+
+// The table of the bits that count_row asks for.
+pub fn fill_bits(bits: &mut [u32; 32])
+    requires { ⌜ length (now bits) ≡ 32 ⌝ }
+    ensures { λ _. ⌜ Bits (now (bits .exit)) ⌝ }
+{
+    let mut j = 0;
+    while j < 32 {
+        bits[j] = 1u32 << j;
+        j += 1;
+    }
+}
 
 // Where all carts have their bit, if the threshold is 1: a word is full if it has as many bits as there are carts.
-fn all_row(w: &[u32], m: usize, carts: usize, h: usize) -> u64
-    requires { ⌜ (h ≤ 64) × (h ≤ length (now w)) ⌝ }
+fn all_row(w: &[u32; 88], m: usize, carts: usize, h: usize, bits: &[u32; 32]) -> u64
+    requires { ⌜ length (now w) ≡ 88 ⌝ }
+    requires { ⌜ (carts ≤ 32) × (h ≤ 64) ⌝ }
+    requires { ⌜ Bits (now bits) ⌝ }
     requires { ⌜ ((s : ℕ) → s < h → getD (now w) s 0 < 2 ^ carts) ⌝ }
     ensures { λ r. ⌜ Row h r (λ s. eqb m 1 && every (on (getD (now (w .entry)) s 0)) carts) ⌝ }
 {
     if m == 1 {
-        counting::at_least(w, 0, carts, h)
+        counting::at_least(w, 0, carts, carts, h, bits)
     } else {
         0
     }
 }
 
-// The rule for a count with threshold m over the text (p), or the negation of the text, whose table begins at `at`.
+// The rule for a count with threshold m over the text (p), or the negation of the text, whose table begins at `at`. The words of w are
+// scratch: nothing is asked of them, and nothing is said of what they are afterwards.
 pub fn count_row(
     t: &[u32],
     at: usize,
@@ -34,15 +51,19 @@ pub fn count_row(
     h: usize,
     l: usize,
     d: usize,
+    w: &mut [u32; 88],
+    bits: &[u32; 32],
 ) -> u64
     requires { ⌜ (l < h) × (h ≤ 64) × (d ≤ 16) × (carts ≤ 32) ⌝ }
     requires { ⌜ at + h ≤ length (now t) ⌝ }
+    requires { ⌜ length (now w) ≡ 88 ⌝ }
+    requires { ⌜ Bits (now bits) ⌝ }
+    ensures { λ _. ⌜ length (now (w .exit)) ≡ 88 ⌝ }
     ensures { λ r. ⌜ Row h r (quorum h l carts d m (λ i s. signed p (told (now (t .entry)) at i s))) ⌝ }
 {
-    let mut w = [0u32; 88];
-    words::unroll(t, at, p, carts, h, &mut w);
-    let all = all_row(&w, m, carts, h);
-    words::repeat_lap(&mut w, h, l, d);
-    let off = windows::narrow(&mut w, h, d);
-    counting::at_least(&w, off, m, h) | all
+    words::unroll(t, at, p, carts, h, w);
+    let all = all_row(w, m, carts, h, bits);
+    words::repeat_lap(w, h, l, d);
+    let off = windows::narrow(w, h, d);
+    counting::at_least(w, off, m, carts, h, bits) | all
 }

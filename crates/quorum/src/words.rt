@@ -7,12 +7,12 @@ ghost use Rattle.mask.specs.Mask.{signed};
 ghost use Rattle.table.specs.Table.{told, Word, Stored};
 ghost use Rattle.quorum.specs.Words.{CartsAt, CounterAt};
 
-// The bit of each cart.
-fn all_carts(carts: usize) -> u32
-    requires { ⌜ carts ≤ 32 ⌝ }
-    ensures { λ r. ⌜ r ≡ 2 ^ carts - 1 ⌝ }
+// The n lowest bits: of as many carts, one each.
+pub(crate) fn lowest(n: usize) -> u32
+    requires { ⌜ n ≤ 32 ⌝ }
+    ensures { λ r. ⌜ r ≡ 2 ^ n - 1 ⌝ }
 {
-    ((1u64 << carts) - 1) as u32
+    ((1u64 << n) - 1) as u32
 }
 
 // What a word is turned over by: nothing for the text itself (p), every bit for its negation.
@@ -29,7 +29,7 @@ pub(crate) fn unroll(t: &[u32], at: usize, p: bool, carts: usize, h: usize, w: &
     requires { ⌜ length (now w) ≡ 88 ⌝ }
     ensures { λ _. ⌜ Stored (CartsAt carts (λ i s. signed p (told (now (t .entry)) at i s))) 0 0 h (now (w .entry)) (now (w .exit)) ⌝ }
 {
-    let full = all_carts(carts);
+    let full = lowest(carts);
     let flip = turn(p);
     let mut s = 0;
     while s < h {

@@ -27,16 +27,16 @@ use Rattle.mask.proofs.constant.Reads as constant-reads
 use Rattle.drift.proofs.clauses.+clause_row.{statement}
 use Rattle.drift.proofs.clauses.+clause_row.Tie.{close}
 
-abbrev μ-clause-row : Measures 2 clause-row-kinds.ps ℕ
-μ-clause-row κs a = a .1 .1 .1 .1 .0
+abbrev μ-clause-row : Measures 4 clause-row-kinds.ps ℕ
+μ-clause-row κs a = a .1 .1 .1 .1 .1 .1 .0
 
-abbrev clause-row-at : ℕ → In 2 clause-row-kinds.ps
+abbrev clause-row-at : ℕ → In 4 clause-row-kinds.ps
 clause-row-at t =
-    and 2 clause-row-kinds.ps (is 2 clause-row-kinds.ps μ-clause-row t) clause-row.Pre
+    and 4 clause-row-kinds.ps (is 4 clause-row-kinds.ps μ-clause-row t) clause-row.Pre
 
-abbrev clause-row-below : ℕ → In 2 clause-row-kinds.ps
+abbrev clause-row-below : ℕ → In 4 clause-row-kinds.ps
 clause-row-below t =
-    and 2 clause-row-kinds.ps (falls 2 clause-row-kinds.ps _<_ μ-clause-row t) clause-row.Pre
+    and 4 clause-row-kinds.ps (falls 4 clause-row-kinds.ps _<_ μ-clause-row t) clause-row.Pre
 
 abbrev clause-row-calls : ℕ → clause-row-lts.Claims
 clause-row-calls t =
@@ -47,12 +47,12 @@ clause-row-kind-at-requires t c κs = c .before .before .pre .1 .1 .0
 
 clause-row-leaf-row-requires : (t : ℕ) → clause-row-lts.Need-leaf-row-requires (clause-row-calls t) (clause-row-at t) clause-row.Post
 clause-row-leaf-row-requires t c κs =
-    let s = c .before .before .before .before .before in
-    let k = c .before .before .kind-at .ensures in
-    (s .pre .1 .0, (s .pre .1 .1 .0, (s .pre .1 .1 .1, omega (arith, c .before .if1 .taken))))
+    let s = c .before .before .before .before .before .before in
+    let k = c .before .before .before .kind-at .ensures in
+    (s .pre .1 .0, (s .pre .1 .1 .0, (s .pre .1 .1 .1 .0, (s .pre .1 .1 .1 .1, omega (arith, c .before .before .if1 .taken)))))
 
 clause-row-same-length : (t : ℕ) → clause-row-lts.Need-same-length (clause-row-calls t) (clause-row-at t) clause-row.Post
-clause-row-same-length t c = c .before .before .leaf-row .ensures .0 .size
+clause-row-same-length t c = c .before .before .leaf-row .ensures .0 .0 .size
 
 clause-row-returns : (t : ℕ) → clause-row-lts.Need-returns (clause-row-calls t) (clause-row-at t) clause-row.Post
 clause-row-returns t c = c .before .before .leaf-row .ensures
@@ -64,7 +64,7 @@ clause-row-returns-2 : (t : ℕ) → clause-row-lts.Need-returns-2 (clause-row-c
 clause-row-returns-2 t c =
     let s = c .before .before .before .before .before .before in
     let g = s .args .g in (
-      kept-all _ (s .args .t .now),
+      (kept-all _ (s .args .t .now), s .pre .1 .1 .1 .1 .0),
       λ bears shown. clause-top (rowsOn (g .carts) (g .h) (g .l) bears) (g .d) (s .args .nodes .now) (s .pre .1 .0 .0 .lap) (s .args .p) (s .args .k) _ _ _
           (c .before .before .before .kind-at .ensures) refl (c .before .if2 .taken) (c .constant .ensures),
     )
@@ -77,88 +77,95 @@ clause-row-under-requires t c κs = tt
 
 clause-row-clause-row-requires : (t : ℕ) → clause-row-lts.Need-clause-row-requires (clause-row-calls t) (clause-row-at t) clause-row.Post
 clause-row-clause-row-requires t c κs =
-    let s = c .before .before .before .before .before .before .before .before in
+    let s = c .before .before .before .before .before .before .before .before .before in
     let a = s .args in
-    let k = c .before .before .before .before .before .kind-at .ensures in
-    let f = c .before .before .first-at .ensures in
-    let low = first-low (a .nodes .now) (a .k) (s .pre .1 .1 .0) (omega (arith, c .before .before .before .if2 .left)) in
-    let room = room-less (a .g .marks) (a .g .h) (a .nodes .now) (a .k + 1) (c .before .before .first-at .result + 1) _ (omega arith) (s .pre .1 .1 .1 .1) in (
+    let k = c .before .before .before .before .before .before .kind-at .ensures in
+    let f = c .before .before .before .first-at .ensures in
+    let low = first-low (a .nodes .now) (a .k) (s .pre .1 .1 .0) (omega (arith, c .before .before .before .before .if2 .left)) in
+    let room = room-less (a .g .marks) (a .g .h) (a .nodes .now) (a .k + 1) (c .before .before .before .first-at .result + 1) _ (omega arith) (s .pre .1 .1 .1 .0 .1) in (
       omega (arith, s .pre .0),
       (
         s .pre .1 .0,
-        (ordered-less (a .nodes .now) (a .k + 1) _ (omega arith) (s .pre .1 .1 .0), (omega (arith, s .pre .1 .1 .1 .0), room)),
+        (
+          ordered-less (a .nodes .now) (a .k + 1) _ (omega arith) (s .pre .1 .1 .0),
+          ((omega (arith, s .pre .1 .1 .1 .0 .0), room), s .pre .1 .1 .1 .1),
+        ),
       ),
     )
 
 clause-row-one-row-requires : (t : ℕ) → clause-row-lts.Need-one-row-requires (clause-row-calls t) (clause-row-at t) clause-row.Post
 clause-row-one-row-requires t c κs =
-    let s = c .before .before .before .before .before .before .before .before .before .before .before .before in
+    let s = c .before .before .before .before .before .before .before .before .before .before .before .before .before in
     let a = c .before .before .before .clause-row .ensures .1 _ (shown-itself _ _ _ (s .args .t .now)) _ (le-refl _) in
     (s .pre .1 .0 .0 .lap, s .pre .1 .0 .0 .steps, a .low)
 
 clause-row-same-length-2 : (t : ℕ) → clause-row-lts.Need-same-length-2 (clause-row-calls t) (clause-row-at t) clause-row.Post
-clause-row-same-length-2 t c = c .before .before .before .before .clause-row .ensures .0 .size
+clause-row-same-length-2 t c = c .before .before .before .before .clause-row .ensures .0 .0 .size
 
 clause-row-returns-3 : (t : ℕ) → clause-row-lts.Need-returns-3 (clause-row-calls t) (clause-row-at t) clause-row.Post
 clause-row-returns-3 t c =
-    let s = c .before .before .before .before .before .before .before .before .before .before .before .before .before in
+    let s = c .before .before .before .before .before .before .before .before .before .before .before .before .before .before in
     let g = s .args .g in (
       c .before .before .before .before .clause-row .ensures .0,
       λ bears shown.
-          let a : ClauseRow (rowsOn (g .carts) (g .h) (g .l) bears) (g .d) (s .args .nodes .now) (under (oneOf (c .before .before .before .before .before .before .before .before .before .before .kind-at .result)) (s .args .p))
-          (c .before .before .before .before .before .before .before .first-at .result) (c .before .before .before .before .clause-row .result) = (rw (c .before .before .before .before .before .under .ensures) at (c .before .before .before .before .clause-row .ensures .1 bears shown)) in
+          let a : ClauseRow (rowsOn (g .carts) (g .h) (g .l) bears) (g .d) (s .args .nodes .now) (under (oneOf (c .before .before .before .before .before .before .before .before .before .before .before .kind-at .result)) (s .args .p))
+          (c .before .before .before .before .before .before .before .before .first-at .result) (c .before .before .before .before .clause-row .result) = (rw (c .before .before .before .before .before .under .ensures) at (c .before .before .before .before .clause-row .ensures .1 bears shown)) in
           clause-one (rowsOn (g .carts) (g .h) (g .l) bears) (g .d) (s .args .nodes .now) (s .pre .1 .0 .0 .lap) (s .args .p) (s .args .k) _ _ _
-          (c .before .before .before .before .before .before .before .before .before .before .kind-at .ensures) (c .before .before .before .before .before .before .before .first-at .ensures) _ (s .pre .1 .1 .0) a (omega (arith, c .before .before .before .before .before .before .before .before .if2 .left)) (c .before .if3 .taken) (c .one-row .ensures),
+          (c .before .before .before .before .before .before .before .before .before .before .before .kind-at .ensures) (c .before .before .before .before .before .before .before .before .first-at .ensures) _ (s .pre .1 .1 .0) a (omega (arith, c .before .before .before .before .before .before .before .before .before .if2 .left)) (c .before .if3 .taken) (c .one-row .ensures),
     )
 
 clause-row-second-at-requires : (t : ℕ) → clause-row-lts.Need-second-at-requires (clause-row-calls t) (clause-row-at t) clause-row.Post
-clause-row-second-at-requires t c κs = c .before .before .before .before .before .before .before .before .before .before .before .before .before .pre .1 .1 .0
+clause-row-second-at-requires t c κs = c .before .before .before .before .before .before .before .before .before .before .before .before .before .before .before .pre .1 .1 .0
 
 clause-row-clause-row-requires-2 : (t : ℕ) → clause-row-lts.Need-clause-row-requires-2 (clause-row-calls t) (clause-row-at t) clause-row.Post
 clause-row-clause-row-requires-2 t c κs =
-    let s = c .before .before .before .before .before .before .before .before .before .before .before .before .before .before in
+    let s = c .before .before .before .before .before .before .before .before .before .before .before .before .before .before .before .before in
     let a = s .args in
-    let k = c .before .before .before .before .before .before .before .before .before .before .before .kind-at .ensures in
+    let k = c .before .before .before .before .before .before .before .before .before .before .before .before .before .kind-at .ensures in
     let f = c .second-at .ensures in
-    let low = two-low (a .nodes .now) (a .k) (s .pre .1 .1 .0) (omega (arith, c .before .before .if3 .left)) (omega (arith, c .before .before .before .before .before .before .before .before .before .before .if1 .left)) .1 in
-    let room = room-less (a .g .marks) (a .g .h) (a .nodes .now) (a .k + 1) (c .second-at .result + 1) _ (omega arith) (s .pre .1 .1 .1 .1) in
-    let kept = c .before .before .before .before .before .clause-row .ensures .0 in (
+    let low = two-low (a .nodes .now) (a .k) (s .pre .1 .1 .0) (omega (arith, c .before .before .before .if3 .left)) (omega (arith, c .before .before .before .before .before .before .before .before .before .before .before .before .if1 .left)) .1 in
+    let room = room-less (a .g .marks) (a .g .h) (a .nodes .now) (a .k + 1) (c .second-at .result + 1) _ (omega arith) (s .pre .1 .1 .1 .0 .1) in
+    let first = c .before .before .before .before .before .before .clause-row .ensures .0 in
+    let kept = first .0 in (
       omega (arith, s .pre .0),
       (
         (s .pre .1 .0 .0, kept-constants (a .g .marks) (a .g .h) (a .t .now) _ kept (s .pre .1 .0 .1)),
         (
           ordered-less (a .nodes .now) (a .k + 1) _ (omega arith) (s .pre .1 .1 .0),
-          (omega (arith, s .pre .1 .1 .1 .0), subst (HasRoom (a .g .marks) (a .g .h) (a .nodes .now) _) (sym (kept .size)) room),
+          (
+            (omega (arith, s .pre .1 .1 .1 .0 .0), subst (HasRoom (a .g .marks) (a .g .h) (a .nodes .now) _) (sym (kept .size)) room),
+            (first .1, s .pre .1 .1 .1 .1 .1),
+          ),
         ),
       ),
     )
 
 clause-row-two-row-requires : (t : ℕ) → clause-row-lts.Need-two-row-requires (clause-row-calls t) (clause-row-at t) clause-row.Post
 clause-row-two-row-requires t c κs =
-    let s = c .before .before .before .before .before .before .before .before .before .before .before .before .before .before .before .before .before in
-    let a = c .before .before .before .before .before .before .before .before .clause-row .ensures .1 _ (shown-itself _ _ _ (s .args .t .now)) _ (le-refl _) in
+    let s = c .before .before .before .before .before .before .before .before .before .before .before .before .before .before .before .before .before .before .before in
+    let a = c .before .before .before .before .before .before .before .before .before .clause-row .ensures .1 _ (shown-itself _ _ _ (s .args .t .now)) _ (le-refl _) in
     let g = s .args .g in
-    let shown = kept-shown (g .marks) (g .h) (s .args .t .now) _ (c .before .before .before .before .before .before .before .before .clause-row .ensures .0) (g .carts) _ (shown-itself _ _ _ (s .args .t .now)) in
+    let shown = kept-shown (g .marks) (g .h) (s .args .t .now) _ (c .before .before .before .before .before .before .before .before .before .clause-row .ensures .0 .0) (g .carts) _ (shown-itself _ _ _ (s .args .t .now)) in
     let b = c .before .before .clause-row2 .ensures .1 _ shown _ (le-refl _) in
     (s .pre .1 .0 .0 .lap, s .pre .1 .0 .0 .steps, a .low, b .low)
 
 clause-row-same-length-3 : (t : ℕ) → clause-row-lts.Need-same-length-3 (clause-row-calls t) (clause-row-at t) clause-row.Post
-clause-row-same-length-3 t c = c .before .before .before .clause-row2 .ensures .0 .size ∙ c .before .before .before .before .before .before .before .before .before .clause-row .ensures .0 .size
+clause-row-same-length-3 t c = c .before .before .before .clause-row2 .ensures .0 .0 .size ∙ c .before .before .before .before .before .before .before .before .before .before .clause-row .ensures .0 .0 .size
 
 clause-row-returns-4 : (t : ℕ) → clause-row-lts.Need-returns-4 (clause-row-calls t) (clause-row-at t) clause-row.Post
 clause-row-returns-4 t c =
-    let s = c .before .before .before .before .before .before .before .before .before .before .before .before .before .before .before .before .before .before in
+    let s = c .before .before .before .before .before .before .before .before .before .before .before .before .before .before .before .before .before .before .before .before in
     let g = s .args .g in
-    let first = c .before .before .before .before .before .before .before .before .before .clause-row .ensures in
+    let first = c .before .before .before .before .before .before .before .before .before .before .clause-row .ensures in
     let second = c .before .before .before .clause-row2 .ensures in (
-      kept-then _ _ (s .args .t .now) _ _ (le-refl _) (first .0) (second .0),
+      (kept-then _ _ (s .args .t .now) _ _ (le-refl _) (first .0 .0) (second .0 .0), second .0 .1),
       λ bears shown.
-          let a : ClauseRow (rowsOn (g .carts) (g .h) (g .l) bears) (g .d) (s .args .nodes .now) (under (oneOf (c .before .before .before .before .before .before .before .before .before .before .before .before .before .before .before .kind-at .result)) (s .args .p))
-          (c .before .before .before .before .before .before .before .before .before .before .before .before .first-at .result) (c .before .before .before .before .before .before .before .before .before .clause-row .result) = (rw (c .before .before .before .before .before .before .before .before .before .before .under .ensures) at (first .1 bears shown)) in
+          let a : ClauseRow (rowsOn (g .carts) (g .h) (g .l) bears) (g .d) (s .args .nodes .now) (under (oneOf (c .before .before .before .before .before .before .before .before .before .before .before .before .before .before .before .before .before .kind-at .result)) (s .args .p))
+          (c .before .before .before .before .before .before .before .before .before .before .before .before .before .before .first-at .result) (c .before .before .before .before .before .before .before .before .before .before .clause-row .result) = (rw (c .before .before .before .before .before .before .before .before .before .before .before .under .ensures) at (first .1 bears shown)) in
           clause-two (rowsOn (g .carts) (g .h) (g .l) bears) (g .d) (s .args .nodes .now) (s .pre .1 .0 .0 .lap) (s .args .p) (s .args .k) _ _ _
-          (c .before .before .before .before .before .before .before .before .before .before .before .before .before .before .before .kind-at .ensures) (c .before .before .before .before .before .before .before .before .before .before .before .before .first-at .ensures) _ (s .pre .1 .1 .0) a _ _ (c .before .before .before .before .second-at .ensures)
-          (omega (arith, c .before .before .before .before .before .before .if3 .left)) (omega (arith, c .before .before .before .before .before .before .before .before .before .before .before .before .before .before .if1 .left))
-          (second .1 bears (kept-shown (g .marks) (g .h) (s .args .t .now) _ (first .0) (g .carts) bears shown)) (c .two-row .ensures),
+          (c .before .before .before .before .before .before .before .before .before .before .before .before .before .before .before .before .before .kind-at .ensures) (c .before .before .before .before .before .before .before .before .before .before .before .before .before .before .first-at .ensures) _ (s .pre .1 .1 .0) a _ _ (c .before .before .before .before .second-at .ensures)
+          (omega (arith, c .before .before .before .before .before .before .before .if3 .left)) (omega (arith, c .before .before .before .before .before .before .before .before .before .before .before .before .before .before .before .before .if1 .left))
+          (second .1 bears (kept-shown (g .marks) (g .h) (s .args .t .now) _ (first .0 .0) (g .carts) bears shown)) (c .two-row .ensures),
     )
 
 pub +clause-row-spec : {M : Type 1} → statement M

@@ -1,46 +1,59 @@
-use Prim.Native.Nat.{ℕ, _-_, _≤_, _<_}
+use Prim.Native.Nat.{ℕ, _+_, _*_, _-_, _≤_, _<_}
 use mathlib.Core.Path.{_≡_, refl, subst}
 use mathlib.Core.List.{List}
 use native.Mathlib.Omega.{arith}
 use lib.ListN.{length}
 use Rattle.table.specs.Table.{Stored}
 use Rattle.table.specs.Storing.{begun, upward}
-use Rattle.quorum.specs.Words.{shared}
+use Rattle.quorum.specs.Words.{sharedByThree}
+use Rattle.quorum.proofs.Narrowing.{ahead}
 use Rattle.quorum.proofs.windows.meet.Statement.{statement}
 use Rattle.quorum.proofs.windows.meet.Tie as tie
 
 abbrev Each : List ℕ → ℕ → ℕ → ℕ → Type 0
-Each from k s x = x ≡ shared from k s
+Each w k s x = x ≡ sharedByThree w k s
 
 abbrev Inv-loop : tie.InvT-loop
-Inv-loop from k to₀ n s₀ to s = (s ≤ n) × Stored (Each from k) 0 0 s to₀ to
+Inv-loop w₀ k n s₀ w s = (s ≤ n) × Stored (Each w₀ k) 0 0 s w₀ w
 
 abbrev μ-loop : tie.MeasureT-loop
-μ-loop from k to₀ n s₀ to s = n - s
+μ-loop w₀ k n s₀ w s = n - s
 
 loop-holds : tie.Need-loop-holds Inv-loop μ-loop
-loop-holds c = (omega arith, begun (Each (c .args .from .now) (c .args .k)) 0 0 (c .args .to .now))
+loop-holds c = (omega arith, begun (Each (c .args .w .now) (c .args .k)) 0 0 (c .args .w .now))
 
-mul-to : tie.Need-mul-to Inv-loop μ-loop
-mul-to c = omega arith
+mul-w : tie.Need-mul-w Inv-loop μ-loop
+mul-w c = omega arith
 
-element-copy-out-to : tie.Need-element-copy-out-to Inv-loop μ-loop
-element-copy-out-to c = omega arith
+element-copy-out-w : tie.Need-element-copy-out-w Inv-loop μ-loop
+element-copy-out-w c = omega arith
 
-add-to : tie.Need-add-to Inv-loop μ-loop
-add-to c = omega arith
+add-w : tie.Need-add-w Inv-loop μ-loop
+add-w c = omega arith
 
-mul-to-2 : tie.Need-mul-to-2 Inv-loop μ-loop
-mul-to-2 c = omega arith
+mul-w-2 : tie.Need-mul-w-2 Inv-loop μ-loop
+mul-w-2 c = omega arith
 
-element-copy-out-to-2 : tie.Need-element-copy-out-to-2 Inv-loop μ-loop
-element-copy-out-to-2 c = omega arith
+element-copy-out-w-2 : tie.Need-element-copy-out-w-2 Inv-loop μ-loop
+element-copy-out-w-2 c = omega arith
 
-mul-to-3 : tie.Need-mul-to-3 Inv-loop μ-loop
-mul-to-3 c = omega arith
+mul-w-3 : tie.Need-mul-w-3 Inv-loop μ-loop
+mul-w-3 c = omega arith
 
-element-write-to : tie.Need-element-write-to Inv-loop μ-loop
-element-write-to c = omega arith
+add-w-2 : tie.Need-add-w-2 Inv-loop μ-loop
+add-w-2 c = omega arith
+
+mul-w-4 : tie.Need-mul-w-4 Inv-loop μ-loop
+mul-w-4 c = omega arith
+
+element-copy-out-w-3 : tie.Need-element-copy-out-w-3 Inv-loop μ-loop
+element-copy-out-w-3 c = omega arith
+
+mul-w-5 : tie.Need-mul-w-5 Inv-loop μ-loop
+mul-w-5 c = omega arith
+
+element-write-w : tie.Need-element-write-w Inv-loop μ-loop
+element-write-w c = omega arith
 
 add-s : tie.Need-add-s Inv-loop μ-loop
 add-s c = omega arith
@@ -50,17 +63,18 @@ loop-less c = omega arith
 
 loop-again : tie.Need-loop-again Inv-loop μ-loop
 loop-again c =
-    let a = c .before .before .before .before .args in
-    let v = c .before .before .before .loop in
-    let inside : v .s < length (v .to) = omega (arith, v .inv .1 .kept) in
-    (omega arith, upward (Each (a .from .now) (a .k)) 0 0 (v .s) _ _ (a .to .now) (v .to) (v .inv .1) (omega arith) inside (omega arith) refl)
+    let a = c .before .before .before .before .before .args in
+    let v = c .before .before .before .before .loop in
+    let inside : v .s < length (v .w) = omega (arith, v .inv .1 .kept) in
+    let word = ahead (Each (a .w .now) (a .k)) (a .k) (v .s) (a .w .now) (v .w) (v .inv .1) in
+    (omega arith, upward (Each (a .w .now) (a .k)) 0 0 (v .s) _ _ (a .w .now) (v .w) (v .inv .1) (omega arith) inside (omega arith) word)
 
 returns : tie.Need-returns Inv-loop μ-loop
 returns c =
     let a = c .before .before .args in
     let v = c .before .loop in
     let e : v .s ≡ a .n = omega arith in
-    subst (λ (n : ℕ). Stored (Each (a .from .now) (a .k)) 0 0 n (a .to .now) (v .to)) e (v .inv .1)
+    subst (λ (n : ℕ). Stored (Each (a .w .now) (a .k)) 0 0 n (a .w .now) (v .w)) e (v .inv .1)
 
 pub meet-spec : {M : Type 1} → statement M
 meet-spec =
@@ -69,13 +83,17 @@ meet-spec =
     Inv-loop
     μ-loop
     loop-holds
-    mul-to
-    element-copy-out-to
-    add-to
-    mul-to-2
-    element-copy-out-to-2
-    mul-to-3
-    element-write-to
+    mul-w
+    element-copy-out-w
+    add-w
+    mul-w-2
+    element-copy-out-w-2
+    mul-w-3
+    add-w-2
+    mul-w-4
+    element-copy-out-w-3
+    mul-w-5
+    element-write-w
     add-s
     loop-less
     loop-again

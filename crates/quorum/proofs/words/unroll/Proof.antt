@@ -22,8 +22,8 @@ Inv-loop t at p carts h w₀ full flip s₀ w s = (s ≤ h) × Stored (Each t at
 abbrev μ-loop : tie.MeasureT-loop
 μ-loop t at p carts h w₀ full flip s₀ w s = h - s
 
-all-carts-requires : tie.Need-all-carts-requires Inv-loop μ-loop
-all-carts-requires c κs = omega arith
+lowest-requires : tie.Need-lowest-requires Inv-loop μ-loop
+lowest-requires c κs = omega arith
 
 turn-requires : tie.Need-turn-requires Inv-loop μ-loop
 turn-requires c κs = tt
@@ -59,7 +59,7 @@ loop-again c =
     let a = c .before .before .before .before .before .before .args in
     let v = c .before .before .loop in
     let inside : v .s < length (v .w) = omega (arith, v .inv .1 .kept) in
-    let full = c .before .before .before .before .all-carts in
+    let full = c .before .before .before .before .lowest in
     let word =
     carts-at (a .carts) (getD (a .t .now) (a .at + v .s) 0) _ (full .result) (a .p) (omega arith) (omega (arith, full .ensures))
     (c .before .before .before .turn .ensures) in
@@ -78,7 +78,7 @@ unroll-spec =
     (tie.spec
     Inv-loop
     μ-loop
-    all-carts-requires
+    lowest-requires
     turn-requires
     loop-holds
     add-w
