@@ -119,3 +119,8 @@ module _ (P : Rows) (d : ℕ) where
   -- before the first clause, by the numbers that say so
   pub going-first : (s : List ℕ) → rulesVerdict s ≡ Accepted → (at n : ℕ) (found : Verdict) → found ≡ Accepted → at ≡ 0 → n ≡ 0 → Going s at n found
   going-first s e at n found f a z = rw (f, a, z) (going-start s e)
+
+  -- the same by other names of the numbers
+  pub going-as : (s : List ℕ) (at n : ℕ) (found : Verdict) (at′ n′ : ℕ) (found′ : Verdict) → found′ ≡ found → at′ ≡ at → n′ ≡ n → Going s at n found
+      → Going s at′ n′ found′
+  going-as s at n found at′ n′ found′ f a z g = rw (f, a, z) g

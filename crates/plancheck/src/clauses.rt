@@ -46,7 +46,7 @@ pub struct Reached {
     pub n: u32,
 }
 
-pub fn reached(done: bool, found: Verdict, at: usize, n: u32) -> Reached
+pub fn so_far(done: bool, found: Verdict, at: usize, n: u32) -> Reached
     ensures { λ r. ⌜ (r .done ≡ done) × (r .found ≡ found) × (r .at ≡ at) × (r .n ≡ n) ⌝ }
 {
     Reached { done, found, at, n }
@@ -140,15 +140,15 @@ pub fn judge_lines(
     while at < rules.len() {
         let r = sheet::read_clause(rules, at, &mut nodes);
         if !has_room(&nodes, r.n, marks, h.steps, t.len()) {
-            return reached(false, found, at, n);
+            return so_far(false, found, at, n);
         }
         let last = r.n - 1;
         if looks_on(&nodes, last, g.d) {
-            return reached(true, Verdict::Rules(refusal::refuse(16, n, 0)), at, n);
+            return so_far(true, Verdict::Rules(refusal::refuse(16, n, 0)), at, n);
         }
         found = first_found(found, &nodes, t, &mut w, &bits, g, last, n);
         at = r.at;
         n += 1;
     }
-    reached(true, found, at, n)
+    so_far(true, found, at, n)
 }

@@ -4,7 +4,7 @@ mod clauses;
 use clauses::Reached;
 use clauses::fits;
 use clauses::judge_lines;
-use clauses::reached;
+use clauses::so_far;
 use floor::Floor;
 use plan::Head;
 use refusal::Verdict;
@@ -27,7 +27,7 @@ ghost use Rattle.plancheck.specs.Promises.{PlanChecked};
 fn begun() -> Reached
     ensures { λ r. ⌜ (r .done ≡ false) × (r .found ≡ Accepted) × (r .at ≡ 0) × (r .n ≡ 0) ⌝ }
 {
-    reached(false, Verdict::Accepted, 0, 0)
+    so_far(false, Verdict::Accepted, 0, 0)
 }
 
 // The nodes that a count's text may well have in a sheet this long; where one has more, the full block is used.

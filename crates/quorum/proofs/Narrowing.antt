@@ -24,22 +24,22 @@ pub record Narrowing (h d width : ℕ) (before after : List ℕ) : Type 0 where
 pub begun : (h d : ℕ) (w : List ℕ) → Narrowing h d 1 w w
 begun h d w = record { kept = refl; each = λ s p. single w s; above = λ j p. refl }
 
-module _ (h d c k n : ℕ) (w₀ w w′ : List ℕ) (some : 0 < c) (near : k ≤ c) (all : h + d ≤ n) (few : n ≤ h + d + 7) where
-  -- three windows that touch or overlap
-  pub onward : Narrowing h d c w₀ w → Stored (λ s x. x ≡ sharedByThree w k s) 0 0 n w w′ → Narrowing h d (2 * k + c) w₀ w′
-  onward g r = record {
-    kept = r .kept ∙ g .kept;
-    each = λ s p.
-        let a = g .each s (omega arith) in
-        let b = g .each (s + k) (omega arith) in
-        let t = g .each (s + 2 * k) (omega arith) in
-        subst (Window w₀ (2 * k + c) s) (sym (own (λ s x. x ≡ sharedByThree w k s) 0 n w w′ r s (omega arith) (omega arith)))
-        (widened w₀ (k + c) (2 * k) c (2 * k + c) s _ _ (omega arith) (omega arith) refl (widened w₀ c k c (k + c) s _ _ near (omega arith) refl a b) t);
-    above = λ j p. r .above j (omega arith) ∙ g .above j p;
-  }
+-- three windows that touch or overlap
+pub onward : (h d c k n : ℕ) (w₀ w w′ : List ℕ) → Narrowing h d c w₀ w → Stored (λ s x. x ≡ sharedByThree w k s) 0 0 n w w′ → k ≤ c → 0 < c → h + d ≤ n
+    → n ≤ h + d + 7 → Narrowing h d (2 * k + c) w₀ w′
+onward h d c k n w₀ w w′ g r near some all few = record {
+  kept = r .kept ∙ g .kept;
+  each = λ s p.
+      let a = g .each s (omega arith) in
+      let b = g .each (s + k) (omega arith) in
+      let t = g .each (s + 2 * k) (omega arith) in
+      subst (Window w₀ (2 * k + c) s) (sym (own (λ s x. x ≡ sharedByThree w k s) 0 n w w′ r s (omega arith) (omega arith)))
+      (widened w₀ (k + c) (2 * k) c (2 * k + c) s _ _ (omega arith) (omega arith) refl (widened w₀ c k c (k + c) s _ _ near (omega arith) refl a b) t);
+  above = λ j p. r .above j (omega arith) ∙ g .above j p;
+}
 
 pub first : (h d n : ℕ) (w w′ : List ℕ) → h + d ≤ n → n ≤ h + d + 7 → Stored (λ s x. x ≡ sharedByThree w 1 s) 0 0 n w w′ → Narrowing h d 3 w w′
-first h d n w w′ all few = onward h d 1 1 n w w w′ (omega arith) (omega arith) all few (begun h d w)
+first h d n w w′ all few r = onward h d 1 1 n w w w′ (begun h d w) r (omega arith) (omega arith) all few
 
 pub ended : (h d width off : ℕ) (before after : List ℕ) → Narrowing h d width before after → d < 2 * width → off + width ≡ d + 1 → Narrowed h d off before after
 ended h d width off before after g past e = record {

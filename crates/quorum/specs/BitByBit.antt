@@ -58,4 +58,5 @@ pub halves : (h low high up : ℕ) (f : ℕ → Bool) → 32 ≤ h → up ≡ hi
     → Row h (bitOr low up) f
 halves h low high up f p e a b =
     let n : h - 32 + 32 ≡ h = omega arith in
-    subst (λ (y : ℕ). Row h (bitOr low y) f) (sym e) (subst (λ (k : ℕ). Row k (bitOr low (high * 2 ^ 32)) f) n (parts 32 (h - 32) low high f (from-0 32 low f a) b))
+    subst (λ (y : ℕ). Row h (bitOr low y) f) (sym e)
+    (subst (λ (k : ℕ). Row k (bitOr low (high * 2 ^ 32)) f) n (parts 32 (h - 32) low high f (from-0 32 low f a) b))

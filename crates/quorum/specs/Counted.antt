@@ -55,8 +55,8 @@ module _ (h l d off : ℕ) (some : l < h) (w₀ w₁ w₂ : List ℕ) (again : S
   -- the two parts of a window together
   whole : (s : ℕ) → s < h → Window w₁ (d + 1) s (shared w₂ off s)
   whole s p =
-      widened w₁ (d + 1 - off) off (d + 1 - off) (d + 1) s _ _ (omega (arith, narrow .short)) (omega arith) (omega (arith, narrow .short)) (narrow .each s (omega arith))
-      (narrow .each (s + off) (omega arith))
+      widened w₁ (d + 1 - off) off (d + 1 - off) (d + 1) s _ _ (omega (arith, narrow .short)) (omega arith) (omega (arith, narrow .short))
+      (narrow .each s (omega arith)) (narrow .each (s + off) (omega arith))
 
   module _ (m carts : ℕ) (f : ℕ → ℕ → Bool) (steps : (s : ℕ) → s < h → CartsAt carts f s (getD w₀ s 0)) where
     -- bit i all along the window

@@ -52,8 +52,7 @@ fn counted(w: &[u32; 88], at: usize, off: usize, m: u32, n: usize, bits: &[u32; 
     row
 }
 
-// The same, where the words have bits of carts alone: all carts, or at least one, need no counting, and more
-// carts than there are no word has.
+// The same, where the words have bits of carts alone: more carts than there are no word has, and all carts or at least one need no counting.
 fn part(
     w: &[u32; 88],
     at: usize,

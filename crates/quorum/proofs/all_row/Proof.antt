@@ -2,7 +2,6 @@ use native.Mathlib.Omega.{arith}
 use Prim.Native.Nat.{_+_}
 use lib.Bits.{and-le-l}
 use lib.ListN.{getD}
-use borrow.Author.Needs.{needs}
 use Rattle.quorum.specs.Counted.{with-one, with-more}
 use Rattle.quorum.proofs.all_row.Statement.{statement}
 use Rattle.quorum.proofs.all_row.Tie as tie

@@ -21,37 +21,45 @@ accepts-requires c κs = search needs
 
 returns : tie.Need-returns
 returns c =
-    let a = c .before .before .before .before .args in (
-      kept-all _ (a .t .now),
+    let s = c .before .before .before .before in
+    let a = s .args in (
+      (kept-all _ (a .t .now), s .pre .1 .1 .1 .0),
       λ bears shown m q. sym (stops (a .found) _ (sym (c .before .accepts .ensures) ∙ not-is _ true (c .if1 .taken))),
     )
 
 clause-row-requires : tie.Need-clause-row-requires
-clause-row-requires c κs = search needs
+clause-row-requires c κs = let s = c .before .before .before .before .before .before in (s .pre .0, (s .pre .1 .0, (s .pre .1 .1 .0, s .pre .1 .1 .1)))
 
 same-length : tie.Need-same-length
-same-length c = search needs
+same-length c = c .before .before .before .clause-row .ensures .0 .0 .size
 
 returns-2 : tie.Need-returns-2
 unfolding rules
 returns-2 c =
-    let s = c .before .before .before .before .before .before .before .before .before in
+    let s = c .before .before .before .before .before .before .before .before .before .before in
     let a = s .args in
     let g = a .g in
     let r = c .before .before .before .clause-row .ensures in (
       r .0,
       λ bears shown m q. clause-kept (rowsOn (g .carts) (g .h) (g .l) bears) (g .d) (a .n) (clauseTree (a .nodes .now) m (a .k)) (c .before .before .before .clause-row .result)
           (omega (arith, s .pre .0 .0 .lap)) (r .1 bears shown m q) (c .if2 .taken)
-          ∙ sym (goes-on (a .found) _ (sym (c .before .before .before .before .before .before .accepts .ensures) ∙ not-is _ false (c .before .before .before .before .before .if1 .left))),
+          ∙ sym (goes-on (a .found) _ (sym (c .before .before .before .before .before .before .before .accepts .ensures) ∙ not-is _ false (c .before .before .before .before .before .before .if1 .left))),
     )
 
 failing-step-requires : tie.Need-failing-step-requires
 failing-step-requires c κs =
-    let s = c .before .before .before .before .before .before .before .before .before .before in
+    let s = c .before .before .before .before .before .before .before .before .before .before .before .before in
     let g = s .args .g in
-    let r = c .before .before .before .before .clause-row .ensures .0 in (
+    let first = c .before .before .before .before .before .clause-row .ensures .0 in
+    let r = first .0 in (
       (s .pre .0 .0, kept-constants (g .marks) (g .h) (s .args .t .now) _ r (s .pre .0 .1)),
-      (s .pre .1 .0, (s .pre .1 .1 .0, subst (HasRoom (g .marks) (g .h) (s .args .nodes .now) _) (sym (r .size)) (s .pre .1 .1 .1))),
+      (
+        s .pre .1 .0,
+        (
+          (s .pre .1 .1 .0 .0, subst (HasRoom (g .marks) (g .h) (s .args .nodes .now) _) (sym (r .size)) (s .pre .1 .1 .0 .1)),
+          (first .1, s .pre .1 .1 .1 .1),
+        ),
+      ),
     )
 
 cast-refuse : tie.Need-cast-refuse
@@ -61,22 +69,22 @@ refuse-requires : tie.Need-refuse-requires
 refuse-requires c κs = search needs
 
 same-length-2 : tie.Need-same-length-2
-same-length-2 c = search needs
+same-length-2 c = c .before .before .before .failing-step .ensures .0 .0 .size ∙ c .before .before .before .before .before .before .before .before .before .clause-row .ensures .0 .0 .size
 
 returns-3 : tie.Need-returns-3
 unfolding rules
 returns-3 c =
-    let s = c .before .before .before .before .before .before .before .before .before .before .before .before .before .before in
+    let s = c .before .before .before .before .before .before .before .before .before .before .before .before .before .before .before .before in
     let a = s .args in
     let g = a .g in
-    let r = c .before .before .before .before .before .before .before .before .clause-row .ensures in
+    let r = c .before .before .before .before .before .before .before .before .before .clause-row .ensures in
     let f = c .before .before .before .failing-step .ensures in (
-      kept-then _ _ (a .t .now) _ _ (le-refl _) (r .0) (f .0),
+      (kept-then _ _ (a .t .now) _ _ (le-refl _) (r .0 .0) (f .0 .0), f .0 .1),
       λ bears shown m q. ap AboutRules (c .refuse .ensures)
-          ∙ clause-fails (rowsOn (g .carts) (g .h) (g .l) bears) (g .d) (a .n) (clauseTree (a .nodes .now) m (a .k)) (c .before .before .before .before .before .before .before .before .clause-row .result)
-          (omega (arith, s .pre .0 .0 .lap)) (r .1 bears shown m q) (c .before .before .before .before .before .if2 .left) (c .before .before .before .failing-step .result)
-          (f .1 .0 bears (kept-shown (g .marks) (g .h) (a .t .now) _ (r .0) (g .carts) bears shown) m q)
-          ∙ sym (goes-on (a .found) _ (sym (c .before .before .before .before .before .before .before .before .before .before .before .accepts .ensures) ∙ not-is _ false (c .before .before .before .before .before .before .before .before .before .before .if1 .left))),
+          ∙ clause-fails (rowsOn (g .carts) (g .h) (g .l) bears) (g .d) (a .n) (clauseTree (a .nodes .now) m (a .k)) (c .before .before .before .before .before .before .before .before .before .clause-row .result)
+          (omega (arith, s .pre .0 .0 .lap)) (r .1 bears shown m q) (c .before .before .before .before .before .before .if2 .left) (c .before .before .before .failing-step .result)
+          (f .1 .0 bears (kept-shown (g .marks) (g .h) (a .t .now) _ (r .0 .0) (g .carts) bears shown) m q)
+          ∙ sym (goes-on (a .found) _ (sym (c .before .before .before .before .before .before .before .before .before .before .before .before .before .accepts .ensures) ∙ not-is _ false (c .before .before .before .before .before .before .before .before .before .before .before .before .if1 .left))),
     )
 
 pub first-found-spec : {M : Type 1} → statement M

@@ -1,5 +1,4 @@
 use Prim.Native.Nat.{_+_, _*_, _/_}
-use mathlib.Core.Path.{_≡_}
 use native.Mathlib.Omega.{arith}
 use borrow.Author.Needs.{needs}
 use Rattle.quorum.proofs.Narrowing.{begun, first, onward, ended}
@@ -37,7 +36,7 @@ returns-3 c =
     let a = c .before .before .before .before .before .before .before .args in
     let n = (a .h + a .d + 7) / 8 * 8 in
     let r = first (a .h) (a .d) n (a .w .now) _ (omega arith) (omega arith) (c .before .before .before .before .meet .ensures) in
-    let q = onward (a .h) (a .d) 3 2 n (a .w .now) _ _ (omega arith) (omega arith) (omega arith) (omega arith) r (c .meet2 .ensures) in
+    let q = onward (a .h) (a .d) 3 _ n (a .w .now) _ _ r (c .meet2 .ensures) (omega arith) (omega arith) (omega arith) (omega arith) in
     ended (a .h) (a .d) 7 _ (a .w .now) _ q (omega arith) (omega arith)
 
 meet-requires-3 : tie.Need-meet-requires-3
@@ -51,7 +50,7 @@ returns-4 c =
     let a = c .before .before .before .before .before .before .before .args in
     let n = (a .h + a .d + 7) / 8 * 8 in
     let r = first (a .h) (a .d) n (a .w .now) _ (omega arith) (omega arith) (c .before .before .before .before .meet .ensures) in
-    let q = onward (a .h) (a .d) 3 3 n (a .w .now) _ _ (omega arith) (omega arith) (omega arith) (omega arith) r (c .meet3 .ensures) in
+    let q = onward (a .h) (a .d) 3 _ n (a .w .now) _ _ r (c .meet3 .ensures) (omega arith) (omega arith) (omega arith) (omega arith) in
     ended (a .h) (a .d) 9 _ (a .w .now) _ q (omega arith) (omega arith)
 
 pub narrow-spec : {M : Type 1} → statement M
