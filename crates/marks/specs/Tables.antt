@@ -25,17 +25,17 @@ pub record Tables (P : ℕ → ℕ → ℕ → Type 0) (n h : ℕ) (before after
 abbrev pub Empty : ℕ → ℕ → ℕ → Type 0
 Empty k s x = x ≡ 0
 
--- a word with room for one bit more
+-- a word with room for four bits more
 abbrev pub Room : ℕ → ℕ → ℕ → Type 0
-Room k s x = x < 2 ^ 31
+Room k s x = x < 2 ^ 28
 
 -- the word of a step: the marks of its place
 abbrev pub WordAt : List ℕ → List ℕ → ℕ → ℕ → ℕ → Type 0
 WordAt floor block i s x = x ≡ marksOf floor (blockPlace block i s)
 
--- a table's word moved up by one, with bit k of the step's word below
-abbrev pub Doubled : List ℕ → ℕ → List ℕ → ℕ → ℕ → ℕ → Type 0
-Doubled t h words k s x = x ≡ getD t (k * h + s) 0 * 2 + getD words s 0 / 2 ^ k % 2
+-- a table's word moved up by four, with mark k's four bits below, out of words turned
+abbrev pub MovedUp : List ℕ → ℕ → List ℕ → ℕ → ℕ → ℕ → Type 0
+MovedUp t h words k s x = x ≡ getD t (k * h + s) 0 * 16 + getD words (k % 4 * 64 + s) 0 / 2 ^ (k / 4 * 4) % 16
 
 -- the carts that bear mark k at step s, and no other bit
 abbrev pub Bearers : List ℕ → List ℕ → ℕ → ℕ → ℕ → ℕ → Type 0

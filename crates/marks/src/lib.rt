@@ -1,4 +1,5 @@
 // The tables of the marks, made once for a plan: word s of a mark's table has bit i for cart i.
+mod fours;
 mod tables;
 mod words;
 

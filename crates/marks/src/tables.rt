@@ -1,10 +1,11 @@
-// Tables built cart by cart, the last cart first: each cart's bit goes below the others'.
-ghost use Prim.Native.Nat.{_+_, _*_, _≤_, _<_};
+// Tables built by four carts at a time, the last ones first: their bits go below those of the carts behind them.
+ghost use Prim.Native.Nat.{_+_, _*_, _≤_, _<_, min};
 ghost use mathlib.Core.Path.{_≡_};
 ghost use lib.ListN.{length};
 ghost use Rattle.table.specs.Table.{Stored};
 ghost use Rattle.marks.specs.Bears.{Placed};
-ghost use Rattle.marks.specs.Tables.{Each, Holds, Tables, Empty, Room, Doubled, Bearers};
+ghost use Rattle.marks.specs.Tables.{Each, Holds, Tables, Empty, Room, MovedUp, Bearers};
+use super::fours;
 use super::words;
 
 // One word stored n times.
@@ -19,39 +20,48 @@ pub(crate) fn put(t: &mut [u32], at: usize, n: usize, x: u32)
     }
 }
 
-// One cart's bits go into the table of mark k.
-fn double_in(words: &[u32; 64], k: usize, h: usize, t: &mut [u32])
-    requires { ⌜ length (now words) ≡ 64 ⌝ }
+// Four carts' bits go into the table of mark k.
+fn move_up(words: &[u32; 256], k: usize, h: usize, t: &mut [u32])
+    requires { ⌜ length (now words) ≡ 256 ⌝ }
     requires { ⌜ (k < 32) × (h ≤ 64) ⌝ }
     requires { ⌜ k * h + h ≤ length (now t) ⌝ }
     requires { ⌜ Each (Room k) (k * h) h (now t) ⌝ }
-    ensures { λ _. ⌜ Stored (Doubled (now (t .entry)) h (now (words .entry)) k) (k * h) 0 h (now (t .entry)) (now (t .exit)) ⌝ }
+    ensures { λ _. ⌜ Stored (MovedUp (now (t .entry)) h (now (words .entry)) k) (k * h) 0 h (now (t .entry)) (now (t .exit)) ⌝ }
 {
     let at = k * h;
+    let from = k % 4 * 64;
+    let low = k / 4 * 4;
     let mut s = 0;
     while s < h {
         let j = at + s;
-        t[j] = t[j] * 2 + (words[s] >> k) % 2;
+        t[j] = t[j] * 16 + (words[from + s] >> low) % 16;
         s += 1;
     }
 }
 
-// One cart's bits go into the table of each mark.
-fn add_cart(words: &[u32; 64], marks: usize, h: usize, t: &mut [u32])
-    requires { ⌜ length (now words) ≡ 64 ⌝ }
+// Four carts' bits go into the table of each mark.
+fn add_four(words: &[u32; 256], marks: usize, h: usize, t: &mut [u32])
+    requires { ⌜ length (now words) ≡ 256 ⌝ }
     requires { ⌜ (marks ≤ 32) × (h ≤ 64) ⌝ }
     requires { ⌜ marks * h ≤ length (now t) ⌝ }
     requires { ⌜ Holds Room marks h (now t) ⌝ }
-    ensures { λ _. ⌜ Tables (Doubled (now (t .entry)) h (now (words .entry))) marks h (now (t .entry)) (now (t .exit)) ⌝ }
+    ensures { λ _. ⌜ Tables (MovedUp (now (t .entry)) h (now (words .entry))) marks h (now (t .entry)) (now (t .exit)) ⌝ }
 {
     let mut k = 0;
     while k < marks {
-        double_in(words, k, h, t);
+        move_up(words, k, h, t);
         k += 1;
     }
 }
 
-// Every cart's bits go into cleared tables.
+// A number, but 4 if it is more.
+fn up_to_four(n: usize) -> usize
+    ensures { λ r. ⌜ r ≡ min n 4 ⌝ }
+{
+    if n < 4 { n } else { 4 }
+}
+
+// Every cart's bits go into cleared tables. Carts that are missing in the last four have words of 0.
 pub(crate) fn add_carts(
     floor: &[u8],
     block: &[u8],
@@ -67,11 +77,12 @@ pub(crate) fn add_carts(
     requires { ⌜ Holds Empty marks h (now t) ⌝ }
     ensures { λ _. ⌜ Tables (Bearers (now (floor .entry)) (now (block .entry)) carts) marks h (now (t .entry)) (now (t .exit)) ⌝ }
 {
-    let mut words = [0u32; 64];
-    let mut i = carts;
+    let mut words = [0u32; 256];
+    let mut i = (carts + 3) / 4 * 4;
     while 0 < i {
-        i -= 1;
-        words::gather(floor, block, i, h, &mut words);
-        add_cart(&words, marks, h, t);
+        i -= 4;
+        words::gather_some(floor, block, i, up_to_four(carts - i), h, &mut words);
+        fours::pack(h, &mut words);
+        add_four(&words, marks, h, t);
     }
 }

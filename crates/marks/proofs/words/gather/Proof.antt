@@ -1,4 +1,4 @@
-use Prim.Native.Nat.{ℕ, _-_, _≤_, _<_}
+use Prim.Native.Nat.{ℕ, _+_, _-_, _≤_, _<_}
 use native.Mathlib.Omega.{arith}
 use mathlib.Core.Path.{_≡_, ap, subst, _∙_}
 use lib.ListN.{length}
@@ -10,15 +10,15 @@ use Rattle.marks.proofs.words.gather.Statement.{statement}
 use Rattle.marks.proofs.words.gather.Tie as tie
 
 abbrev Inv-loop : tie.InvT-loop
-Inv-loop floor block i h words₀ s₀ words s = (s ≤ h) × Stored (WordAt floor block i) 0 0 s words₀ words
+Inv-loop floor block i h at words₀ s₀ words s = (s ≤ h) × Stored (WordAt floor block i) at 0 s words₀ words
 
 abbrev μ-loop : tie.MeasureT-loop
-μ-loop floor block i h words₀ s₀ words s = h - s
+μ-loop floor block i h at words₀ s₀ words s = h - s
 
 loop-holds : tie.Need-loop-holds Inv-loop μ-loop
 loop-holds c =
     let a = c .before .before .args in
-    (omega arith, begun (WordAt (a .floor .now) (a .block .now) (a .i)) 0 0 (a .words .now))
+    (omega arith, begun (WordAt (a .floor .now) (a .block .now) (a .i)) (a .at) 0 (a .words .now))
 
 place-on-requires : tie.Need-place-on-requires Inv-loop μ-loop
 place-on-requires c κs = omega arith
@@ -27,6 +27,9 @@ marks-of-requires : tie.Need-marks-of-requires Inv-loop μ-loop
 marks-of-requires c κs =
     let r = c .before .before .before .before .before .pre .1 .1 .0 in
     omega (arith, c .place-on .ensures, r .inside (c .before .before .loop .s) (omega arith))
+
+add-words : tie.Need-add-words Inv-loop μ-loop
+add-words c = omega arith
 
 mul-words : tie.Need-mul-words Inv-loop μ-loop
 mul-words c = omega arith
@@ -46,10 +49,10 @@ loop-again c =
     let v = c .before .before .before .loop in
     let m = c .marks-of in
     let word = m .ensures ∙ ap (marksOf (a .floor .now)) (c .before .place-on .ensures) in
-    let inside : v .s < length (v .words) = omega (arith, v .inv .1 .kept) in (
+    let inside : a .at + v .s < length (v .words) = omega (arith, v .inv .1 .kept) in (
       omega arith,
-      upward (WordAt (a .floor .now) (a .block .now) (a .i)) 0 0 (v .s) (v .s) (m .result) (a .words .now) (v .words) (v .inv .1) (omega arith) inside
-          (omega arith) word,
+      upward (WordAt (a .floor .now) (a .block .now) (a .i)) (a .at) 0 (v .s) (a .at + v .s) (m .result) (a .words .now) (v .words) (v .inv .1) (omega arith)
+          inside (omega arith) word,
     )
 
 returns : tie.Need-returns Inv-loop μ-loop
@@ -57,7 +60,7 @@ returns c =
     let a = c .before .before .before .before .args in
     let v = c .before .loop in
     let e : v .s ≡ a .h = omega arith in
-    subst (λ (n : ℕ). Stored (WordAt (a .floor .now) (a .block .now) (a .i)) 0 0 n (a .words .now) (v .words)) e (v .inv .1)
+    subst (λ (n : ℕ). Stored (WordAt (a .floor .now) (a .block .now) (a .i)) (a .at) 0 n (a .words .now) (v .words)) e (v .inv .1)
 
 pub gather-spec : {M : Type 1} → statement M
 gather-spec =
@@ -68,6 +71,7 @@ gather-spec =
     loop-holds
     place-on-requires
     marks-of-requires
+    add-words
     mul-words
     element-write-words
     add-s

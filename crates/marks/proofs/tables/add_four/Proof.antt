@@ -1,13 +1,13 @@
 use Prim.Native.Nat.{ℕ, _+_, _*_, _-_, _≤_}
 use native.Mathlib.Omega.{arith}
 use mathlib.Core.Path.{_≡_, subst}
-use Rattle.marks.specs.Tables.{Tables, Doubled}
-use Rattle.marks.proofs.Filling.{apart, none-yet, doubled-more}
-use Rattle.marks.proofs.tables.add_cart.Statement.{statement}
-use Rattle.marks.proofs.tables.add_cart.Tie as tie
+use Rattle.marks.specs.Tables.{Tables, MovedUp}
+use Rattle.marks.proofs.Filling.{apart, none-yet, moved-more}
+use Rattle.marks.proofs.tables.add_four.Statement.{statement}
+use Rattle.marks.proofs.tables.add_four.Tie as tie
 
 abbrev Inv-loop : tie.InvT-loop
-Inv-loop words marks h t₀ k₀ t k = (k ≤ marks) × Tables (Doubled t₀ h words) k h t₀ t
+Inv-loop words marks h t₀ k₀ t k = (k ≤ marks) × Tables (MovedUp t₀ h words) k h t₀ t
 
 abbrev μ-loop : tie.MeasureT-loop
 μ-loop words marks h t₀ k₀ t k = marks - k
@@ -15,10 +15,10 @@ abbrev μ-loop : tie.MeasureT-loop
 loop-holds : tie.Need-loop-holds Inv-loop μ-loop
 loop-holds c =
     let a = c .before .args in
-    (omega arith, none-yet (Doubled (a .t .now) (a .h) (a .words .now)) (a .h) (a .t .now))
+    (omega arith, none-yet (MovedUp (a .t .now) (a .h) (a .words .now)) (a .h) (a .t .now))
 
-double-in-requires : tie.Need-double-in-requires Inv-loop μ-loop
-double-in-requires c κs =
+move-up-requires : tie.Need-move-up-requires Inv-loop μ-loop
+move-up-requires c κs =
     let st = c .before .before .before .before in
     let a = st .args in
     let v = c .before .before .loop in (
@@ -42,7 +42,7 @@ loop-again : tie.Need-loop-again Inv-loop μ-loop
 loop-again c =
     let a = c .before .before .before .before .before .before .before .args in
     let v = c .before .before .before .before .before .loop in
-    (omega arith, doubled-more (a .words .now) (a .h) (v .k) (a .t .now) (v .t) _ (v .inv .1) (c .before .before .double-in .ensures))
+    (omega arith, moved-more (a .words .now) (a .h) (v .k) (a .t .now) (v .t) _ (v .inv .1) (c .before .before .move-up .ensures))
 
 same-length : tie.Need-same-length Inv-loop μ-loop
 same-length c = c .before .loop .inv .1 .kept
@@ -52,16 +52,16 @@ returns c =
     let a = c .before .before .before .args in
     let v = c .before .loop in
     let e : v .k ≡ a .marks = omega arith in
-    subst (λ (n : ℕ). Tables (Doubled (a .t .now) (a .h) (a .words .now)) n (a .h) (a .t .now) (v .t)) e (v .inv .1)
+    subst (λ (n : ℕ). Tables (MovedUp (a .t .now) (a .h) (a .words .now)) n (a .h) (a .t .now) (v .t)) e (v .inv .1)
 
-pub add-cart-spec : {M : Type 1} → statement M
-add-cart-spec =
+pub add-four-spec : {M : Type 1} → statement M
+add-four-spec =
     tie.close
     (tie.spec
     Inv-loop
     μ-loop
     loop-holds
-    double-in-requires
+    move-up-requires
     add-k
     loop-less
     loop-again
