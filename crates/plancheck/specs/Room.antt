@@ -46,3 +46,7 @@ all-room marks h p q = mul-le-mul {n₁ = marks + 2 + 128} {m₁ = h} {n₂ = 16
 -- a count's text is before the count
 pub text-before : (nodes : List ℕ) (n : ℕ) → Ordered nodes n → (k : ℕ) → k < n → 10 ≤ kindAt nodes k → textSize nodes (firstAt nodes k) ≤ n
 text-before nodes n o k p q = let low = count-low nodes k (ordered-less nodes n (k + 1) (omega arith) o) q in omega arith
+
+-- the block of middle size has room for the marks
+pub mid-room : (marks h : ℕ) → marks ≤ 32 → h ≤ 64 → nodesAt marks h ≤ 4096
+mid-room marks h p q = let m = mul-le-mul {n₁ = marks + 2} {m₁ = h} {n₂ = 34} {m₂ = 64} (omega arith) q in omega arith

@@ -33,10 +33,10 @@ fn begun() -> Reached
 // The nodes that a count's text may well have in a sheet this long; where one has more, the full block is used.
 fn few_nodes(length: usize) -> usize
     requires { ⌜ length ≤ 16384 ⌝ }
-    ensures { λ r. ⌜ r ≤ 128 ⌝ }
+    ensures { λ r. ⌜ r ≤ 30 ⌝ }
 {
     let n = length / 64 + 8;
-    if n < 128 { n } else { 128 }
+    if n < 30 { n } else { 30 }
 }
 
 // Judges the clauses of an accepted sheet, as far as a small block has room: a large one costs more to clear than a small floor to check.
@@ -57,7 +57,8 @@ fn judge_small(floor: &[u8], f: Floor, h: Head, block: &[u8], rules: &[u8], mark
         let mut t = [0u32; 1000];
         return judge_lines(floor, f, h, block, rules, marks, &mut t, begun());
     }
-    begun()
+    let mut t = [0u32; 4096];
+    judge_lines(floor, f, h, block, rules, marks, &mut t, begun())
 }
 
 // Judges the clauses of an accepted sheet on an accepted plan.
