@@ -6,9 +6,9 @@ import sys
 
 BASE = {"steps": 64, "drift": 16, "carts": 32, "nodes": 128, "clauses": 32, "lanes": 1024}
 SIZES = {
-    "steps": (8, 16, 32, 64),
+    "steps": (1, 8, 16, 32, 64),
     "drift": (0, 4, 8, 16),
-    "carts": (4, 8, 16, 32),
+    "carts": (1, 4, 8, 16, 32),
     "nodes": (16, 32, 64, 128),
     "clauses": (4, 8, 16, 32),
     "lanes": (128, 256, 512, 1024),
@@ -28,7 +28,7 @@ def floor(carts, lanes, narrow=()):
     return out + b"".join(record(6, [place]) for place in narrow)
 
 
-def plan(steps, drift, carts, first=1, place=lambda s: s >> 1 & 1):
+def plan(steps, drift, carts, first, place=lambda s: s >> 1 & 1):
     """Each cart keeps to its own pair; place says on which of the two it is at a step."""
     head = b"".join(n.to_bytes(2, "little") for n in (steps, first, drift))
     return record(4, head) + b"".join(record(5, [2 * n + place(s) for s in range(steps)]) for n in range(carts))
@@ -58,7 +58,8 @@ def clause(nodes):
 def write(folder, steps, drift, carts, nodes, clauses, lanes):
     folder.mkdir(parents=True, exist_ok=True)
     (folder / "floor").write_bytes(floor(carts, lanes))
-    (folder / "plan").write_bytes(plan(steps, drift, carts))
+    # A run-in of one step, unless that is all there is.
+    (folder / "plan").write_bytes(plan(steps, drift, carts, min(1, steps - 1)))
     (folder / "rules").write_text("".join(clause(nodes) + "\n" for _ in range(clauses)))
 
 
