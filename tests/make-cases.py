@@ -899,6 +899,255 @@ PERCENTAGES = [
     share("the third clause of three", 5, 2, "X [m1,49%]\n[m1,9%]\nX [m1,50%]", "2 0"),
 ]
 
+# Truth by step. The tables of a check lie in one block, whose size is chosen by the floor's marks, the plan's steps and the sheet's length; where
+# the nodes of a clause have no room in it, that clause and all behind it are judged with a full one. No verdict may hang on that.
+
+
+def meeting(h, l=0, d=0):
+    """Two carts, on m0 and at last on m1: the first from step h - 2 on, the second at step h - 1."""
+    return head(h, l, d) + row(*[0] * (h - 2), 1, 1) + row(*[0] * (h - 1), 1)
+
+
+# On that plan: true with every drift; false, at step h - 1 or with drift at step h - 2; and X outside a count.
+KEPT, BROKEN, AHEAD = "[F m1,2]", "G [m0,1]", "X true"
+
+
+def kept(k):
+    """As KEPT, with 2 k nodes more: no place bears m2."""
+    return "[F m1" + "|m2" * k + ",2]"
+
+
+def broken(k):
+    """As BROKEN, with 2 k nodes more."""
+    return "G [m0" + "|m2" * k + ",1]"
+
+
+def guess(rules):
+    """How many nodes a clause is taken to have before the sheet is read again."""
+    return min(128, len(rules) // 16 + 8)
+
+
+def words(marks, h, nodes):
+    """The words that the tables take: those of the marks, of all, of none and of so many nodes."""
+    return (marks + 2 + nodes) * h
+
+
+def rules_verdict(verdict):
+    return verdict if verdict == "accepted" else "refused rules " + verdict
+
+
+def switching(room, h, k):
+    """Checks with a small block of so many words, in which clauses of 3 + 2 k nodes have no room."""
+    large, false = kept(k), broken(k)
+    sheets = [
+        ("the one clause", 0, (large,), "accepted"),
+        ("the first clause", 0, (large, KEPT, KEPT), "accepted"),
+        ("a middle clause", 0, (KEPT, large, KEPT), "accepted"),
+        ("the last clause", 0, (KEPT, KEPT, large), "accepted"),
+        ("two clauses", 0, (large, KEPT, large), "accepted"),
+        ("the first clause, d 16", 16, (large, KEPT), "accepted"),
+        ("the last clause, d 16", 16, (KEPT, large), "accepted"),
+        ("17 by the one clause", 0, (false,), f"17 0 {h - 1}"),
+        ("17 before it", 0, (BROKEN, large, KEPT), f"17 0 {h - 1}"),
+        ("17 by it", 0, (KEPT, false, KEPT), f"17 1 {h - 1}"),
+        ("17 behind it", 0, (KEPT, large, BROKEN), f"17 2 {h - 1}"),
+        ("17 before it and behind it", 0, (KEPT, BROKEN, large, "!true"), f"17 1 {h - 1}"),
+        ("17 by the second of two", 0, (large, KEPT, false), f"17 2 {h - 1}"),
+        ("17 before it, d 16", 16, (BROKEN, large), f"17 0 {h - 2}"),
+        ("17 by it, d 16", 16, (false, "!true"), f"17 0 {h - 2}"),
+        ("17 behind it, d 16", 16, (large, BROKEN), f"17 1 {h - 2}"),
+        ("16 before it", 1, (KEPT, AHEAD, large), "16 1 0"),
+        ("16 by it", 1, (KEPT, "X " + large), "16 1 0"),
+        ("16 behind it", 1, (KEPT, large, AHEAD), "16 2 0"),
+        ("16 before it, 17 by it", 1, (AHEAD, false), "16 0 0"),
+        ("16 behind it, 17 before it", 1, (BROKEN, large, AHEAD), "16 2 0"),
+        ("16 behind it, 17 by it", 1, (false, AHEAD), "16 1 0"),
+        ("16 before it and behind it", 1, (AHEAD, large, AHEAD), "16 0 0"),
+        ("no 16 behind it with d 0", 0, (large, AHEAD), "accepted"),
+    ]
+    for name, d, clauses, verdict in sheets:
+        rules = sheet(*clauses)
+        smaller = {500: 0, 1000: 500, 4000: 1000}[room]
+        assert smaller < words(2, h, guess(rules)) <= room < words(2, h, 3 + 2 * k)
+        yield f"beyond {room} words: {name}", FLOOR, meeting(h, h // 2, d), rules, rules_verdict(verdict)
+
+
+def limit(need, h, length, nodes, marks=2):
+    """A check that needs so many words, by a sheet of so many bytes, spaces first: a clause of so many nodes that is kept, and one that is not."""
+    k, even = (nodes - 3) // 2, nodes % 2 == 0
+    clauses = ("G " + kept(k), "G [X m0" + "|m2" * k + ",1]") if even else (kept(k), broken(k))
+    rules = sheet(*clauses)
+    rules = b" " * (length - len(rules)) + rules
+    assert len(rules) == length and words(marks, h, guess(rules)) == need
+    floor = place(1 << 0) + place(1 << 1 | 1 << marks - 1) + LANES + CARTS
+    return f"{need} words needed: h {h}, clauses of {nodes} nodes, {marks} marks", floor, meeting(h), rules, f"refused rules 17 1 {h - 1 - even}"
+
+
+# As CHECKS. On a floor of two marks no h and no sheet need 501 to 503 words, nor 4,001.
+BLOCKS = [
+    *switching(500, 4, 60),
+    *switching(1000, 64, 6),
+    *switching(4000, 64, 30),
+    limit(494, 38, 31, 3),
+    limit(500, 25, 143, 16),
+    limit(500, 25, 143, 17),
+    limit(504, 36, 47, 10),
+    limit(525, 25, 144, 16),
+    limit(1000, 50, 143, 16),
+    limit(1000, 50, 143, 17),
+    limit(1001, 13, 1040, 73),
+    limit(1050, 50, 144, 16),
+    limit(4000, 50, 1103, 76),
+    limit(4000, 50, 1103, 77),
+    limit(4002, 58, 912, 65),
+    limit(4050, 50, 1104, 76),
+    limit(500, 10, 143, 16, 32),
+    limit(500, 10, 143, 17, 32),
+    limit(1000, 20, 143, 16, 32),
+    limit(1000, 20, 143, 17, 32),
+    limit(4000, 50, 623, 46, 32),
+    limit(4000, 50, 623, 47, 32),
+    limit(10368, 64, 1920, 128, 32),
+]
+
+
+def last_lane(count, classes):
+    """Document 01's places and carts with so many lanes from place 0 to 1, of which only the last may be open to class 0."""
+    return PLACES + lane(0, 1, 2) * (count - 1) + lane(0, 1, classes) + CARTS
+
+
+# As EDITS. Links have room for 128 lanes, or for all.
+BOTH_GO, BOTH_PARK = pair(2, 1, 0, 0, 1), pair(2, 1, 0, 0, 0)
+LINKS = [
+    case
+    for n in (128, 129)
+    for case in [
+        (f"{n} lanes: the last opens the move", last_lane(n, 1), BOTH_GO, MOVES, "accepted"),
+        (f"{n} lanes: none opens the move", last_lane(n, 2), BOTH_GO, MOVES, "refused plan 11 0 0"),
+        (f"{n} lanes: the first opens the move", PLACES + lane(0, 1, 1) + lane(0, 1, 2) * (n - 1) + CARTS, BOTH_GO, MOVES, "accepted"),
+        (f"{n} lanes: the last from its place", PLACES + lane(1, 0) * (n - 1) + lane(0, 1) + CARTS, pair(2, 0, 0, 0, 1), MOVES, "accepted"),
+        (f"{n} lanes: the last to its place", PLACES + lane(0, 1) * (n - 1) + lane(1, 0) + CARTS, pair(2, 0, 0, 0, 1), MOVES, "accepted"),
+        (f"{n} lanes: a row replaced that goes by the last", last_lane(n, 1), BOTH_PARK, replace(1, 0, 1), "accepted",
+         head(2, 1) + row(0, 0) + row(0, 1)),
+        (f"{n} lanes: a row replaced that none opens", last_lane(n, 2), BOTH_PARK, replace(1, 0, 1), "refused plan 11 1 0", BOTH_PARK),
+        (f"{n} lanes: the old plan's 11 first", last_lane(n, 2), BOTH_GO, replace(1, 0, 0), "refused plan 11 0 0", BOTH_GO),
+    ]
+] + [
+    # The new row's fit is told only where the old plan's moves are open.
+    ("the old plan's 11 before 19", NO_LANES, BOTH_GO, replace(2, 0, 0), "refused plan 11 0 0", BOTH_GO),
+    ("the old plan's 11 before 4", NO_LANES, BOTH_GO, replace(1), "refused plan 11 0 0", BOTH_GO),
+    ("the old plan's 11 before 9", NO_LANES, BOTH_GO, replace(1, 0, 2), "refused plan 11 0 0", BOTH_GO),
+    ("the old plan's 11 before 10", NO_LANES, BOTH_GO, replace(1, 1, 1), "refused plan 11 0 0", BOTH_GO),
+]
+
+# As CHECKS: the whole check over as many lanes.
+LINKED_CHECKS = [
+    case
+    for n in (128, 129)
+    for case in [
+        (f"{n} lanes: the check goes by the last", last_lane(n, 1), BOTH_GO, sheet("F [m1,2]"), "accepted"),
+        (f"{n} lanes: the check, none opens the move", last_lane(n, 2), BOTH_GO, sheet("F [m1,2]"), "refused plan 11 0 0"),
+    ]
+]
+
+
+def marked(on_0, on_1, *more):
+    """Document 01's floor with these marks on its places, and places behind them that no cart comes to."""
+    return b"".join(place(marks) for marks in (on_0, on_1, *more)) + LANES + CARTS
+
+
+EVERY_MARK = 2**32 - 1
+EVEN_MARKS = sum(1 << k for k in range(0, 32, 2))
+# One clause for each mark, true where both carts are on the even ones.
+ONE_EACH = ["[m%d,2]" % k if k % 2 == 0 else "![m%d,1]" % k for k in range(32)]
+
+# As CHECKS: document 01's plan, carts on place 0 step by step: 2 1 0 1.
+BORNE = [
+    ("no mark borne: none is seen", marked(0, 0), drifting(16), sheet("G ![m0,1]", "G ![m31,1]", "G [!m0 & !m31,2]", "[true,2]"), "accepted"),
+    ("no mark borne: m0", marked(0, 0), PLAN, sheet("[m0,1]"), "refused rules 17 0 0"),
+    ("no mark borne: m1", marked(0, 0), PLAN, sheet("true", "F [m1,1]"), "refused rules 17 1 0"),
+    ("no mark borne: m31", marked(0, 0), PLAN, sheet("F [m31,1]"), "refused rules 17 0 0"),
+    ("m0 alone borne", marked(1, 0), PLAN, sheet("[m0,2]", "G ![m1,1]", "G ![m2,1]", "G ![m31,1]"), "accepted"),
+    ("m0 alone borne: its step", marked(1, 0), PLAN, sheet("G [m0,1]"), "refused rules 17 0 2"),
+    ("m0 alone borne: m1", marked(1, 0), PLAN, sheet("F [m1,1]"), "refused rules 17 0 0"),
+    ("m0 alone borne: m2", marked(1, 0), PLAN, sheet("F [m2,1]"), "refused rules 17 0 0"),
+    ("m1 alone borne", marked(0, 2), PLAN, sheet("F [m1,2]", "G ![m0,1]", "G ![m2,1]", "G ![m3,1]"), "accepted"),
+    ("m1 alone borne: m0", marked(0, 2), PLAN, sheet("F [m0,1]"), "refused rules 17 0 0"),
+    ("m1 alone borne: m2", marked(0, 2), PLAN, sheet("F [m2,1]"), "refused rules 17 0 0"),
+    ("m31 alone borne", marked(1 << 31, 0), PLAN, sheet("[m31,2]", "G ![m30,1]", "G ![m0,1]"), "accepted"),
+    ("m31 alone borne: its step", marked(1 << 31, 0), PLAN, sheet("G [m31,1]"), "refused rules 17 0 2"),
+    ("m30 alone borne", marked(1 << 30, 0), PLAN, sheet("[m30,2]", "G ![m29,1]"), "accepted"),
+    ("m30 alone borne: m31", marked(1 << 30, 0), PLAN, sheet("F [m31,1]"), "refused rules 17 0 0"),
+    ("m31 where no cart comes", marked(1, 2, 1 << 31), PLAN, sheet("[m0,2]", "F [m1,2]", "G ![m31,1]"), "accepted"),
+    ("m31 where no cart comes: m31", marked(1, 2, 1 << 31), PLAN, sheet("F [m31,1]"), "refused rules 17 0 0"),
+    ("all marks on one place", marked(EVERY_MARK, 0), PLAN, sheet("[m0 & m1 & m15 & m16 & m30 & m31,2]", "G [m0 & m31 | !m0 & !m31,2]"), "accepted"),
+    ("all marks on one place: a step", marked(EVERY_MARK, 0), PLAN, sheet("G [m17,1]"), "refused rules 17 0 2"),
+    ("m31 on the last of 256 places", PLACES_256[:-8] + place(1 << 31) + cart(0, 255), head(1, 0, 16) + row(255), sheet("G [m31,1]"), "accepted"),
+    ("m31 on the first of 256 places", place(1 << 31) + PLACES_256[:-8] + cart(0, 255), head(1, 0, 16) + row(255), sheet("G [m31,1]"),
+     "refused rules 17 0 0"),
+    ("each mark by itself", marked(EVEN_MARKS, EVERY_MARK - EVEN_MARKS), PLAN, sheet(*ONE_EACH), "accepted"),
+    ("each mark by itself, one clause otherwise", marked(EVEN_MARKS, EVERY_MARK - EVEN_MARKS), PLAN, sheet(*ONE_EACH[:31], "[m31,1]"),
+     "refused rules 17 31 0"),
+]
+
+
+def stairs(l, d):
+    """32 carts on m0: cart n is on m1 from step 32 + n on, so that s - 31 are at step s."""
+    return head(64, l, d) + b"".join(row(*[0] * (32 + n), *[1] * (32 - n)) for n in range(32))
+
+
+def turning(carts, l):
+    """Carts on m1 at step 1 and at the last 16, with drift 16."""
+    return head(64, l, 16) + row(0, 1, *[0] * 46, *[1] * 16) * carts
+
+
+# One step: 32 carts of which the last is on place 1, or one cart.
+ALL_BUT_ONE = PLACES + cart(0, 0) * 31 + cart(0, 1)
+ONE_STEP = head(1, 0, 16) + row(0) * 31 + row(1)
+ALONE = head(1, 0, 16) + row(0)
+LAST_STEP = row(*[0] * 63, 1)
+
+# As CHECKS.
+STEPS = [
+    # 32 carts, 64 steps, a lap of one.
+    ("32 carts in turn: d 0", CROWD, stairs(63, 0), sheet("G [m0,1]"), "refused rules 17 0 63"),
+    ("32 carts in turn: d 16", CROWD, stairs(63, 16), sheet("G [m0,1]"), "refused rules 17 0 47"),
+    ("32 carts in turn: half of them, d 0", CROWD, stairs(63, 0), sheet("G [m0,16]"), "refused rules 17 0 48"),
+    ("32 carts in turn: half of them, d 16", CROWD, stairs(63, 16), sheet("G [m0,16]"), "refused rules 17 0 32"),
+    ("32 carts in turn: all of them, d 16", CROWD, stairs(63, 16), sheet("G [m0,32]"), "refused rules 17 0 16"),
+    ("32 carts in turn: negated, d 0", CROWD, stairs(63, 0), sheet("G ![m1,32]"), "refused rules 17 0 63"),
+    ("32 carts in turn: negated, d 16", CROWD, stairs(63, 16), sheet("G ![m1,32]"), "refused rules 17 0 47"),
+    ("32 carts in turn: all at last", CROWD, stairs(63, 16), sheet("F G [m1,32]", "F [G m1,32]", "[F G m1,32]"), "accepted"),
+    ("32 carts in turn: 33 never", CROWD, stairs(63, 16), sheet("F [m1,33]"), "refused rules 17 0 0"),
+    ("32 carts in turn: on one mark or the other", CROWD, stairs(63, 16), sheet("G ([m0,1] | [m1,1])", "G [m0 | m1,32]"), "accepted"),
+    ("32 carts in turn: U and R in counts", CROWD, stairs(63, 16), sheet("G [m0 U m1,32]", "G [m1 R (m0 | m1),32]", "G [m0 | X m1,32]"), "accepted"),
+    ("32 carts in turn: R in a count", CROWD, stairs(63, 16), sheet("[m1 R m0,1]"), "refused rules 17 0 0"),
+    ("32 carts in turn: G in a count", CROWD, stairs(63, 16), sheet("G ![G m1,1]"), "refused rules 17 0 16"),
+    ("32 carts in turn: a change, d 0", CROWD, stairs(63, 0), sheet("F [m0 & X m1,1]", "G ![m0 & X m1,1]"), "refused rules 17 1 31"),
+    ("32 carts in turn: a change, d 16", CROWD, stairs(63, 16), sheet("F [m0 & X m1,1]"), "refused rules 17 0 0"),
+    # A window of 17 counters from step 48 on, the last of them back in the lap.
+    ("window of 16 that ends on the lap's first step", CROWD, turning(32, 1), sheet("F [m1,32]"), "accepted"),
+    ("window of 16, the lap begins a step later", CROWD, turning(32, 2), sheet("F [m1,32]"), "refused rules 17 0 0"),
+    ("window of 16, the lap is one step", CROWD, turning(32, 63), sheet("F [m1,32]", "F G [m1,32]"), "accepted"),
+    ("window of 16, the lap is the last two steps", CROWD, turning(32, 62), sheet("F G [m1,32]"), "accepted"),
+    ("window of 16, one cart", ONE, turning(1, 2), sheet("G [m0,1]"), "refused rules 17 0 1"),
+    # One cart, 64 steps.
+    ("one cart, l 0, d 16", ONE, head(64, 0, 16) + LAST_STEP, sheet("G [F m1,1]", "G [m0,1]"), "refused rules 17 1 63"),
+    ("one cart, l 63, d 16", ONE, head(64, 63, 16) + LAST_STEP, sheet("F G [m1,1]", "G F [m0,1]"), "refused rules 17 1 63"),
+    ("one cart, l 63, d 16: in a count", ONE, head(64, 63, 16) + LAST_STEP, sheet("[F G m1,1]", "[G F m0,1]"), "refused rules 17 1 0"),
+    # One step, drift 16.
+    ("one step, 32 carts", ALL_BUT_ONE, ONE_STEP, sheet("[m0,31]", "[m1,1]", "![m0,32]", "G [X F G m0,31]", "[m0 U m1,1]", "[m1 R m0,31]"), "accepted"),
+    ("one step, 32 carts: all", ALL_BUT_ONE, ONE_STEP, sheet("G [m0,32]"), "refused rules 17 0 0"),
+    ("one step, 32 carts: two", ALL_BUT_ONE, ONE_STEP, sheet("F [m1,2]"), "refused rules 17 0 0"),
+    ("one step, 32 carts: U", ALL_BUT_ONE, ONE_STEP, sheet("[m0 U m1,2]"), "refused rules 17 0 0"),
+    ("one step, 32 carts: R", ALL_BUT_ONE, ONE_STEP, sheet("[m1 R m0,32]"), "refused rules 17 0 0"),
+    ("one step, one cart", ONE, ALONE, sheet("G [m0,1]", "G ![m1,1]", "[m0,100%]", "[G F X m0,1]"), "accepted"),
+    ("one step, one cart: another mark", ONE, ALONE, sheet("F [m1,1]"), "refused rules 17 0 0"),
+    ("one step, one cart: two", ONE, ALONE, sheet("[m0,2]"), "refused rules 17 0 0"),
+    ("one step, one cart: 128 nodes", ONE, ALONE, sheet("[" + "m1|" * 63 + "m0,1]", "G ![" + "m0&" * 62 + "m0,1]"), "refused rules 17 1 0"),
+    ("two steps, a lap of one", FLOOR, pair(2, 1, 16, 0, 1), sheet("[m0,1]", "F [m1,2]", "[m0,2]"), "refused rules 17 2 0"),
+]
+
 # The numbers that each file's refusals have. No task writes a floor, so 18 is about the plan alone.
 NUMBERS = {"floor": [*range(1, 8)], "plan": [*range(1, 6), *range(7, 12), 18, 19, 20], "rules": [7, *range(12, 18)]}
 
@@ -953,6 +1202,11 @@ def data_sets():
         yield show_set(*case)
     for case in PERCENTAGES:
         yield check_set(*case)
+    for case in LINKS:
+        yield edit_set(*case)
+    for cases in (LINKED_CHECKS, BORNE, STEPS, BLOCKS):
+        for case in cases:
+            yield check_set(*case)
 
 
 def giving(sets, file, number):
