@@ -1,6 +1,7 @@
 /* The C interface from C: document 01's floor and plan written, compared with bytes written out by hand and read back, its
- * moves checked, the plan checked, moved on and a row replaced; a sheet read and a clause picked; percentages of carts; narrow places
- * written, read and met; empty buffers as null pointers; room one byte short; a refusal of each function. */
+ * moves checked, the plan checked, moved on and a row replaced; a sheet read and a clause picked; percentages of carts; 64 steps, 32
+ * carts, many lanes, marks that no place bears; narrow places written, read and met; empty buffers as null pointers; room one byte
+ * short; a refusal of each function. */
 #include <stdio.h>
 #include <string.h>
 
@@ -273,6 +274,104 @@ static void check_percentages(void)
     check_verdict(check_five(0, "[m1,101%]\n"), 3, 15, 4, "101%");
 }
 
+/* The paper's floor and two carts over 64 steps: both on m0, the first on m1 from step 62 on, the second at step 63. */
+static struct cartplan_verdict check_long(uint16_t drift, const char *rules)
+{
+    uint8_t both[128] = {0}, plan[146];
+
+    both[62] = both[63] = both[127] = 1;
+    check_verdict(cartplan_write_plan(floor_bytes, FLOOR_LEN, 64, 32, drift, both, sizeof both, plan, sizeof plan), 0, 0, sizeof plan,
+                  "64 steps");
+    return cartplan_check(floor_bytes, FLOOR_LEN, plan, sizeof plan, (const uint8_t *)rules, strlen(rules));
+}
+
+/* On that plan, with tables for at most 11 nodes of a clause at first: true; false, with drift too; the same with 15 nodes; X outside a count. */
+#define KEPT "[F m1,2]\n"
+#define BROKEN "G [m0,1]\n"
+#define LARGE "[F m1|m2|m2|m2|m2|m2|m2,2]\n"
+#define LARGE_BROKEN "G [m0|m2|m2|m2|m2|m2|m2,1]\n"
+#define AHEAD "X true\n"
+
+static void check_large_clauses(void)
+{
+    check_verdict(check_long(0, LARGE KEPT KEPT), 0, 0, 0, "the first clause is large");
+    check_verdict(check_long(0, KEPT LARGE KEPT), 0, 0, 0, "the second of three");
+    check_verdict(check_long(16, KEPT KEPT LARGE), 0, 0, 0, "the last");
+    check_numbers(check_long(0, BROKEN LARGE KEPT), 3, 17, 0, 63, "17 before a large clause");
+    check_numbers(check_long(0, KEPT LARGE_BROKEN KEPT), 3, 17, 1, 63, "17 by a large clause");
+    check_numbers(check_long(16, KEPT LARGE BROKEN), 3, 17, 2, 62, "17 behind a large clause");
+    check_numbers(check_long(0, KEPT BROKEN LARGE LARGE_BROKEN), 3, 17, 1, 63, "17 before it and behind it");
+    check_numbers(check_long(1, KEPT AHEAD LARGE_BROKEN), 3, 16, 1, 0, "16 before a large clause");
+    check_numbers(check_long(1, BROKEN LARGE AHEAD), 3, 16, 2, 0, "16 behind a large clause, 17 before it");
+    check_numbers(check_long(1, LARGE_BROKEN AHEAD), 3, 16, 1, 0, "16 behind a large clause that is false");
+    check_verdict(check_long(0, LARGE AHEAD), 0, 0, 0, "no 16 without drift");
+}
+
+/* 32 carts over 64 steps with a lap of one step: cart n is on m0 up to step 31 + n, and then on m1. */
+static void check_many_carts(void)
+{
+    static const uint8_t starts[64] = {0}, last[] = "G [m0,1]\n", all[] = "F G [m1,32]\n[m0 U m1,32]\nG ([m0,1] | [m1,1])\n";
+    uint8_t floor[256], plan[2186], steps[2048];
+
+    for (size_t n = 0; n < 32; n++)
+        for (size_t s = 0; s < 64; s++)
+            steps[64 * n + s] = s >= 32 + n;
+    check_verdict(cartplan_write_floor(places, 2, lanes, sizeof lanes, starts, 64, NULL, 0, floor, sizeof floor), 0, 0, 236, "32 carts");
+    check_verdict(cartplan_write_plan(floor, 236, 64, 63, 16, steps, 2048, plan, sizeof plan), 0, 0, sizeof plan, "their plan");
+    check_verdict(cartplan_check(floor, 236, plan, sizeof plan, all, sizeof all - 1), 0, 0, 0, "32 carts in turn");
+    check_numbers(cartplan_check(floor, 236, plan, sizeof plan, last, sizeof last - 1), 3, 17, 0, 47, "the last one within drift 16");
+    plan[8] = 0;
+    check_numbers(cartplan_check(floor, 236, plan, sizeof plan, last, sizeof last - 1), 3, 17, 0, 63, "the last one in step");
+}
+
+/* So many lanes from place 0 to 1, of which only the last may be open to class 0, and a plan that goes there. */
+static void check_many_lanes(size_t count)
+{
+    static const uint8_t parked[4] = {0, 0, 0, 0}, going[4] = {0, 1, 1, 1}, reached[] = "F [m1,2]\n";
+    const size_t len = 16 + 7 * count + 12;
+    uint8_t many[3 * 129], floor[1024], plan[PLAN_LEN];
+
+    for (size_t k = 0; k < count; k++)
+        memcpy(many + 3 * k, (const uint8_t[3]){0, 1, k + 1 == count ? 1 : 254}, 3);
+    check_verdict(cartplan_write_floor(places, 2, many, 3 * count, carts, sizeof carts, NULL, 0, floor, sizeof floor), 0, 0, (uint32_t)len,
+                  "many lanes");
+    memcpy(plan, plan_bytes, PLAN_LEN);
+    plan[6] = 3; /* the lap is the last step */
+    memcpy(plan + 14, going, 4);
+    memcpy(plan + 22, parked, 4);
+    check_verdict(cartplan_check_moves(floor, len, plan, PLAN_LEN), 0, 0, 0, "the last of many lanes");
+    check_verdict(cartplan_replace_row(floor, len, plan, PLAN_LEN, 1, going, 4), 0, 0, 0, "a row by the last of many lanes");
+    check(memcmp(plan + 22, going, 4) == 0, "that row's bytes");
+    check_verdict(cartplan_check(floor, len, plan, PLAN_LEN, reached, sizeof reached - 1), 0, 0, 0, "checked by the last of many lanes");
+    floor[len - 13] = 254; /* the last lane's classes */
+    check_numbers(cartplan_check_moves(floor, len, plan, PLAN_LEN), 2, 11, 0, 0, "none of many lanes");
+    memcpy(plan + 14, parked, 4);
+    memcpy(plan + 22, parked, 4);
+    check_numbers(cartplan_replace_row(floor, len, plan, PLAN_LEN, 1, going, 4), 2, 11, 1, 0, "a row by none of many lanes");
+    check(memcmp(plan + 22, parked, 4) == 0, "no byte of that row");
+}
+
+/* The paper's plan, its first place with one mark or none, its second with none. */
+static struct cartplan_verdict check_marks(uint32_t marks, const char *rules)
+{
+    const uint32_t own[2] = {marks, 0};
+    uint8_t floor[FLOOR_LEN];
+
+    check_verdict(cartplan_write_floor(own, 2, lanes, sizeof lanes, carts, sizeof carts, NULL, 0, floor, FLOOR_LEN), 0, 0, FLOOR_LEN, "marks");
+    return cartplan_check(floor, FLOOR_LEN, plan_bytes, PLAN_LEN, (const uint8_t *)rules, strlen(rules));
+}
+
+static void check_few_marks(void)
+{
+    check_verdict(check_marks(0, "G ![m0,1]\nG ![m31,1]\n"), 0, 0, 0, "no mark at all");
+    check_verdict(check_marks(0, "true\nF [m0,1]\n"), 3, 17, 1, "m0 on no place");
+    check_verdict(check_marks(1, "[m0,2]\nG ![m1,1]\nG ![m2,1]\n"), 0, 0, 0, "m0 alone");
+    check_verdict(check_marks(1, "F [m1,1]\n"), 3, 17, 0, "m1 beside m0 alone");
+    check_numbers(check_marks(1, "G [m0,1]\n"), 3, 17, 0, 2, "m0 alone, its step");
+    check_verdict(check_marks(UINT32_C(1) << 31, "[m31,2]\nG ![m30,1]\n"), 0, 0, 0, "m31 alone");
+    check_verdict(check_marks(UINT32_C(1) << 30, "F [m31,1]\n"), 3, 17, 0, "m31 above m30 alone");
+}
+
 /* The paper's floor with both places narrow, place 1 named twice: 71 bytes. */
 #define NARROW_LEN (FLOOR_LEN + 15)
 static const uint8_t narrow[3] = {1, 0, 1};
@@ -425,6 +524,11 @@ int main(void)
     check_sheet();
     check_plan_checked();
     check_percentages();
+    check_large_clauses();
+    check_many_carts();
+    check_many_lanes(128);
+    check_many_lanes(129);
+    check_few_marks();
     check_narrow_written();
     check_conflicts();
     check_swap();
