@@ -6,6 +6,7 @@ use std::path::PathBuf;
 use std::time::Instant;
 
 use crate::aims;
+use crate::blocks;
 use crate::cases;
 use crate::check;
 use crate::damage::Triple;
@@ -15,12 +16,14 @@ use crate::tally::Tally;
 use crate::thresholds;
 use crate::verdict::Verdict;
 
-/// The cases of documents 01 and 02, every percentage, then so many random triples; false once a difference was told.
+/// The cases of documents 01 and 02, every percentage, the room for tables, then so many random triples; false once a difference was told.
 pub fn gate(cases: u64, seed: u64) -> bool {
     let told = cases::run()
         .map(|count| println!("{count} cases of documents 01 and 02"))
         .and_then(|_| thresholds::run())
-        .map(|thresholds| thresholds.print());
+        .map(|thresholds| thresholds.print())
+        .and_then(|_| blocks::run())
+        .map(|blocks| blocks.print());
     if let Err(text) = told {
         println!("second: {text}");
         return false;

@@ -5,6 +5,7 @@
 //!     second runs CASES SEED    verdicts beside runs: random ones, and all runs of small plans
 
 mod aims;
+mod blocks;
 mod cases;
 mod check;
 mod clauses;
