@@ -983,7 +983,7 @@ def limit(need, h, length, nodes, marks=2):
     return f"{need} words needed: h {h}, clauses of {nodes} nodes, {marks} marks", floor, meeting(h), rules, f"refused rules 17 1 {h - 1 - even}"
 
 
-# As CHECKS. On a floor of two marks no h and no sheet need 501 to 503 words, nor 4,001.
+# As CHECKS. No floor, plan and sheet need 501 to 503 words, nor 4,001.
 BLOCKS = [
     *switching(500, 4, 60),
     *switching(1000, 64, 6),
