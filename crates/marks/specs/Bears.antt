@@ -6,7 +6,6 @@ use mathlib.Core.List.{List}
 use lib.ListN.{getD, length}
 use Rattle.endian.specs.Little.{value}
 use Rattle.floor.specs.Numbers.{placeAt, bodyAt}
-use Rattle.cltl.specs.Meaning.{Rows}
 use Rattle.mask.specs.Mask.{on}
 
 -- "4 bytes: one bit for each mark m0 (lowest) to m31": the marks of place q
@@ -19,9 +18,6 @@ blockPlace block i s = getD block (64 * i + s) 0
 
 abbrev pub bearing : List ℕ → List ℕ → ℕ → ℕ → ℕ → Bool
 bearing floor block i s k = on (marksOf floor (blockPlace block i s)) k
-
-abbrev pub rowsOf : List ℕ → List ℕ → ℕ → ℕ → ℕ → Rows
-rowsOf floor block carts h l = record { carts = carts; h = h; l = l; bears = bearing floor block }
 
 -- cart i's places have their records in the floor's bytes
 pub record OnFloor (floor block : List ℕ) (h i : ℕ) : Type 0 where
