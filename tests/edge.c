@@ -285,11 +285,14 @@ static struct cartplan_verdict check_long(uint16_t drift, const char *rules)
     return cartplan_check(floor_bytes, FLOOR_LEN, plan, sizeof plan, (const uint8_t *)rules, strlen(rules));
 }
 
-/* On that plan, with tables for at most 11 nodes of a clause at first: true; false, with drift too; the same with 15 nodes; X outside a count. */
+/* On that plan, with room for the tables of at most 11 nodes of a count's text at first: true; false, with drift too; the same with texts of 12
+ * and of 13 nodes; with two texts of 11 in a clause of 25 or 26; X outside a count. */
 #define KEPT "[F m1,2]\n"
 #define BROKEN "G [m0,1]\n"
-#define LARGE "[F m1|m2|m2|m2|m2|m2|m2,2]\n"
+#define LARGE "[F m1|m2|m2|m2|m2|m2,2]\n"
 #define LARGE_BROKEN "G [m0|m2|m2|m2|m2|m2|m2,1]\n"
+#define WIDE "[m0|m2|m2|m2|m2|m2,1] & [m0|m2|m2|m2|m2|m2,2]\n"
+#define WIDE_BROKEN "G ([m0|m2|m2|m2|m2|m2,1] & [m0|m1|m2|m2|m2|m2,2])\n"
 #define AHEAD "X true\n"
 
 static void check_large_clauses(void)
@@ -305,6 +308,9 @@ static void check_large_clauses(void)
     check_numbers(check_long(1, BROKEN LARGE AHEAD), 3, 16, 2, 0, "16 behind a large clause, 17 before it");
     check_numbers(check_long(1, LARGE_BROKEN AHEAD), 3, 16, 1, 0, "16 behind a large clause that is false");
     check_verdict(check_long(0, LARGE AHEAD), 0, 0, 0, "no 16 without drift");
+    check_verdict(check_long(16, WIDE KEPT WIDE), 0, 0, 0, "large clauses of small texts");
+    check_numbers(check_long(0, WIDE WIDE_BROKEN), 3, 17, 1, 63, "17 by a large clause of small texts");
+    check_numbers(check_long(16, WIDE LARGE WIDE_BROKEN), 3, 17, 2, 62, "17 by one behind a large text");
 }
 
 /* 32 carts over 64 steps with a lap of one step: cart n is on m0 up to step 31 + n, and then on m1. */
