@@ -49,7 +49,8 @@ impl<'a> Clauses<'a> {
         self.random.range(low, high).max(self.least)
     }
 
-    fn outer(&mut self, clause: &mut Clause, nodes: usize) -> usize {
+    /// A part outside counts of so many nodes.
+    pub fn outer(&mut self, clause: &mut Clause, nodes: usize) -> usize {
         let count = match nodes {
             1 => return clause.push(Op::True, 0, 0),
             2 => 95,
