@@ -900,7 +900,7 @@ PERCENTAGES = [
 ]
 
 # Truth by step. The tables of a check lie in one block, whose size is chosen by the floor's marks, the plan's steps and the sheet's length; where
-# the nodes of a clause have no room in it, that clause and all behind it are judged with a full one. No verdict may hang on that.
+# the text of a count has no room in it, its clause and all behind it are judged with a full one. No verdict may hang on that.
 
 
 def meeting(h, l=0, d=0):
@@ -912,19 +912,24 @@ def meeting(h, l=0, d=0):
 KEPT, BROKEN, AHEAD = "[F m1,2]", "G [m0,1]", "X true"
 
 
-def kept(k):
-    """As KEPT, with 2 k nodes more: no place bears m2."""
-    return "[F m1" + "|m2" * k + ",2]"
+def text(start, size):
+    """Inner text of so many nodes with the truth of `start`: no place bears m2."""
+    return start + "|m2" * ((size - 1) // 2)
 
 
-def broken(k):
-    """As BROKEN, with 2 k nodes more."""
-    return "G [m0" + "|m2" * k + ",1]"
+def kept(size):
+    """As KEPT, with a text of so many nodes, an even number."""
+    return f"[{text('F m1', size)},2]"
+
+
+def broken(size):
+    """As BROKEN, with a text of so many nodes, an odd number."""
+    return f"G [{text('m0', size)},1]"
 
 
 def guess(rules):
-    """How many nodes a clause is taken to have before the sheet is read again."""
-    return min(128, len(rules) // 16 + 8)
+    """How many nodes the text of a count is taken to have before the sheet is read again."""
+    return min(30, len(rules) // 64 + 8)
 
 
 def words(marks, h, nodes):
@@ -932,13 +937,18 @@ def words(marks, h, nodes):
     return (marks + 2 + nodes) * h
 
 
+def begins_with(marks, h, rules):
+    """The words of the block that a check begins with."""
+    return min(room for room in (500, 1000, 4096) if words(marks, h, guess(rules)) <= room)
+
+
 def rules_verdict(verdict):
     return verdict if verdict == "accepted" else "refused rules " + verdict
 
 
-def switching(room, h, k):
-    """Checks with a small block of so many words, in which clauses of 3 + 2 k nodes have no room."""
-    large, false = kept(k), broken(k)
+def switching(room, h, most):
+    """Checks with a small block of so many words, in which the texts of counts have room for so many nodes, an even number, and for no more."""
+    large, false = kept(most + 2), broken(most + 1)
     sheets = [
         ("the one clause", 0, (large,), "accepted"),
         ("the first clause", 0, (large, KEPT, KEPT), "accepted"),
@@ -947,6 +957,8 @@ def switching(room, h, k):
         ("two clauses", 0, (large, KEPT, large), "accepted"),
         ("the first clause, d 16", 16, (large, KEPT), "accepted"),
         ("the last clause, d 16", 16, (KEPT, large), "accepted"),
+        ("the first of two counts", 0, (KEPT, f"{large} & {KEPT}", KEPT), "accepted"),
+        ("the last of two counts", 0, (KEPT, f"{KEPT} & {large}", KEPT), "accepted"),
         ("17 by the one clause", 0, (false,), f"17 0 {h - 1}"),
         ("17 before it", 0, (BROKEN, large, KEPT), f"17 0 {h - 1}"),
         ("17 by it", 0, (KEPT, false, KEPT), f"17 1 {h - 1}"),
@@ -965,49 +977,91 @@ def switching(room, h, k):
         ("16 before it and behind it", 1, (AHEAD, large, AHEAD), "16 0 0"),
         ("no 16 behind it with d 0", 0, (large, AHEAD), "accepted"),
     ]
+    assert words(2, h, most) <= room < words(2, h, most + 1)
     for name, d, clauses, verdict in sheets:
-        rules = sheet(*clauses)
-        smaller = {500: 0, 1000: 500, 4000: 1000}[room]
-        assert smaller < words(2, h, guess(rules)) <= room < words(2, h, 3 + 2 * k)
-        yield f"beyond {room} words: {name}", FLOOR, meeting(h, h // 2, d), rules, rules_verdict(verdict)
+        yield f"beyond {room} words: {name}", FLOOR, meeting(h, h // 2, d), at_first(room, h, clauses), rules_verdict(verdict)
 
 
-def limit(need, h, length, nodes, marks=2):
-    """A check that needs so many words, by a sheet of so many bytes, spaces first: a clause of so many nodes that is kept, and one that is not."""
-    k, even = (nodes - 3) // 2, nodes % 2 == 0
-    clauses = ("G " + kept(k), "G [X m0" + "|m2" * k + ",1]") if even else (kept(k), broken(k))
+def at_first(room, h, clauses):
+    """These clauses as a sheet that begins with so many words; for 4,096 with spaces in front, where it is too short."""
     rules = sheet(*clauses)
+    if room == 4096:
+        rules = b" " * (256 - len(rules)) + rules
+    assert begins_with(2, h, rules) == room
+    return rules
+
+
+def staying(room, h, most):
+    """Checks with a small block of so many words, in which clauses have more nodes than it has room for, but no text of a count has."""
+    wide, false = f"{kept(most)} & {kept(most)}", f"G ([{text('m0', most - 1)},1] & {kept(most)})"
+    long = " & ".join(["true"] * 64)
+    sheets = [
+        ("one clause", 0, (wide,), "accepted"),
+        ("all clauses", 0, (wide, KEPT, wide), "accepted"),
+        ("one without a count", 0, (long, KEPT), "accepted"),
+        ("one without a count, and it is false", 0, (KEPT, "!(" + long + ")"), "17 1 0"),
+        ("17 by it", 0, (KEPT, false, KEPT), f"17 1 {h - 1}"),
+        ("17 behind it", 0, (wide, BROKEN), f"17 1 {h - 1}"),
+        ("17 behind it, d 16", 16, (wide, BROKEN), f"17 1 {h - 2}"),
+        ("16 behind it", 1, (wide, AHEAD), "16 1 0"),
+        ("one, and then one beyond", 0, (wide, kept(most + 2), BROKEN), f"17 2 {h - 1}"),
+    ]
+    assert words(2, h, most) <= room < words(2, h, 2 * most + 3)
+    for name, d, clauses, verdict in sheets:
+        yield f"{room} words do: {name}", FLOOR, meeting(h, h // 2, d), at_first(room, h, clauses), rules_verdict(verdict)
+
+
+def limit(need, h, length, size, marks=2):
+    """A check that needs so many words at first, by a sheet of so many bytes, spaces first: texts of so many nodes, in a clause that is kept and in one
+    that is not."""
+    even = size % 2 == 0
+    rules = sheet(kept(size), f"G [{text('X m0', size)},1]") if even else sheet(f"[{text('m0', size)},2]", broken(size))
     rules = b" " * (length - len(rules)) + rules
     assert len(rules) == length and words(marks, h, guess(rules)) == need
     floor = place(1 << 0) + place(1 << 1 | 1 << marks - 1) + LANES + CARTS
-    return f"{need} words needed: h {h}, clauses of {nodes} nodes, {marks} marks", floor, meeting(h), rules, f"refused rules 17 1 {h - 1 - even}"
+    return f"{need} words needed: h {h}, texts of {size} nodes, {marks} marks", floor, meeting(h), rules, f"refused rules 17 1 {h - 1 - even}"
 
 
-# As CHECKS. No floor, plan and sheet need 501 to 503 words, nor 4,001.
+# As CHECKS. No floor, plan and sheet need 501 to 503 words at first, 1,001 or 1,002, nor more than 4,096.
 BLOCKS = [
-    *switching(500, 4, 60),
-    *switching(1000, 64, 6),
-    *switching(4000, 64, 30),
-    limit(494, 38, 31, 3),
-    limit(500, 25, 143, 16),
-    limit(500, 25, 143, 17),
-    limit(504, 36, 47, 10),
-    limit(525, 25, 144, 16),
-    limit(1000, 50, 143, 16),
-    limit(1000, 50, 143, 17),
-    limit(1001, 13, 1040, 73),
-    limit(1050, 50, 144, 16),
-    limit(4000, 50, 1103, 76),
-    limit(4000, 50, 1103, 77),
-    limit(4002, 58, 912, 65),
-    limit(4050, 50, 1104, 76),
-    limit(500, 10, 143, 16, 32),
-    limit(500, 10, 143, 17, 32),
-    limit(1000, 20, 143, 16, 32),
-    limit(1000, 20, 143, 17, 32),
-    limit(4000, 50, 623, 46, 32),
-    limit(4000, 50, 623, 47, 32),
-    limit(10368, 64, 1920, 128, 32),
+    *switching(500, 25, 16),
+    *switching(1000, 50, 16),
+    *switching(4096, 64, 60),
+    *staying(500, 25, 16),
+    *staying(1000, 50, 16),
+    *staying(4096, 64, 60),
+    limit(494, 38, 127, 9),
+    limit(494, 38, 127, 10),
+    limit(500, 25, 575, 16),
+    limit(500, 25, 575, 17),
+    limit(504, 36, 191, 9),
+    limit(504, 36, 191, 10),
+    limit(525, 25, 576, 16),
+    limit(525, 25, 576, 36),
+    limit(525, 25, 576, 37),
+    limit(1000, 50, 575, 16),
+    limit(1000, 50, 575, 17),
+    limit(1003, 59, 320, 12),
+    limit(1003, 59, 320, 13),
+    limit(1003, 59, 320, 65),
+    limit(1003, 59, 320, 66),
+    limit(1050, 50, 576, 16),
+    limit(1050, 50, 576, 77),
+    limit(1050, 50, 576, 78),
+    limit(2176, 64, 1408, 60),
+    limit(2176, 64, 1408, 61),
+    limit(500, 10, 575, 16, 32),
+    limit(500, 10, 575, 17, 32),
+    limit(510, 10, 576, 66, 32),
+    limit(510, 10, 576, 67, 32),
+    limit(1000, 20, 575, 16, 32),
+    limit(1000, 20, 575, 17, 32),
+    limit(1020, 20, 576, 126, 32),
+    limit(4032, 64, 1407, 29, 32),
+    limit(4032, 64, 1407, 30, 32),
+    limit(4096, 64, 1408, 30, 32),
+    limit(4096, 64, 1408, 31, 32),
+    limit(4096, 64, 1408, 126, 32),
 ]
 
 
