@@ -11,7 +11,7 @@ use Rattle.row.specs.Round.{pick}
 use Rattle.mask.specs.Mask.{on}
 use Rattle.mask.specs.EachBit.{on-zero, on-ones}
 use Rattle.table.specs.Table.{told, Stored}
-use Rattle.table.specs.Layout.{allAt, noneAt, nodesAt, markAt}
+use Rattle.table.specs.Layout.{allAt, noneAt, pairsAt, markAt}
 use Rattle.marks.specs.Bears.{bearing, NoneFrom}
 use Rattle.marks.specs.Tables.{Holds, Tables, Empty, Bearers, Filled}
 use Rattle.marks.proofs.Filling.{apart}
@@ -30,7 +30,7 @@ module _ (marks h : ℕ) {end full at-all at-none : ℕ} {before cleared all non
       let i : k * h + s < end = omega (arith, apart k marks h p) in
       n .below (k * h + s) (omega arith) ∙ a .below (k * h + s) (omega arith) ∙ word cleared (omega arith) ∙ c .each (k * h + s) (omega arith) i
 
-  module _ (floor block : List ℕ) (carts : ℕ) (after : List ℕ) (room : nodesAt marks h ≤ length before)
+  module _ (floor block : List ℕ) (carts : ℕ) (after : List ℕ) (room : pairsAt marks h ≤ length before)
       (r : Tables (Bearers floor block carts) marks h none after) (f : NoneFrom floor block carts h marks) where
     all-word : (s : ℕ) → s < h → getD after (allAt marks h + s) 0 ≡ full
     all-word s p = word after (omega arith) ∙ r .beyond (at-all + s) (omega arith) ∙ n .below (at-all + s) (omega arith) ∙ a .each s (omega arith) p

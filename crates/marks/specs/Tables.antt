@@ -4,7 +4,7 @@ use mathlib.Core.Path.{_≡_}
 use mathlib.Core.List.{List}
 use lib.ListN.{getD, length}
 use Rattle.mask.specs.Mask.{Row}
-use Rattle.table.specs.Layout.{nodesAt, Constants, Shown}
+use Rattle.table.specs.Layout.{pairsAt, Constants, Shown}
 use Rattle.marks.specs.Bears.{marksOf, blockPlace, bearing}
 
 -- each word s of the table at an offset has P s
@@ -48,4 +48,4 @@ pub record Filled (floor block : List ℕ) (carts h marks : ℕ) (before after :
   pub shown : Shown marks carts h (bearing floor block) after
   -- no bit beyond the carts
   pub low : Holds (λ k s x. x < 2 ^ carts) marks h after
-  pub beyond : (j : ℕ) → nodesAt marks h ≤ j → getD after j 0 ≡ getD before j 0
+  pub beyond : (j : ℕ) → pairsAt marks h ≤ j → getD after j 0 ≡ getD before j 0

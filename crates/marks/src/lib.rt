@@ -6,7 +6,7 @@ mod words;
 ghost use Prim.Native.Nat.{_+_, _*_, _≤_, _<_};
 ghost use mathlib.Core.Path.{_≡_};
 ghost use lib.ListN.{length};
-ghost use Rattle.table.specs.Layout.{nodesAt};
+ghost use Rattle.table.specs.Layout.{pairsAt};
 ghost use Rattle.marks.specs.Bears.{Placed, Borne, NoneFrom};
 ghost use Rattle.marks.specs.Tables.{Filled};
 
@@ -28,7 +28,7 @@ pub fn borne(floor: &[u8], places: usize) -> usize
 pub fn fill(floor: &[u8], block: &[u8], carts: usize, h: usize, marks: usize, t: &mut [u32])
     requires { ⌜ length (now block) ≡ 2048 ⌝ }
     requires { ⌜ (carts ≤ 32) × (h ≤ 64) × (marks ≤ 32) ⌝ }
-    requires { ⌜ nodesAt marks h ≤ length (now t) ⌝ }
+    requires { ⌜ pairsAt marks h ≤ length (now t) ⌝ }
     requires { ⌜ Placed (now floor) (now block) carts h ⌝ }
     requires { ⌜ NoneFrom (now floor) (now block) carts h marks ⌝ }
     ensures { λ _. ⌜ Filled (now (floor .entry)) (now (block .entry)) carts h marks (now (t .entry)) (now (t .exit)) ⌝ }

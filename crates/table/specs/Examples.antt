@@ -6,7 +6,7 @@ use mathlib.Core.List.{List, [], _∷_}
 use lib.Dec.{eqb}
 use Rattle.mask.specs.Mask.{on}
 use Rattle.table.specs.Table.{told}
-use Rattle.table.specs.Layout.{allAt, noneAt, nodesAt, markAt}
+use Rattle.table.specs.Layout.{allAt, noneAt, pairsAt, markAt}
 use Rattle.table.specs.Straight.{straight}
 
 -- two steps: carts 0 and 2, then cart 1
@@ -31,13 +31,13 @@ pub worked : (told words 0 0 0 ≡ true)
     × (told words 0 0 1 ≡ false)
     -- a table that begins at the second word
     × (told words 1 1 0 ≡ true)
-    -- two marks, three steps: the marks' tables, that of all, that of none, the nodes'
+    -- two marks, three steps: the marks' tables, that of all, that of none, the places behind them
     × (markAt 2 3 0 ≡ 0)
     × (markAt 2 3 1 ≡ 3)
     × (allAt 2 3 ≡ 6)
     × (noneAt 2 3 ≡ 9)
     × (markAt 2 3 2 ≡ 9)
-    × (nodesAt 2 3 ≡ 12)
+    × (pairsAt 2 3 ≡ 12)
     -- "until": reached within three steps, not within two, unless it is true behind them
     × (straight true always second false 3 0 ≡ true)
     × (straight true always second false 2 0 ≡ false)

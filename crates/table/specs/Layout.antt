@@ -1,5 +1,5 @@
 -- Where the tables of a check lie in their one block: one for each mark below `marks`, one of all carts at every step, one of none, and behind them
--- those of the nodes.
+-- the places for those of inner text, in pairs.
 use Prim.Native.Nat.{ℕ, _+_, _*_, _≤_, _<_}
 use mathlib.Core.Path.{_≡_}
 use mathlib.Core.Bool.{Bool, true, false, cond}
@@ -15,16 +15,16 @@ module _ (marks h : ℕ) where
   abbrev pub noneAt : ℕ
   noneAt = (marks + 1) * h
 
-  abbrev pub nodesAt : ℕ
-  nodesAt = (marks + 2) * h
+  abbrev pub pairsAt : ℕ
+  pairsAt = (marks + 2) * h
 
-  -- a mark that no place bears has no table of its own
+  -- a mark above the highest that is borne has the table of none
   abbrev pub markAt : ℕ → ℕ
   markAt k = cond (ltb k marks) (k * h) noneAt
 
 -- a block with its two constant tables
 pub record Constants (marks h : ℕ) (t : List ℕ) : Type 0 where
-  pub room : nodesAt marks h ≤ length t
+  pub room : pairsAt marks h ≤ length t
   pub all : (i s : ℕ) → i < 32 → s < h → told t (allAt marks h) i s ≡ true
   pub none : (i s : ℕ) → i < 32 → s < h → told t (noneAt marks h) i s ≡ false
 

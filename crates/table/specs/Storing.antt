@@ -2,12 +2,12 @@
 use Prim.Native.Nat.{ℕ, _+_, _-_, _≤_, _<_}
 use mathlib.Core.Path.{_≡_, refl, sym, ap, subst, _∙_}
 use mathlib.Core.List.{List}
-use mathlib.Core.Logic.{⊎-elim}
+use mathlib.Core.Logic.{inl, inr, ⊎-elim}
 use native.Mathlib.Omega.{arith}
 use lib.ListN.{getD, length, set, length-set}
 use lib.Seq.{getD-set-same, getD-set-other}
 use Rattle.cltl.specs.Basics.{lt-or-le}
-use Rattle.table.specs.Table.{Stored}
+use Rattle.table.specs.Table.{Stored, Apart}
 
 module _ (P : ℕ → ℕ → Type 0) (at : ℕ) where
   pub begun : (n : ℕ) (t : List ℕ) → Stored P at n n t t
@@ -65,3 +65,12 @@ module _ (P : ℕ → ℕ → Type 0) (at : ℕ) where
 pub stored-of : (P Q : ℕ → ℕ → Type 0) (at from to : ℕ) (before after : List ℕ) → ((s x : ℕ) → from ≤ s → s < to → P s x → Q s x)
     → Stored P at from to before after → Stored Q at from to before after
 stored-of P Q at from to before after f r = record { kept = r .kept; each = λ s u v. f s _ u v (r .each s u v); below = r .below; above = r .above }
+
+-- fewer words share none either
+pub apart-less : (a k n m : ℕ) → n ≤ m → Apart a k m → Apart a k n
+apart-less a k n m q = ⊎-elim (λ u. inl (omega arith)) (λ u. inr (omega arith))
+
+-- a table apart from the one that is stored stays as it was
+pub apart-word : (P : ℕ → ℕ → Type 0) (k from to : ℕ) (before after : List ℕ) → Stored P k from to before after → (a h s : ℕ) → to ≤ h → s < h
+    → Apart a k h → getD after (a + s) 0 ≡ getD before (a + s) 0
+apart-word P k from to before after r a h s q z = ⊎-elim (λ u. r .below (a + s) (omega arith)) (λ u. r .above (a + s) (omega arith))

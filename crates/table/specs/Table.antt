@@ -2,6 +2,7 @@
 use Prim.Native.Nat.{ℕ, _+_, _≤_, _<_}
 use mathlib.Core.Path.{_≡_}
 use mathlib.Core.Bool.{Bool}
+use mathlib.Core.Logic.{_⊎_}
 use mathlib.Core.List.{List}
 use lib.ListN.{getD, length}
 use Rattle.mask.specs.Mask.{on}
@@ -24,6 +25,10 @@ pub record Stored (P : ℕ → ℕ → Type 0) (at from to : ℕ) (before after 
 -- a whole table of h steps: word s has bit i exactly if f i s
 abbrev pub Table : (ℕ → ℕ → Bool) → (at h : ℕ) (before after : List ℕ) → Type 0
 Table f at h before after = Stored (λ s. Word (λ i. f i s)) at 0 h before after
+
+-- two tables of n words that share none
+abbrev pub Apart : (a b n : ℕ) → Type 0
+Apart a b n = (a + n ≤ b) ⊎ (b + n ≤ a)
 
 -- no longer or shorter, and the first n words are left alone
 pub record Kept (n : ℕ) (before after : List ℕ) : Type 0 where

@@ -5,11 +5,12 @@ ghost use Prim.Native.Nat.{_+_, _<_, _≤_};
 ghost use lib.ListN.{length};
 ghost use Rattle.row.specs.Lasso.{nextStep};
 ghost use Rattle.cltl.specs.Rules.{join};
-ghost use Rattle.table.specs.Table.{told, Table};
+ghost use Rattle.table.specs.Table.{told, Table, Apart};
 
 // "and" (p) or "or" of the tables at a and b.
 pub fn join_table(p: bool, t: &mut [u32], a: usize, b: usize, k: usize, h: usize)
-    requires { ⌜ (a + h ≤ k) × (b + h ≤ k) × (k + h ≤ length (now t)) ⌝ }
+    requires { ⌜ (a + h ≤ length (now t)) × (b + h ≤ length (now t)) × (k + h ≤ length (now t)) ⌝ }
+    requires { ⌜ Apart a k h × Apart b k h ⌝ }
     ensures { λ _. ⌜ Table (λ i s. join p (told (now (t .entry)) a i s) (told (now (t .entry)) b i s)) k h (now (t .entry)) (now (t .exit)) ⌝ }
 {
     let mut s = 0;
@@ -21,7 +22,7 @@ pub fn join_table(p: bool, t: &mut [u32], a: usize, b: usize, k: usize, h: usize
 
 // "not": inner text is exact, so its negation is the complement.
 pub fn not_table(t: &mut [u32], a: usize, k: usize, h: usize)
-    requires { ⌜ (a + h ≤ k) × (k + h ≤ length (now t)) ⌝ }
+    requires { ⌜ (a + h ≤ length (now t)) × (k + h ≤ length (now t)) × Apart a k h ⌝ }
     ensures { λ _. ⌜ Table (λ i s. not (told (now (t .entry)) a i s)) k h (now (t .entry)) (now (t .exit)) ⌝ }
 {
     let mut s = 0;
@@ -33,7 +34,7 @@ pub fn not_table(t: &mut [u32], a: usize, k: usize, h: usize)
 
 // What is true a step later, the lap's first step after the last.
 pub fn next_table(t: &mut [u32], a: usize, k: usize, h: usize, l: usize)
-    requires { ⌜ (l < h) × (a + h ≤ k) × (k + h ≤ length (now t)) ⌝ }
+    requires { ⌜ (l < h) × (a + h ≤ length (now t)) × (k + h ≤ length (now t)) × Apart a k h ⌝ }
     ensures { λ _. ⌜ Table (λ i s. told (now (t .entry)) a i (nextStep h l s)) k h (now (t .entry)) (now (t .exit)) ⌝ }
 {
     let last = h - 1;

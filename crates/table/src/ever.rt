@@ -7,7 +7,7 @@ ghost use mathlib.Core.Bool.{not};
 ghost use Prim.Native.Nat.{ℕ, _+_, _-_, _<_, _≤_};
 ghost use lib.ListN.{length};
 ghost use Rattle.cltl.specs.Rules.{fix};
-ghost use Rattle.table.specs.Table.{told, Word, Stored, Table};
+ghost use Rattle.table.specs.Table.{told, Word, Stored, Table, Apart};
 ghost use Rattle.table.specs.Straight.{straight};
 
 // "or" (p) or "and" over the lap.
@@ -38,7 +38,8 @@ fn put_lap(t: &mut [u32], k: usize, h: usize, l: usize, v: u32)
 
 // F (p) or G of the table at b: once over the lap, then backwards through the run-in, with a table c of p at every step.
 pub fn ever_table(p: bool, t: &mut [u32], c: usize, b: usize, k: usize, h: usize, l: usize)
-    requires { ⌜ (l < h) × (c + h ≤ k) × (b + h ≤ k) × (k + h ≤ length (now t)) ⌝ }
+    requires { ⌜ (l < h) × (c + h ≤ length (now t)) × (b + h ≤ length (now t)) × (k + h ≤ length (now t)) ⌝ }
+    requires { ⌜ Apart c k h × Apart b k h ⌝ }
     requires { ⌜ ((i s : ℕ) → i < 32 → s < h → told (now t) c i s ≡ p) ⌝ }
     ensures { λ _. ⌜ Table (λ i. fix h l p (λ s. p) (told (now (t .entry)) b i) h) k h (now (t .entry)) (now (t .exit)) ⌝ }
 {

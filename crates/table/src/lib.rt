@@ -1,4 +1,4 @@
-// Tables of truth by step: h words, one a step, with bit i for cart i. The tables of a check lie in one block, each behind those that it is made from.
+// Tables of truth by step: h words, one a step, with bit i for cart i. The tables of a check lie in one block; a table and those it is made from share no word.
 mod each;
 mod ever;
 mod until;

@@ -6,7 +6,7 @@ use mathlib.Core.List.{List}
 use Rattle.cltl.specs.Rules.{join}
 use Rattle.mask.specs.Mask.{on}
 use Rattle.table.specs.Table.{told, Word, Stored}
-use Rattle.table.specs.Storing.{begun, upward}
+use Rattle.table.specs.Storing.{begun, upward, apart-word}
 use borrow.Author.Needs.{needs}
 use native.Mathlib.Omega.{arith}
 use Rattle.table.proofs.each.join_table.Statement.{statement}
@@ -65,14 +65,18 @@ loop-less c = omega arith
 
 loop-again : tie.Need-loop-again Inv-loop μ-loop
 loop-again c =
-    let a = c .before .before .before .before .before .before .args in
+    let start = c .before .before .before .before .before .before in
+    let a = start .args in
     let v = c .before .before .before .before .loop in
     let r = v .inv .1 in
     let m = c .join-word in
     let inside : a .k + v .s < length (v .t) = omega (arith, r .kept) in
-    let word : Joined (a .p) (a .t .now) (a .a) (a .b) (v .s) (m .result) =
-    λ i q. m .ensures i q ∙ ap₂ (λ (x y : ℕ). join (a .p) (on x i) (on y i)) (r .below (a .a + v .s) (omega arith)) (r .below (a .b + v .s) (omega arith)) in
-    (omega arith, upward (Joined (a .p) (a .t .now) (a .a) (a .b)) (a .k) 0 (v .s) (a .k + v .s) (m .result) (a .t .now) (v .t) r (omega arith) inside refl word)
+    let P = Joined (a .p) (a .t .now) (a .a) (a .b) in
+    let same = apart-word P (a .k) 0 (v .s) (a .t .now) (v .t) r in
+    let word : P (v .s) (m .result) =
+    λ i q. m .ensures i q ∙ ap₂ (λ (x y : ℕ). join (a .p) (on x i) (on y i)) (same (a .a) (a .h) (v .s) (omega arith) (omega arith) (start .pre .1 .0))
+    (same (a .b) (a .h) (v .s) (omega arith) (omega arith) (start .pre .1 .1)) in
+    (omega arith, upward P (a .k) 0 (v .s) (a .k + v .s) (m .result) (a .t .now) (v .t) r (omega arith) inside refl word)
 
 same-length : tie.Need-same-length Inv-loop μ-loop
 same-length c = c .before .loop .inv .1 .kept

@@ -3,10 +3,10 @@ use mathlib.Core.Path.{_≡_, refl, ap, subst, _∙_}
 use lib.ListN.{getD, length, set, length-set}
 use mathlib.Core.List.{List}
 use Rattle.row.specs.Lasso.{nextStep}
-use Rattle.row.specs.Round.{next-low, next-last}
+use Rattle.row.specs.Round.{next-low, next-last, next-below}
 use Rattle.mask.specs.Mask.{on}
-use Rattle.table.specs.Table.{told, Word, Stored}
-use Rattle.table.specs.Storing.{begun, upward}
+use Rattle.table.specs.Table.{told, Word, Stored, Apart}
+use Rattle.table.specs.Storing.{begun, upward, apart-word}
 use native.Mathlib.Omega.{arith}
 use Rattle.table.proofs.each.next_table.Statement.{statement}
 use Rattle.table.proofs.each.next_table.Tie as tie
@@ -14,6 +14,13 @@ use Rattle.table.proofs.each.next_table.Tie as tie
 -- word s is the word at the step after s
 abbrev Later : List ℕ → ℕ → (h l : ℕ) → ℕ → ℕ → Type 0
 Later t a h l s = Word (λ i. told t a i (nextStep h l s))
+
+-- a word that is read there, from a table apart from the one that is stored, is such a word
+read-later : (t now : List ℕ) (a k h l s j : ℕ) → Stored (Later t a h l) k 0 s t now → s < h → l < h → Apart a k h → j ≡ a + nextStep h l s
+    → Later t a h l s (getD now j 0)
+read-later t now a k h l s j r q z u e i _ =
+    ap (λ (j : ℕ). on (getD now j 0) i) e
+    ∙ ap (λ (x : ℕ). on x i) (apart-word (Later t a h l) k 0 s t now r a h (nextStep h l s) (omega arith) (next-below h l z s) u)
 
 abbrev Inv-loop : tie.InvT-loop
 Inv-loop t₀ a k h l last s₀ t s = (s ≤ last) × Stored (Later t₀ a h l) k 0 s t₀ t
@@ -56,15 +63,16 @@ loop-less c = omega arith
 
 loop-again : tie.Need-loop-again Inv-loop μ-loop
 loop-again c =
-    let a = c .before .before .before .args in
+    let start = c .before .before .before in
+    let a = start .args in
     let v = c .before .before .loop in
     let r = v .inv .1 in
     let inside : a .k + v .s < length (v .t) = omega (arith, r .kept) in
-    let step : a .a + v .s + 1 ≡ a .a + nextStep (a .h) (a .l) (v .s) = omega (arith, next-low (a .h) (a .l) (v .s) (omega arith)) in
-    let word : Later (a .t .now) (a .a) (a .h) (a .l) (v .s) _ =
-    λ i q. ap (λ (x : ℕ). on x i) (r .below (a .a + v .s + 1) (omega arith) ∙ ap (λ (j : ℕ). getD (a .t .now) j 0) step) in (
+    let P = Later (a .t .now) (a .a) (a .h) (a .l) in
+    let word = read-later (a .t .now) (v .t) (a .a) (a .k) (a .h) (a .l) (v .s) (a .a + v .s + 1) r (omega arith) (omega arith) (start .pre .3)
+    (omega (arith, next-low (a .h) (a .l) (v .s) (omega arith))) in (
       omega arith,
-      upward (Later (a .t .now) (a .a) (a .h) (a .l)) (a .k) 0 (v .s) (a .k + v .s) _ (a .t .now) (v .t) r (omega arith) inside refl word,
+      upward P (a .k) 0 (v .s) (a .k + v .s) _ (a .t .now) (v .t) r (omega arith) inside refl word,
     )
 
 add-t-4 : tie.Need-add-t-4 Inv-loop μ-loop
@@ -90,16 +98,15 @@ same-length c = simp length-set (c .before .before .loop .inv .1 .kept)
 
 returns : tie.Need-returns Inv-loop μ-loop
 returns c =
-    let a = c .before .before .before .args in
+    let start = c .before .before .before in
+    let a = start .args in
     let v = c .before .before .loop in
     let r = v .inv .1 in
-    let inside : a .k + v .s < length (v .t) = omega (arith, r .kept) in
-    let step : a .a + a .l ≡ a .a + nextStep (a .h) (a .l) (v .s) = omega (arith, next-last (a .h) (a .l) (v .s) (omega arith)) in
-    let word : Later (a .t .now) (a .a) (a .h) (a .l) (v .s) _ =
-    λ i q. ap (λ (x : ℕ). on x i) (r .below (a .a + a .l) (omega arith) ∙ ap (λ (j : ℕ). getD (a .t .now) j 0) step) in
+    let P = Later (a .t .now) (a .a) (a .h) (a .l) in
+    let word = read-later (a .t .now) (v .t) (a .a) (a .k) (a .h) (a .l) (v .s) (a .a + a .l) r (omega arith) (omega arith) (start .pre .3)
+    (omega (arith, next-last (a .h) (a .l) (v .s) (omega arith))) in
     let e : v .s + 1 ≡ a .h = omega arith in
     let here : a .k + (a .h - 1) ≡ a .k + v .s = omega arith in
-    let P = Later (a .t .now) (a .a) (a .h) (a .l) in
     let x : ℕ = getD (v .t) (a .a + a .l) 0 in
     subst (λ (n : ℕ). Stored P (a .k) 0 n (a .t .now) (set (v .t) (a .k + (a .h - 1)) x)) e
     (upward P (a .k) 0 (v .s) (a .k + (a .h - 1)) x (a .t .now) (v .t) r (omega arith) (omega (arith, r .kept)) here word)

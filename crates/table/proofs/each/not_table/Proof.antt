@@ -6,7 +6,7 @@ use mathlib.Core.List.{List}
 use Rattle.mask.specs.Mask.{on}
 use Rattle.table.specs.Table.{told, Word, Stored}
 use Rattle.table.specs.Words.{not-word}
-use Rattle.table.specs.Storing.{begun, upward}
+use Rattle.table.specs.Storing.{begun, upward, apart-word}
 use native.Mathlib.Omega.{arith}
 use Rattle.table.proofs.each.not_table.Statement.{statement}
 use Rattle.table.proofs.each.not_table.Tie as tie
@@ -50,13 +50,16 @@ loop-less c = omega arith
 
 loop-again : tie.Need-loop-again Inv-loop μ-loop
 loop-again c =
-    let a = c .before .before .before .args in
+    let start = c .before .before .before in
+    let a = start .args in
     let v = c .before .before .loop in
     let r = v .inv .1 in
     let inside : a .k + v .s < length (v .t) = omega (arith, r .kept) in
-    let word : Negated (a .t .now) (a .a) (v .s) _ =
-    λ i q. not-word (getD (v .t) (a .a + v .s) 0) i q ∙ ap (λ (x : ℕ). not (on x i)) (r .below (a .a + v .s) (omega arith)) in
-    (omega arith, upward (Negated (a .t .now) (a .a)) (a .k) 0 (v .s) (a .k + v .s) _ (a .t .now) (v .t) r (omega arith) inside refl word)
+    let P = Negated (a .t .now) (a .a) in
+    let word : P (v .s) _ =
+    λ i q. not-word (getD (v .t) (a .a + v .s) 0) i q ∙ ap (λ (x : ℕ). not (on x i))
+    (apart-word P (a .k) 0 (v .s) (a .t .now) (v .t) r (a .a) (a .h) (v .s) (omega arith) (omega arith) (start .pre .2)) in
+    (omega arith, upward P (a .k) 0 (v .s) (a .k + v .s) _ (a .t .now) (v .t) r (omega arith) inside refl word)
 
 same-length : tie.Need-same-length Inv-loop μ-loop
 same-length c = c .before .loop .inv .1 .kept

@@ -7,7 +7,7 @@ use Rattle.cltl.specs.Rules.{mix}
 use Rattle.mask.specs.Mask.{on}
 use Rattle.table.specs.Table.{told, Word, Stored}
 use Rattle.table.specs.Straight.{straight}
-use Rattle.table.specs.Storing.{begun, downward}
+use Rattle.table.specs.Storing.{begun, downward, apart-word}
 use borrow.Author.Needs.{needs}
 use native.Mathlib.Omega.{arith}
 use Rattle.table.proofs.until.back.Statement.{statement}
@@ -85,21 +85,23 @@ loop-less c = omega arith
 
 loop-again : tie.Need-loop-again Inv-loop μ-loop
 loop-again c =
-    let a = c .before .before .before .before .before .before .args in
+    let start = c .before .before .before .before .before .before in
+    let a = start .args in
     let v = c .before .before .before .before .loop in
     let r = v .inv .2 in
     let s : ℕ = v .s - 1 in
     let m = c .mix-word in
     let inside : a .k + s < length (v .t) = omega (arith, r .kept) in
-    let word : Straight (a .p) (a .t .now) (a .a) (a .b) (a .to) (a .rest) s (m .result) =
+    let P = Straight (a .p) (a .t .now) (a .a) (a .b) (a .to) (a .rest) in
+    let same = apart-word P (a .k) (v .s) (a .to) (a .t .now) (v .t) r in
+    let word : P s (m .result) =
     one-more (a .p) (a .t .now) (v .t) (a .a) (a .b) (a .to) (a .rest) s (v .v) (m .result) (omega arith)
-    (r .below (a .a + s) (omega arith)) (r .below (a .b + s) (omega arith))
-    (let e : v .s ≡ s + 1 = omega arith in subst (λ (n : ℕ). Straight (a .p) (a .t .now) (a .a) (a .b) (a .to) (a .rest) n (v .v)) e (v .inv .3))
+    (same (a .a) (a .to) s (omega arith) (omega arith) (start .pre .1 .0)) (same (a .b) (a .to) s (omega arith) (omega arith) (start .pre .1 .1))
+    (let e : v .s ≡ s + 1 = omega arith in subst (λ (n : ℕ). P n (v .v)) e (v .inv .3))
     (m .ensures) in (
       omega arith,
       omega arith,
-      downward (Straight (a .p) (a .t .now) (a .a) (a .b) (a .to) (a .rest)) (a .k) (v .s) (a .to) (a .k + s) (m .result) (a .t .now) (v .t) r
-          (v .inv .1) inside (omega arith) (omega arith) word,
+      downward P (a .k) (v .s) (a .to) (a .k + s) (m .result) (a .t .now) (v .t) r (v .inv .1) inside (omega arith) (omega arith) word,
       word,
     )
 
