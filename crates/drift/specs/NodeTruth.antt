@@ -36,9 +36,6 @@ module _ (block : List ℕ) (k : ℕ) (o : Ordered block (k + 1)) where
   pub first-low : 2 ≤ kindAt block k → firstAt block k < k
   first-low p = ⊎-elim (λ q. one-low p q) (λ q. ⊎-elim (λ r. two-low q r .0) count-low (lt-or-le (kindAt block k) 10)) (lt-or-le (kindAt block k) 6)
 
-pub two-or-more : (n : ℕ) → (n ≡ 0 → ⊥) → (n ≡ 1 → ⊥) → 2 ≤ n
-two-or-more n a b = ⊎-elim (λ q. ⊎-elim (λ e. absurd (a (omega arith))) (λ e. absurd (b (omega arith))) (lt-or-le n 1)) (λ q. q) (lt-or-le n 2)
-
 -- the flag of the first operand is the operator's own, but for "not"
 pub under-other : (kind : ℕ) (p : Bool) → (kind ≡ 2 → ⊥) → under (oneOf kind) p ≡ p
 under-other kind p q = rw (ne-eqb kind 2 q) (rest (eqb kind 3) (eqb kind 4))

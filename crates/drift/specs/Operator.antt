@@ -12,6 +12,7 @@ under next₁ p = p
 under ev₁ p = p
 under gl₁ p = p
 
+-- under a flag: a negation is in its operand's flag already; F a is true U a, and G a is !F !a
 module _ (h l : ℕ) (p : Bool) where
   abbrev pub oneRule : Op₁ → (ℕ → Bool) → ℕ → Bool
   oneRule neg₁ f s = f s

@@ -13,7 +13,7 @@ oneOf kind = cond (eqb kind 2) neg₁ (cond (eqb kind 3) next₁ (cond (eqb kind
 abbrev pub twoOf : ℕ → Op₂
 twoOf kind = cond (eqb kind 6) and₂ (cond (eqb kind 7) or₂ (cond (eqb kind 8) until₂ release₂))
 
--- by its kind and the three bytes behind it
+-- by its kind (0 true, 1 a mark, 2 to 5 ! X F G, 6 to 9 & | U R, 10 a count, 11 one by percentage) and the three bytes behind it
 abbrev pub nodeOf : ℕ → ℕ → ℕ → ℕ → Node
 nodeOf kind x y z =
     cond (eqb kind 0) topN
@@ -78,6 +78,6 @@ tree mark count block (suc n) k = formOf mark count (λ i. tree mark count block
 unfoldable pub innerTree : List ℕ → ℕ → ℕ → Inner
 innerTree block n k = tree (λ m. leaf m) (λ i m percent. top) block n k
 
--- a clause has counts and no marks outside them
+-- a clause has counts and no marks outside them; a count's text is looked up deeper than any number of a node
 unfoldable pub clauseTree : List ℕ → ℕ → ℕ → Clause
 clauseTree block n k = tree (λ m. top) (λ i m percent. leaf (counted (innerTree block (length block) i) m percent)) block n k

@@ -23,7 +23,7 @@ module _ (block : List ℕ) (n k : ℕ) where
   abbrev form : Node → Clause
   form x = formOf (λ m. top) (λ i m percent. leaf (counted (innerTree block (length block) i) m percent)) (λ i. clauseTree block n i) x
 
-  looked-up : (x : Node) → nodeAt block k ≡ x → clauseTree block (suc n) k ≡ form x
+  pub looked-up : (x : Node) → nodeAt block k ≡ x → clauseTree block (suc n) k ≡ form x
   unfolding clauseTree tree
   looked-up x e = ap (formOf _ _ _) e
 

@@ -12,19 +12,18 @@ use crate::operators::two_row;
 use crate::operators::under;
 ghost use mathlib.Core.Path.{_≡_};
 ghost use mathlib.Core.Bool.{Bool};
-ghost use Prim.Native.Nat.{ℕ, _+_, _<_, _≤_};
+ghost use Prim.Native.Nat.{ℕ, _≤_};
 ghost use lib.ListN.{length};
 ghost use Rattle.table.specs.Table.{Kept};
-ghost use Rattle.table.specs.Layout.{nodesAt, Constants, Shown};
-ghost use Rattle.quorum.specs.Words.{Bits};
-ghost use Rattle.drift.specs.Tree.{Ordered, kindAt};
-ghost use Rattle.drift.specs.Ground.{InRange};
-ghost use Rattle.drift.specs.Places.{HasRoom};
+ghost use Rattle.table.specs.Layout.{pairsAt, Shown};
+ghost use Rattle.drift.specs.Tree.{kindAt};
+ghost use Rattle.drift.specs.Lent.{Lent, ClauseNodes};
 ghost use Rattle.drift.specs.Answer.{rowsOn, ClauseRow};
 
 // A count's row, or its negation's.
 fn leaf_row(
     nodes: &[u8],
+    needs: &[u8],
     t: &mut [u32],
     w: &mut [u32; 88],
     bits: &[u32; 32],
@@ -32,12 +31,10 @@ fn leaf_row(
     p: bool,
     k: usize,
 ) -> u64
-    requires { ⌜ InRange g × Constants (g .marks) (g .h) (now t) ⌝ }
-    requires { ⌜ Ordered (now nodes) (k + 1) ⌝ }
-    requires { ⌜ (k < 128) × HasRoom (g .marks) (g .h) (now nodes) (k + 1) (length (now t)) ⌝ }
-    requires { ⌜ (length (now w) ≡ 88) × Bits (now bits) ⌝ }
+    requires { ⌜ Lent g (now t) (now w) (now bits) ⌝ }
+    requires { ⌜ ClauseNodes (now nodes) (now needs) k ⌝ }
     requires { ⌜ 10 ≤ kindAt (now nodes) k ⌝ }
-    ensures { λ _. ⌜ Kept (nodesAt (g .marks) (g .h)) (now (t .entry)) (now (t .exit)) × (length (now (w .exit)) ≡ 88) ⌝ }
+    ensures { λ _. ⌜ Kept (pairsAt (g .marks) (g .h)) (now (t .entry)) (now (t .exit)) × (length (now (w .exit)) ≡ 88) ⌝ }
     ensures { λ r. ⌜ ((bears : ℕ → ℕ → ℕ → Bool) → Shown (g .marks) (g .carts) (g .h) bears (now (t .entry))
         → ClauseRow (rowsOn (g .carts) (g .h) (g .l) bears) (g .d) (now (nodes .entry)) p k r) ⌝ }
 {
@@ -45,6 +42,7 @@ fn leaf_row(
     let m = threshold(number_at(nodes, k), percent, g.carts);
     count_row(
         nodes,
+        needs,
         t,
         w,
         bits,
@@ -58,6 +56,7 @@ fn leaf_row(
 // Node k's row with drift d, or its negation's.
 pub fn clause_row(
     nodes: &[u8],
+    needs: &[u8],
     t: &mut [u32],
     w: &mut [u32; 88],
     bits: &[u32; 32],
@@ -65,26 +64,24 @@ pub fn clause_row(
     p: bool,
     k: usize,
 ) -> u64
-    requires { ⌜ InRange g × Constants (g .marks) (g .h) (now t) ⌝ }
-    requires { ⌜ Ordered (now nodes) (k + 1) ⌝ }
-    requires { ⌜ (k < 128) × HasRoom (g .marks) (g .h) (now nodes) (k + 1) (length (now t)) ⌝ }
-    requires { ⌜ (length (now w) ≡ 88) × Bits (now bits) ⌝ }
-    ensures { λ _. ⌜ Kept (nodesAt (g .marks) (g .h)) (now (t .entry)) (now (t .exit)) × (length (now (w .exit)) ≡ 88) ⌝ }
+    requires { ⌜ Lent g (now t) (now w) (now bits) ⌝ }
+    requires { ⌜ ClauseNodes (now nodes) (now needs) k ⌝ }
+    ensures { λ _. ⌜ Kept (pairsAt (g .marks) (g .h)) (now (t .entry)) (now (t .exit)) × (length (now (w .exit)) ≡ 88) ⌝ }
     ensures { λ r. ⌜ ((bears : ℕ → ℕ → ℕ → Bool) → Shown (g .marks) (g .carts) (g .h) bears (now (t .entry))
         → ClauseRow (rowsOn (g .carts) (g .h) (g .l) bears) (g .d) (now (nodes .entry)) p k r) ⌝ }
 {
     let kind = kind_at(nodes, k);
     if 9 < kind {
-        return leaf_row(nodes, t, w, bits, g, p, k);
+        return leaf_row(nodes, needs, t, w, bits, g, p, k);
     }
     if kind < 2 {
         return mask::constant(p, g.h);
     }
     let x = first_at(nodes, k);
-    let a = clause_row(nodes, t, w, bits, g, under(kind, p), x);
+    let a = clause_row(nodes, needs, t, w, bits, g, under(kind, p), x);
     if kind < 6 {
         return one_row(kind, p, a, g.h, g.l);
     }
-    let b = clause_row(nodes, t, w, bits, g, p, second_at(nodes, k));
+    let b = clause_row(nodes, needs, t, w, bits, g, p, second_at(nodes, k));
     two_row(kind, p, a, b, g.h, g.l)
 }

@@ -2,13 +2,15 @@
 mod clauses;
 mod counts;
 mod inner;
+mod needs;
 mod nodes;
 mod operators;
+mod places;
 mod refused;
 mod tables;
 
 pub use clauses::clause_row;
-pub use inner::longest_text;
+pub use needs::fill_needs;
 pub use refused::failing_step;
 pub use refused::has_next;
 

@@ -12,11 +12,9 @@ ghost use Rattle.cltl.specs.Rules.{hasNext};
 ghost use Rattle.cltl.specs.Step.{lowest, failing};
 ghost use Rattle.mask.specs.Mask.{on};
 ghost use Rattle.table.specs.Table.{Kept};
-ghost use Rattle.table.specs.Layout.{nodesAt, Constants, Shown};
-ghost use Rattle.quorum.specs.Words.{Bits};
+ghost use Rattle.table.specs.Layout.{pairsAt, Shown};
 ghost use Rattle.drift.specs.Tree.{Ordered, clauseTree};
-ghost use Rattle.drift.specs.Ground.{InRange};
-ghost use Rattle.drift.specs.Places.{HasRoom};
+ghost use Rattle.drift.specs.Lent.{Lent, ClauseNodes};
 ghost use Rattle.drift.specs.Answer.{rowsOn};
 
 // Whether "next" stands outside the counts of node k's clause.
@@ -59,22 +57,21 @@ fn lowest_off(a: u64, h: usize) -> usize
 // The step at which node k's clause fails, if it does.
 pub fn failing_step(
     nodes: &[u8],
+    needs: &[u8],
     t: &mut [u32],
     w: &mut [u32; 88],
     bits: &[u32; 32],
     g: Ground,
     k: usize,
 ) -> usize
-    requires { ⌜ InRange g × Constants (g .marks) (g .h) (now t) ⌝ }
-    requires { ⌜ Ordered (now nodes) (k + 1) ⌝ }
-    requires { ⌜ (k < 128) × HasRoom (g .marks) (g .h) (now nodes) (k + 1) (length (now t)) ⌝ }
-    requires { ⌜ (length (now w) ≡ 88) × Bits (now bits) ⌝ }
-    ensures { λ _. ⌜ Kept (nodesAt (g .marks) (g .h)) (now (t .entry)) (now (t .exit)) × (length (now (w .exit)) ≡ 88) ⌝ }
+    requires { ⌜ Lent g (now t) (now w) (now bits) ⌝ }
+    requires { ⌜ ClauseNodes (now nodes) (now needs) k ⌝ }
+    ensures { λ _. ⌜ Kept (pairsAt (g .marks) (g .h)) (now (t .entry)) (now (t .exit)) × (length (now (w .exit)) ≡ 88) ⌝ }
     ensures { λ r. ⌜ ((bears : ℕ → ℕ → ℕ → Bool) → Shown (g .marks) (g .carts) (g .h) bears (now (t .entry)) → (n : ℕ) → k < n
         → r ≡ failing (rowsOn (g .carts) (g .h) (g .l) bears) (g .d) (clauseTree (now (nodes .entry)) n k)) × (r ≤ 64) ⌝ }
 {
     if kind_at(nodes, k) == 5 {
-        let body = clause_row(nodes, t, w, bits, g, true, first_at(nodes, k));
+        let body = clause_row(nodes, needs, t, w, bits, g, true, first_at(nodes, k));
         lowest_off(body, g.h)
     } else {
         0

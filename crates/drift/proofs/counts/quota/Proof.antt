@@ -4,25 +4,20 @@ use borrow.Author.Needs.{needs}
 use Rattle.drift.proofs.counts.quota.Statement.{statement}
 use Rattle.drift.proofs.counts.quota.Tie as tie
 
--- src/counts.rt:26:9
 returns : tie.Need-returns
 unfolding quota
 returns c = rw (c .if1 .taken)
 
--- src/counts.rt:28:21
 add-result : tie.Need-add-result
 add-result c = search needs
 
--- src/counts.rt:28:21
 sub-result : tie.Need-sub-result
 sub-result c = search needs
 
--- src/counts.rt:21:1
 returns-2 : tie.Need-returns-2
 unfolding quota
 returns-2 c = rw (c .before .if1 .left) (omega arith)
 
--- src/counts.rt:21:1
 returns-3 : tie.Need-returns-3
 unfolding quota
 returns-3 c = rw (c .before .if1 .left) (omega arith)

@@ -10,20 +10,16 @@ use Rattle.drift.proofs.counts.threshold.Lts as lts
 small : (c : lts.Then1 reads.Pre reads.Post) → c .before .args .number * c .before .args .size ≤ 65535 * 32
 small c = mul-le-mul {n₁ = c .before .args .number} {m₁ = c .before .args .size} {n₂ = 65535} {m₂ = 32} (omega arith) (omega arith)
 
--- src/counts.rt:17:19
 mul-result : tie.Need-mul-result
 mul-result c = let m = small c in omega arith
 
--- src/counts.rt:17:19
 add-result : tie.Need-add-result
 add-result c = let m = small c in omega arith
 
--- src/counts.rt:13:1
 returns : tie.Need-returns
 unfolding threshold
 returns c = rw (c .if1 .taken) (omega arith)
 
--- src/counts.rt:13:1
 returns-2 : tie.Need-returns-2
 unfolding threshold
 returns-2 c = rw (c .if1 .left)

@@ -1,0 +1,47 @@
+-- How many pairs of places inner text needs while it is judged.
+use Prim.Native.Nat.{ℕ, suc, _<_, _≤_, max}
+use mathlib.Core.Path.{_≡_}
+use mathlib.Core.Bool.{cond}
+use mathlib.Core.List.{List}
+use lib.Dec.{eqb}
+use lib.ListN.{getD, length}
+use Rattle.grammar.specs.Grammar.{Form, top, leaf, neg, and, or, next, until, release, ev, gl}
+use Rattle.grammar.specs.Limits.{nodes, countNodes}
+use Rattle.grammar.specs.Nodes.{Node, topN, markN, countN, oneN, twoN}
+use Rattle.drift.specs.Tree.{innerTree, clauseTree}
+
+-- Places for tables come in pairs: an operator's table is made in the place of a pair that its operand's is not in. Of two operands the one that needs
+-- more pairs goes first; its table keeps one pair in use while the other operand is judged in the pairs behind. So only where both need the same is it one
+-- pair more.
+abbrev pub more : ℕ → ℕ → ℕ
+more a b = cond (eqb a b) (suc a) (max a b)
+
+-- the pairs that a text needs: a leaf's table is there already
+unfoldable pub need : {L : Type 0} → Form L → ℕ
+need top = 0
+need (leaf x) = 0
+need (neg a) = max 1 (need a)
+need (and a b) = more (need a) (need b)
+need (or a b) = more (need a) (need b)
+need (next a) = max 1 (need a)
+need (until a b) = more (need a) (need b)
+need (release a b) = more (need a) (need b)
+need (ev a) = max 1 (need a)
+need (gl a) = max 1 (need a)
+
+-- the same of a node, by the needs of its operands
+abbrev pub needNode : List ℕ → Node → ℕ
+needNode needs topN = 0
+needNode needs (markN m) = 0
+needNode needs (countN i m percent) = 0
+needNode needs (oneN o i) = max 1 (getD needs i 0)
+needNode needs (twoN o i j) = more (getD needs i 0) (getD needs j 0)
+
+-- the needs of n nodes, one byte to each, however deep their trees are looked up
+pub record Needs (block needs : List ℕ) (n : ℕ) : Type 0 where
+  pub room : n ≤ length needs
+  pub each : (k m : ℕ) → k < n → k < m → getD needs k 0 ≡ need (innerTree block m k)
+
+-- node k's clause has at most the 128 nodes that a sheet's clause may have
+abbrev pub Small : List ℕ → ℕ → Type 0
+Small block k = (n : ℕ) → k < n → nodes countNodes (clauseTree block n k) ≤ 128
