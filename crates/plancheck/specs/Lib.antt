@@ -16,7 +16,5 @@ pub mod ShownClause
 pub mod Lines
 pub mod LineHeld
 pub mod Turns
-pub mod Standing
-pub mod Room
 pub mod Marked
 pub mod NodesHeld

@@ -1,11 +1,12 @@
 -- The clauses in one pass: what was found so far, and what is still to be said.
-use Prim.Native.Nat.{ℕ, suc, _+_, _/_, _%_, _^_, _<_}
+use Prim.Native.Nat.{ℕ, suc, _+_, _/_, _%_, _^_, _≤_, _<_}
 use native.Mathlib.Omega.{arith}
 use native.Mathlib.Numerals.{add-one}
 use mathlib.Core.Path.{_≡_, refl, sym, ap, ap₂, _∙_}
 use mathlib.Core.Bool.{Bool, true, false, cond}
 use mathlib.Core.List.{List, _∷_}
 use lib.Dec.{eqb}
+use lib.ListN.{length}
 use borrow.Author.Tests.{eq-eqb, ne-eqb}
 use Rattle.refusal.specs.Codes.{refused}
 use Rattle.refusal.specs.Stages.{isAccepted, andThen}
@@ -22,8 +23,6 @@ use Rattle.cltl.specs.Step.{failing}
 use Rattle.mask.specs.Mask.{on, Row}
 use Rattle.plancheck.specs.Check.{clauseVerdict, clausesOf, nextVerdict, keptVerdict, clausesVerdict}
 use Rattle.plancheck.specs.Lines.{Left, Line, all-left, none-left}
-use lib.ListN.{length}
-use Prim.Native.Nat.{_≤_}
 
 module _ (P : Rows) (d : ℕ) where
   module _ (n : ℕ) (c : Clause) (r : ℕ) (some : 0 < P .h) (row : Row (P .h) r (rules P d c)) where
@@ -44,6 +43,7 @@ module _ (P : Rows) (d : ℕ) where
   abbrev pub seen : Verdict → ℕ → List Clause → Verdict
   seen found n cs = andThen (cond (eqb d 0) Accepted (nextVerdict n cs)) (andThen found (keptVerdict P d n cs))
 
+  -- from an offset on: the clauses that are left, and that the verdict is theirs and what was found
   pub record Going (s : List ℕ) (at n : ℕ) (found : Verdict) : Type 0 where
     pub rest : List Clause
     pub left : Left s at n rest
@@ -103,7 +103,8 @@ module _ (P : Rows) (d : ℕ) where
           alone false = refl
       seventeen false e b = rw (e, e)
 
-  module _ (s before : List ℕ) (r : PartRead) (block : List ℕ) (at n : ℕ) (found : Verdict) (g : Going s at n found) (l : Line s before r block n (g .rest)) where
+  module _ (s before : List ℕ) (r : PartRead) (block : List ℕ) (at n : ℕ) (found : Verdict) (g : Going s at n found)
+      (l : Line s before r block n (g .rest)) where
     pub going-16 : true ≡ cond (eqb d 0) false (hasNext (l .clause)) → AboutRules (refused 16 n 0) ≡ clausesVerdict P d (clausesOf (readSheet s))
     going-16 e = stops-16 found n (l .clause) (l .rest) e ∙ ap (seen found n) (sym (l .first)) ∙ g .same
 
@@ -115,12 +116,3 @@ module _ (P : Rows) (d : ℕ) where
       same =
           ap (λ (f : Verdict). seen f (n + 1) (l .rest)) q ∙ sym (goes-on-to found n (l .clause) (l .rest) e) ∙ ap (seen found n) (sym (l .first)) ∙ g .same;
     }
-
-  -- before the first clause, by the numbers that say so
-  pub going-first : (s : List ℕ) → rulesVerdict s ≡ Accepted → (at n : ℕ) (found : Verdict) → found ≡ Accepted → at ≡ 0 → n ≡ 0 → Going s at n found
-  going-first s e at n found f a z = rw (f, a, z) (going-start s e)
-
-  -- the same by other names of the numbers
-  pub going-as : (s : List ℕ) (at n : ℕ) (found : Verdict) (at′ n′ : ℕ) (found′ : Verdict) → found′ ≡ found → at′ ≡ at → n′ ≡ n → Going s at n found
-      → Going s at′ n′ found′
-  going-as s at n found at′ n′ found′ f a z g = rw (f, a, z) g
