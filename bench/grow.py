@@ -1,7 +1,8 @@
 #!/usr/bin/env python3
-"""Writes accepted inputs to the folder given as argument: ones that grow in one dimension each, from a full load down, and ones with and
-without narrow places."""
+"""Writes accepted inputs to the folder given as argument: ones that grow in one dimension each, from a full load down, ones with and
+without narrow places, and ones that lead deep into a clause. Run from the repository's root."""
 import pathlib
+import shutil
 import sys
 
 BASE = {"steps": 64, "drift": 16, "carts": 32, "nodes": 128, "clauses": 32, "lanes": 1024}
@@ -86,7 +87,23 @@ def write_narrow(folder, narrow, place):
     (folder / "rules").write_text("[m0,0]\n")
 
 
+# For the most stack: 30 negations of a chain of & with 49 operands, which is 79 nodes deep. A chain is no level of nesting, so the 32 levels of the
+# reader do not bound how deep judging goes.
+CHAIN = "!" * 30 + "(" + "&".join(["true"] * 49) + ")"
+CHAINS = {"chain": CHAIN, "chain_inside": f"[{CHAIN},0]"}
+
+
+def write_chain(folder, clause):
+    """With the floor and plan of c."""
+    folder.mkdir(parents=True, exist_ok=True)
+    for file in ("floor", "plan"):
+        shutil.copy(pathlib.Path("bench/inputs/c") / file, folder / file)
+    (folder / "rules").write_text(clause + "\n")
+
+
 def main():
+    for name, clause in CHAINS.items():
+        write_chain(pathlib.Path(sys.argv[1]) / name, clause)
     for name, (narrow, place) in NARROW.items():
         write_narrow(pathlib.Path(sys.argv[1]) / name, narrow, place)
     for name, sizes in SIZES.items():
