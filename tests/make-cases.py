@@ -899,8 +899,18 @@ PERCENTAGES = [
     share("the third clause of three", 5, 2, "X [m1,49%]\n[m1,9%]\nX [m1,50%]", "2 0"),
 ]
 
-# Truth by step. The tables of a check lie in one block, whose size is chosen by the floor's marks, the plan's steps and the sheet's length; where
-# the text of a count has no room in it, its clause and all behind it are judged with a full one. No verdict may hang on that.
+# Truth by step. The tables of a check lie in one block: those of the marks, of all, of none, and six pairs of places in which the texts of counts are
+# judged. Floor and plan say which of three blocks it is; of two operands the one that needs more pairs goes first. No verdict may hang on that.
+
+
+def words(marks, h):
+    """The words of the tables."""
+    return (marks + 2 + 2 * 6) * h
+
+
+def block(marks, h):
+    """The words of the block."""
+    return min(room for room in (500, 1000, 2944) if words(marks, h) <= room)
 
 
 def meeting(h, l=0, d=0):
@@ -927,28 +937,13 @@ def broken(size):
     return f"G [{text('m0', size)},1]"
 
 
-def guess(rules):
-    """How many nodes the text of a count is taken to have before the sheet is read again."""
-    return min(30, len(rules) // 64 + 8)
-
-
-def words(marks, h, nodes):
-    """The words that the tables take: those of the marks, of all, of none and of so many nodes."""
-    return (marks + 2 + nodes) * h
-
-
-def begins_with(marks, h, rules):
-    """The words of the block that a check begins with."""
-    return min(room for room in (500, 1000, 4096) if words(marks, h, guess(rules)) <= room)
-
-
 def rules_verdict(verdict):
     return verdict if verdict == "accepted" else "refused rules " + verdict
 
 
-def switching(room, h, most):
-    """Checks with a small block of so many words, in which the texts of counts have room for so many nodes, an even number, and for no more."""
-    large, false = kept(most + 2), broken(most + 1)
+def large_texts(room, h, size):
+    """Checks in a block of so many words: clauses with a text of so many nodes, an even number, or one less, among small ones."""
+    large, false = kept(size), broken(size - 1)
     sheets = [
         ("the one clause", 0, (large,), "accepted"),
         ("the first clause", 0, (large, KEPT, KEPT), "accepted"),
@@ -977,23 +972,14 @@ def switching(room, h, most):
         ("16 before it and behind it", 1, (AHEAD, large, AHEAD), "16 0 0"),
         ("no 16 behind it with d 0", 0, (large, AHEAD), "accepted"),
     ]
-    assert words(2, h, most) <= room < words(2, h, most + 1)
+    assert block(2, h) == room
     for name, d, clauses, verdict in sheets:
-        yield f"beyond {room} words: {name}", FLOOR, meeting(h, h // 2, d), at_first(room, h, clauses), rules_verdict(verdict)
+        yield f"{room} words, a large text: {name}", FLOOR, meeting(h, h // 2, d), sheet(*clauses), rules_verdict(verdict)
 
 
-def at_first(room, h, clauses):
-    """These clauses as a sheet that begins with so many words; for 4,096 with spaces in front, where it is too short."""
-    rules = sheet(*clauses)
-    if room == 4096:
-        rules = b" " * (256 - len(rules)) + rules
-    assert begins_with(2, h, rules) == room
-    return rules
-
-
-def staying(room, h, most):
-    """Checks with a small block of so many words, in which clauses have more nodes than it has room for, but no text of a count has."""
-    wide, false = f"{kept(most)} & {kept(most)}", f"G ([{text('m0', most - 1)},1] & {kept(most)})"
+def large_clauses(room, h, size):
+    """Checks in a block of so many words: clauses with two texts of so many nodes, an even number, or with no count."""
+    wide, false = f"{kept(size)} & {kept(size)}", f"G ([{text('m0', size - 1)},1] & {kept(size)})"
     long = " & ".join(["true"] * 64)
     sheets = [
         ("one clause", 0, (wide,), "accepted"),
@@ -1004,64 +990,320 @@ def staying(room, h, most):
         ("17 behind it", 0, (wide, BROKEN), f"17 1 {h - 1}"),
         ("17 behind it, d 16", 16, (wide, BROKEN), f"17 1 {h - 2}"),
         ("16 behind it", 1, (wide, AHEAD), "16 1 0"),
-        ("one, and then one beyond", 0, (wide, kept(most + 2), BROKEN), f"17 2 {h - 1}"),
+        ("one, and then a larger text", 0, (wide, kept(size + 2), BROKEN), f"17 2 {h - 1}"),
     ]
-    assert words(2, h, most) <= room < words(2, h, 2 * most + 3)
+    assert block(2, h) == room
     for name, d, clauses, verdict in sheets:
-        yield f"{room} words do: {name}", FLOOR, meeting(h, h // 2, d), at_first(room, h, clauses), rules_verdict(verdict)
+        yield f"{room} words, two texts: {name}", FLOOR, meeting(h, h // 2, d), sheet(*clauses), rules_verdict(verdict)
 
 
-def limit(need, h, length, size, marks=2):
-    """A check that needs so many words at first, by a sheet of so many bytes, spaces first: texts of so many nodes, in a clause that is kept and in one
-    that is not."""
+def sized(h, size, marks=2):
+    """Texts of so many nodes, in a clause that is kept and in one that is not."""
     even = size % 2 == 0
     rules = sheet(kept(size), f"G [{text('X m0', size)},1]") if even else sheet(f"[{text('m0', size)},2]", broken(size))
-    rules = b" " * (length - len(rules)) + rules
-    assert len(rules) == length and words(marks, h, guess(rules)) == need
     floor = place(1 << 0) + place(1 << 1 | 1 << marks - 1) + LANES + CARTS
-    return f"{need} words needed: h {h}, texts of {size} nodes, {marks} marks", floor, meeting(h), rules, f"refused rules 17 1 {h - 1 - even}"
+    return f"texts of {size} nodes: h {h}, {marks} marks", floor, meeting(h), rules, f"refused rules 17 1 {h - 1 - even}"
 
 
-# As CHECKS. No floor, plan and sheet need 501 to 503 words at first, 1,001 or 1,002, nor more than 4,096.
+# As CHECKS.
 BLOCKS = [
-    *switching(500, 25, 16),
-    *switching(1000, 50, 16),
-    *switching(4096, 64, 60),
-    *staying(500, 25, 16),
-    *staying(1000, 50, 16),
-    *staying(4096, 64, 60),
-    limit(494, 38, 127, 9),
-    limit(494, 38, 127, 10),
-    limit(500, 25, 575, 16),
-    limit(500, 25, 575, 17),
-    limit(504, 36, 191, 9),
-    limit(504, 36, 191, 10),
-    limit(525, 25, 576, 16),
-    limit(525, 25, 576, 36),
-    limit(525, 25, 576, 37),
-    limit(1000, 50, 575, 16),
-    limit(1000, 50, 575, 17),
-    limit(1003, 59, 320, 12),
-    limit(1003, 59, 320, 13),
-    limit(1003, 59, 320, 65),
-    limit(1003, 59, 320, 66),
-    limit(1050, 50, 576, 16),
-    limit(1050, 50, 576, 77),
-    limit(1050, 50, 576, 78),
-    limit(2176, 64, 1408, 60),
-    limit(2176, 64, 1408, 61),
-    limit(500, 10, 575, 16, 32),
-    limit(500, 10, 575, 17, 32),
-    limit(510, 10, 576, 66, 32),
-    limit(510, 10, 576, 67, 32),
-    limit(1000, 20, 575, 16, 32),
-    limit(1000, 20, 575, 17, 32),
-    limit(1020, 20, 576, 126, 32),
-    limit(4032, 64, 1407, 29, 32),
-    limit(4032, 64, 1407, 30, 32),
-    limit(4096, 64, 1408, 30, 32),
-    limit(4096, 64, 1408, 31, 32),
-    limit(4096, 64, 1408, 126, 32),
+    *large_texts(500, 25, 18),
+    *large_texts(1000, 50, 18),
+    *large_texts(2944, 64, 62),
+    *large_clauses(500, 25, 16),
+    *large_clauses(1000, 50, 16),
+    *large_clauses(2944, 64, 60),
+    *[sized(h, size) for h, sizes in [(25, (16, 17, 36, 37)), (36, (9, 10)), (38, (9, 10))] for size in sizes],
+    *[sized(h, size) for h, sizes in [(50, (16, 17, 77, 78)), (59, (12, 13, 65, 66)), (64, (60, 61))] for size in sizes],
+    *[sized(h, size, 32) for h, sizes in [(10, (16, 17, 66, 67)), (20, (16, 17, 126)), (64, (29, 30, 31, 126))] for size in sizes],
+]
+
+# Texts by their shape: a leaf, or the shapes of one operand or of two.
+LEAF = ()
+ONE_LEAF = (LEAF,)
+
+
+def leaves(shape):
+    return sum(map(leaves, shape)) if shape else 1
+
+
+def nodes(shape):
+    return 1 + sum(map(nodes, shape))
+
+
+def need(shape):
+    """How many pairs a text of this shape needs."""
+    needs = sorted(map(need, shape))
+    if not needs:
+        return 0
+    return max(1, needs[-1]) if len(needs) == 1 else needs[1] + (needs[0] == needs[1])
+
+
+def balanced(n, leaf=LEAF):
+    """The least shape of this leaf and of operators with two operands that needs n pairs."""
+    return leaf if need(leaf) == n else (balanced(n - 1, leaf),) * 2
+
+
+def leaning(n, leaf, to_left):
+    """A shape of at most 126 nodes that needs n pairs by its first part, with parts beside it that need fewer and fewer."""
+    shape = balanced(n, leaf)
+    for fewer in range(n - 1, need(leaf) - 1, -1):
+        beside = balanced(fewer, leaf)
+        if nodes(shape) + nodes(beside) < 126:
+            shape = (shape, beside) if to_left else (beside, shape)
+    return shape
+
+
+def step_of(k, count, h=64):
+    """The step at which the first cart of `passing` comes to place k."""
+    return k * h // count
+
+
+def names(count, marks=32):
+    """The marks of places 0 to count - 1, each its own; the last place bears the highest one."""
+    return [f"m{k}" for k in range(count - 1)] + [f"m{marks - 1}" if marks else "true"]
+
+
+def passing(count, marks=32, h=64, d=0):
+    """A floor and a plan: carts go through so many places and stay on the last one, the second cart a step behind the first."""
+    own = [1 << k for k in range(count - 1)] + [1 << marks >> 1]
+    lanes = b"".join(lane(k, k) + lane(k, min(k + 1, count - 1)) for k in range(count))
+    places = [max(k for k in range(count) if step_of(k, count, h) <= s) for s in range(h)]
+    return b"".join(map(place, own)) + lanes + CARTS, head(h, h - 1, d) + row(*places) + row(*[0, *places][:h])
+
+
+def over(shape, marks, operators, one="", wrong=None):
+    """A text of this shape over these places' marks, the operators in turn from level to level, before each leaf the operator with one operand.
+
+    By | and U it is true while a cart is on these places: a U b is, where b's places follow a's. With X before each mark that is a step earlier; with F it
+    is true up to the last of them. By & and R, with ! before each mark, it is true elsewhere. A place's text beside itself is that text. An operator over
+    the marks `wrong` is U with its operands exchanged, which is true on the places of the first half alone.
+    """
+    if len(shape) < 2:
+        return one * len(shape) + marks[0]
+    cut = max(1, len(marks) * leaves(shape[0]) // leaves(shape))
+    parts = (marks[:cut], marks[cut:]) if marks[1:] else (marks, marks)
+    turned = operators[1:] + operators[:1]
+    a, b = (over(part, its, turned, one, wrong) for part, its in zip(shape, parts))
+    return f"({b}U{a})" if marks == wrong else f"({a}{operators[0]}{b})"
+
+
+# What stands before each mark, and the operators in turn.
+BARE_MARKS, UNDER_ONE = [("", "|U")], [("X", "U|"), ("!", "&R"), ("F", "|U"), ("!", "R&")]
+
+
+def held(shape, marks, one, operators):
+    """A clause that is true as long as carts are on these places."""
+    return ("G ![%s,1]" if one == "!" else "G [%s,2]") % over(shape, marks, operators, one)
+
+
+def by_need():
+    """Texts of every need, balanced and leaning to each side: over all places in one sheet, and over all but the last, which is told by its step."""
+    for leaf, kinds in (LEAF, BARE_MARKS), (ONE_LEAF, UNDER_ONE):
+        for n in range(need(leaf), 6 + need(leaf)):
+            ways = {balanced(n, leaf): "balanced"}
+            ways.setdefault(leaning(n, leaf, True), "to the left")
+            ways.setdefault(leaning(n, leaf, False), "to the right")
+            assert all(need(shape) == n for shape in ways)
+            count = min(32, leaves(balanced(n, leaf)))
+            clauses = [held(shape, names(count), *kind) for shape in ways for kind in kinds]
+            yield f"{n} pairs over {'marks' if leaf == LEAF else 'operators'}", *passing(count, d=16), sheet(*clauses), "accepted"
+            for k, (shape, way) in enumerate(ways.items()):
+                one, operators = kinds[(n + k) % len(kinds)]
+                count = min(31, leaves(shape))
+                rules = sheet(held(shape, names(count + 1)[:count], one, operators))
+                step = step_of(count, count + 1) - (one == "X")
+                yield f"{n} pairs, {way}: {one}m by {operators}", *passing(count + 1), rules, f"refused rules 17 0 {step}"
+
+
+# 64 leaves in 127 nodes, which need six pairs, in a clause of 128: 32 under each operand of U or R, which look at all steps. The halves: on one place or
+# another, always; on the last place; on two places at once, never.
+HALF = balanced(5)
+ON, OTHERWISE_ON, AT_LAST = over(HALF, names(32), "|U"), over(HALF, names(32), "U|"), over(HALF, names(32)[31:], "&|UR")
+NOWHERE = over(HALF, names(32), "||||&")
+assert nodes((HALF, HALF)) == 127 and leaves((HALF, HALF)) == 64 and need((HALF, HALF)) == 6
+
+
+def six(name, clause, verdict, d=0):
+    return f"64 leaves: {name}", *passing(32, d=d), sheet(clause), rules_verdict(verdict)
+
+
+def exchanged(first, end):
+    """One U in it has its operands exchanged, so that its later places are missing."""
+    marks = names(32)
+    text = f"{NOWHERE}R{over(HALF, marks, '|', wrong=marks[first:end])}"
+    return six(f"U over places {first} to {end - 1} exchanged", f"[{text},1]", "17 0 0")
+
+
+SIX_PAIRS = [
+    six("on one place or another", f"[{NOWHERE}R{ON},2]", "accepted"),
+    six("on one place or another, d 16", f"[{NOWHERE}R{OTHERWISE_ON},2]", "accepted", 16),
+    six("on them up to the last", f"[{ON}U{AT_LAST},2]", "accepted"),
+    six("on them up to the last, d 16", f"[{OTHERWISE_ON}U{AT_LAST},2]", "accepted", 16),
+    six("U of what holds at once", f"[{NOWHERE}U{ON},2]", "accepted"),
+    six("on two places at once, or one", f"[{NOWHERE}|{ON},2]", "accepted"),
+    six("U of what never holds", f"[{ON}U{NOWHERE},1]", "17 0 0"),
+    six("U of what never holds, d 16", f"[{OTHERWISE_ON}U{NOWHERE},1]", "17 0 0", 16),
+    six("R of what never holds", f"[{ON}R{NOWHERE},1]", "17 0 0"),
+    six("R of what holds at last", f"[{OTHERWISE_ON}R{AT_LAST},1]", "17 0 0"),
+    six("R by what never holds", f"[{NOWHERE}R{AT_LAST},1]", "17 0 0"),
+    six("never and always", f"[{NOWHERE}&{ON},1]", "17 0 0"),
+    six("always and never", f"[{ON}&{NOWHERE},1]", "17 0 0"),
+    *[exchanged(first, end) for first, end in [(0, 32), (0, 16), (16, 32), (8, 16), (0, 2), (14, 16), (16, 18), (30, 32)]],
+]
+
+
+def always(n):
+    """A text that needs n pairs and is true on the plans of `meeting`."""
+    return ("true", "(m0|m1)")[n] if n < 2 else over(balanced(n, ONE_LEAF), ["m0", "m1"], "|U", "X")
+
+
+def never(n):
+    """A text that needs n pairs and is false on them."""
+    return ("m2", "(m0&m1)")[n] if n < 2 else over(balanced(n, ONE_LEAF), ["m0", "m1"], "&R", "!")
+
+
+def told_apart(a, b):
+    """True clauses with U and R of a text that needs a pairs and one that needs b; each would be false with its operands exchanged."""
+    return [f"G [{never(a)}U{always(b)},2]", f"G [{never(a)}R{always(b)},2]", f"G ![{always(a)}U{never(b)},1]", f"G ![{always(a)}R{never(b)},1]"]
+
+
+def two_operands():
+    """U and R of texts that need so many pairs, the left one and the right one. The false ones would be true with their operands exchanged."""
+    pairs = [(a, b) for a in range(7) for b in range(7) if max(a, b) < 6 or min(a, b) < 5]
+    for way, some in [("left", [(a, b) for a, b in pairs if a > b]), ("right", [(a, b) for a, b in pairs if a < b]),
+                      ("neither", [(a, b) for a, b in pairs if a == b])]:
+        for k, h in zip(range(0, len(some), 8), (25, 50, 64)):
+            clauses = [clause for a, b in some[k : k + 8] for clause in told_apart(a, b)]
+            yield f"{way} needs more, sheet {k // 8}", FLOOR, meeting(h, h - 1, 16), sheet(*clauses), "accepted"
+    for a, b in [(0, 0), (1, 0), (0, 1), (1, 1), (2, 1), (1, 2), (3, 1), (1, 3), (4, 4), (5, 4), (4, 5), (6, 0), (0, 6), (6, 4), (4, 6)]:
+        for k, operator in enumerate("UR"):
+            h = (25, 50, 64)[(a + k) % 3]
+            rules = sheet(told_apart(a, b)[k], f"F [{always(a)}{operator}{never(b)},1]")
+            yield f"{a} pairs {operator} {b} pairs", FLOOR, meeting(h, h - 1, 16 * (b % 2)), rules, "refused rules 17 1 0"
+
+
+def ahead(k, wrong=0):
+    """A text of k times X: on `passing(32)` the first cart is there at step k, or on the place before."""
+    return "X" * k + f"m{k // 2 + wrong}"
+
+
+def again(k):
+    """A text: after k steps on the same mark."""
+    return f"(m0&{'X' * k} m0|m1&{'X' * k} m1)"
+
+
+def chained(name, clauses, verdict="accepted", d=0):
+    return f"a chain: {name}", *passing(32, d=d), sheet(*clauses), rules_verdict(verdict)
+
+
+# Operators with one operand, one upon the other, in the two places of a pair in turn: at most 31 within a count.
+CHAINS = [
+    chained("X", [f"[{ahead(k)},1]" for k in range(32)]),
+    chained("X, none a place further", [f"![{ahead(k, 1)},1]" for k in range(31)]),
+    *[chained(f"{k} times X, a place further", [f"[{ahead(k)},1]", f"[{ahead(k, 1)},1]"], "17 1 0") for k in (1, 2, 3, 30, 31)],
+    chained("!", [("![%sm0,1]" if k % 2 else "[%sm0,2]") % ("!" * k) for k in range(31)]),
+    *[chained(f"{k} times !", [f"[{'!' * k}m{k % 2 ^ 1},2]"], "17 0 0") for k in (1, 2, 30, 31)],
+    chained("F and G in turn", [f"G [{both * k} m31,2]" for both in ("FG", "GF") for k in range(1, 16)], d=16),
+    chained("F and G in turn, false", ["[" + "GF" * 15 + " m31,2]", "[" + "GF" * 15 + " m0,1]"], "17 1 0"),
+    chained("! F ! is G", [clause for k in (1, 2, 10) for clause in [f"![{'!F!' * k} m0,1]", f"F [{'!F!' * k} m31,2]"]]),
+    chained("! F ! is G, false", ["[" + "!F!" * 10 + " m0,1]"], "17 0 0"),
+    chained("! X in turn", [f"[{'!X' * k} m{k // 2},1]" for k in (2, 4, 14)] + [f"![{'!X' * k} m{k // 2},1]" for k in (1, 3, 15)]),
+    *[chained(f"& of {a} times X and others", [clause for b in (1, 2, 3, 29, 30) for clause in
+                                               [f"[{ahead(a)}&{ahead(b)},1]", *[f"![{ahead(a, i)}&{ahead(b, 1 - i)},1]" for i in (0, 1)]]])
+      for a in (1, 2, 3, 29, 30)],
+    *[chained(f"| of {a} and {b} times X", [*[f"[{ahead(a, i)}|{ahead(b, 1 - i)},1]" for i in (0, 1)], f"[{ahead(a, 1)}|{ahead(b, 1)},1]"], "17 2 0")
+      for a, b in [(1, 1), (1, 2), (2, 1), (2, 2), (31, 31)]],
+    ("a chain: X round a lap of four steps", FLOOR, PLAN, sheet(*[f"G [{again(k)},2]" for k in range(4, 32, 4)]), "accepted"),
+    ("a chain: X round a lap of two steps", FLOOR, drifting(0, 2), sheet(*[f"[XX{again(k)},2]" for k in range(2, 26, 2)]), "accepted"),
+    ("a chain: X half round a lap", FLOOR, PLAN, sheet(*[f"G [{again(k)},2]" for k in (28, 26)]), "refused rules 17 1 0"),
+    chained("30 times ! over 49 leaves", ["[" + "!" * 30 + "(" + "&".join(["true"] * 49) + "),2]", "[" + "!" * 29 + "(" + "&".join(["true"] * 49) + "),1]"],
+            "17 1 0"),
+    chained("30 times ! over 49 leaves, no count", ["!" * 30 + "(" + "&".join(["true"] * 49) + ")", "!" * 29 + "(" + "&".join(["true"] * 49) + ")"], "17 1 0"),
+]
+
+
+def counted(name, clauses, verdict="accepted", d=0):
+    return f"counts: {name}", *passing(16, d=d), sheet(*clauses), rules_verdict(verdict)
+
+
+# A count behind a count, in the same places. On 16 places the first cart stays four steps on each.
+ALL_16, NONE_16 = over(balanced(5, ONE_LEAF), names(16), "|U", "X"), over(balanced(5, ONE_LEAF), names(16), "&R", "!")
+MOST_16 = over(balanced(5, ONE_LEAF), names(16)[:15], "|U", "F")
+COUNTS = [
+    counted("on one place or another", ["G (" + "|".join(f"[{mark},1]" for mark in names(16)) + ")"]),
+    counted("on one place or another, but for the last", ["G (" + "|".join(f"[{mark},1]" for mark in names(16)[:15]) + ")"], "17 0 61"),
+    counted("one place after the other", ["U".join(f"[{mark},1]" for mark in names(16))]),
+    counted("two large texts", [f"G ([{ALL_16},2] & ![{NONE_16},1])", f"G (![{NONE_16},1] & [{ALL_16},2])"], d=16),
+    counted("a large text and a small one", [f"G [{ALL_16},2] & [m0,2]", f"[m0,2] & G [{ALL_16},2]"], d=3),
+    counted("a large text and a small one that is false", [f"G ([{ALL_16},2] & [m0,2])"], "17 0 4"),
+    counted("a small one that is false and a large text", [f"G ([m0,2] & [{ALL_16},2])"], "17 0 4"),
+    counted("a large text that is false and a small one", [f"F ([{NONE_16},1] & [true,2])"], "17 0 0"),
+    counted("a small one and a large text that is false", [f"F ([true,2] & [{NONE_16},1])"], "17 0 0"),
+    counted("one large text until another", [f"[{MOST_16},2] U [!{MOST_16},1]", f"G ([{MOST_16},2] | [!{MOST_16},1])"]),
+    counted("one large text until another, d 16", [f"G ([{MOST_16},2] | [!{MOST_16},1])"], "17 0 44", 16),
+    counted("the same text twice, one negated", [f"G ([{MOST_16},2] & ![!{MOST_16},1])"], "17 0 60"),
+    counted("two clauses of large texts", [f"G [{ALL_16},2]", f"G ![{NONE_16},1]", f"G [{MOST_16},1]"], "17 2 61"),
+]
+
+
+def limit(taken, marks, h):
+    """A check whose tables take so many words: texts that need six pairs, in a clause that is kept and in one that is not."""
+    assert words(marks, h) == taken
+    n, shape = max(1, min(32, marks, h // 2)), balanced(6, ONE_LEAF)
+    kept = held(shape, names(n, marks), "X", "|U")
+    false = held(shape, names(n, marks)[:-1], "!", "R&") if n > 1 else "!" + kept
+    return f"{taken} words: {marks} marks, h {h}", *passing(n, marks, h), sheet(kept, false), f"refused rules 17 1 {step_of(n - 1, n, h)}"
+
+
+# No floor and plan take 497 to 499 words, 501 to 503, 1,001 or 1,002.
+LIMITS = [
+    # 500, the nearest below and above, and a step or a mark less or more.
+    limit(500, 6, 25),
+    limit(500, 11, 20),
+    limit(496, 2, 31),
+    limit(496, 17, 16),
+    limit(504, 0, 36),
+    limit(504, 4, 28),
+    limit(504, 28, 12),
+    limit(480, 6, 24),
+    limit(520, 6, 26),
+    limit(475, 5, 25),
+    limit(525, 7, 25),
+    limit(475, 11, 19),
+    limit(525, 11, 21),
+    limit(480, 10, 20),
+    limit(520, 12, 20),
+    # The same about 1,000.
+    limit(1000, 6, 50),
+    limit(1000, 11, 40),
+    limit(1000, 26, 25),
+    limit(999, 13, 37),
+    limit(999, 23, 27),
+    limit(1003, 3, 59),
+    limit(980, 6, 49),
+    limit(1020, 6, 51),
+    limit(950, 5, 50),
+    limit(1050, 7, 50),
+    limit(975, 11, 39),
+    limit(1025, 11, 41),
+    limit(975, 25, 25),
+    limit(1025, 27, 25),
+    # All marks or none, all steps or one.
+    limit(14, 0, 1),
+    limit(46, 32, 1),
+    limit(460, 32, 10),
+    limit(506, 32, 11),
+    limit(966, 32, 21),
+    limit(1012, 32, 22),
+    limit(490, 0, 35),
+    limit(896, 0, 64),
+    limit(960, 1, 64),
+    limit(1024, 2, 64),
+    # The full load.
+    limit(2898, 32, 63),
+    limit(2880, 31, 64),
+    limit(2944, 32, 64),
 ]
 
 
@@ -1258,7 +1500,7 @@ def data_sets():
         yield check_set(*case)
     for case in LINKS:
         yield edit_set(*case)
-    for cases in (LINKED_CHECKS, BORNE, STEPS, BLOCKS):
+    for cases in (LINKED_CHECKS, BORNE, STEPS, BLOCKS, [*by_need()], SIX_PAIRS, [*two_operands()], CHAINS, COUNTS, LIMITS):
         for case in cases:
             yield check_set(*case)
 
