@@ -285,8 +285,8 @@ static struct cartplan_verdict check_long(uint16_t drift, const char *rules)
     return cartplan_check(floor_bytes, FLOOR_LEN, plan, sizeof plan, (const uint8_t *)rules, strlen(rules));
 }
 
-/* On that plan, with room for the tables of at most 11 nodes of a count's text at first: true; false, with drift too; the same with texts of 12
- * and of 13 nodes; with two texts of 11 in a clause of 25 or 26; X outside a count. */
+/* On that plan: true; false, with drift too; the same with texts of 12 and of 13 nodes; with two texts of 11 in a clause of 25 or 26; X outside a
+ * count. A leaf put beside itself six times: 64 of them with its truth, a text of 127 nodes that needs all places for tables. */
 #define KEPT "[F m1,2]\n"
 #define BROKEN "G [m0,1]\n"
 #define LARGE "[F m1|m2|m2|m2|m2|m2,2]\n"
@@ -294,6 +294,8 @@ static struct cartplan_verdict check_long(uint16_t drift, const char *rules)
 #define WIDE "[m0|m2|m2|m2|m2|m2,1] & [m0|m2|m2|m2|m2|m2,2]\n"
 #define WIDE_BROKEN "G ([m0|m2|m2|m2|m2|m2,1] & [m0|m1|m2|m2|m2|m2,2])\n"
 #define AHEAD "X true\n"
+#define TWICE(operator, text) "(" text operator text ")"
+#define FULL(text) TWICE("|", TWICE("U", TWICE("&", TWICE("R", TWICE("U", TWICE("|", text))))))
 
 static void check_large_clauses(void)
 {
@@ -311,6 +313,8 @@ static void check_large_clauses(void)
     check_verdict(check_long(16, WIDE KEPT WIDE), 0, 0, 0, "large clauses of small texts");
     check_numbers(check_long(0, WIDE WIDE_BROKEN), 3, 17, 1, 63, "17 by a large clause of small texts");
     check_numbers(check_long(16, WIDE LARGE WIDE_BROKEN), 3, 17, 2, 62, "17 by one behind a large text");
+    check_verdict(check_long(16, "[" FULL("m0") ",2]\n" KEPT), 0, 0, 0, "64 leaves");
+    check_numbers(check_long(0, KEPT "[" FULL("m1") ",1]\n"), 3, 17, 1, 0, "64 leaves, false");
 }
 
 /* 32 carts over 64 steps with a lap of one step: cart n is on m0 up to step 31 + n, and then on m1. */

@@ -15,8 +15,8 @@ pub struct Clauses<'a> {
     pub least: usize,
 }
 
-const UNARY: [Op; 4] = [Op::Not, Op::Finally, Op::Globally, Op::Next];
-const BINARY: [Op; 4] = [Op::And, Op::Or, Op::Until, Op::Release];
+pub const UNARY: [Op; 4] = [Op::Not, Op::Finally, Op::Globally, Op::Next];
+pub const BINARY: [Op; 4] = [Op::And, Op::Or, Op::Until, Op::Release];
 
 impl<'a> Clauses<'a> {
     pub fn new(random: &'a mut Random, world: &'a World, collection: &'a Collection) -> Self {
@@ -71,7 +71,8 @@ impl<'a> Clauses<'a> {
         self.operands(clause, nodes, op, Clauses::outer)
     }
 
-    fn inner(&mut self, clause: &mut Clause, nodes: usize) -> usize {
+    /// A part within a count of so many nodes.
+    pub fn inner(&mut self, clause: &mut Clause, nodes: usize) -> usize {
         if nodes == 1 {
             let op = match self.random.below(20) {
                 0 => Op::True,
@@ -113,6 +114,11 @@ impl<'a> Clauses<'a> {
     /// A count over an inner formula of so many nodes.
     pub fn count(&mut self, clause: &mut Clause, nodes: usize) -> usize {
         let inner = self.inner(clause, nodes);
+        self.counted(clause, inner)
+    }
+
+    /// A count over this inner formula.
+    pub fn counted(&mut self, clause: &mut Clause, inner: usize) -> usize {
         let threshold = self.threshold(clause, inner);
         clause.push(Op::Count(threshold), inner, 0)
     }

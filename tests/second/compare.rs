@@ -16,7 +16,7 @@ use crate::tally::Tally;
 use crate::thresholds;
 use crate::verdict::Verdict;
 
-/// The cases of documents 01 and 02, every percentage, the room for tables, then so many random triples; false once a difference was told.
+/// The cases of documents 01 and 02, every percentage, the places of tables, then so many random triples; false once a difference was told.
 pub fn gate(cases: u64, seed: u64) -> bool {
     let told = cases::run()
         .map(|count| println!("{count} cases of documents 01 and 02"))
