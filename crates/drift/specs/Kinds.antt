@@ -1,10 +1,13 @@
 -- What a node is, by the tests on its kind.
 use Prim.Native.Nat.{ℕ, _+_, _*_, _≤_, _<_}
-use mathlib.Core.Path.{_≡_}
-use lib.Dec.{eqb}
+use mathlib.Core.Path.{_≡_, sym, subst}
+use mathlib.Core.Bool.{Bool, true, false}
+use mathlib.Core.Logic.{_⊎_, inl, inr, ⊎-elim}
+use lib.Dec.{T, eqb, ltb, ltb→lt, lt→ltb}
 use borrow.Author.Tests.{eq-eqb, ne-eqb, lt-ltb, le-ltb}
 use Rattle.grammar.specs.Nodes.{topN, markN, countN, oneN, twoN}
-use Rattle.drift.specs.Tree.{nodeOf, oneOf, twoOf}
+use Rattle.cltl.specs.Basics.{or-cases, or-l, or-r, lt-or-le}
+use Rattle.drift.specs.Tree.{isLeaf, nodeOf, oneOf, twoOf}
 use native.Mathlib.Omega.{arith}
 
 module _ (kind x y z : ℕ) where
@@ -32,3 +35,17 @@ module _ (kind x y z : ℕ) where
       let b : (kind ≡ 1) → ⊥ = (λ d. omega arith) in
       let c : 6 ≤ kind = omega arith in
       rw (ne-eqb kind 0 a, ne-eqb kind 1 b, le-ltb kind 6 c, le-ltb kind 10 p)
+
+-- the kinds of leaves, and those of operators
+module _ (kind : ℕ) where
+  pub leaf-kind : isLeaf kind ≡ true → (kind < 2) ⊎ (10 ≤ kind)
+  leaf-kind e =
+      let q = subst (λ (b : Bool). T b) (sym e) tt in
+      ⊎-elim (λ z. inl (ltb→lt kind 2 z)) (λ z. inr (let u = ltb→lt 9 kind z in omega arith)) (or-cases (ltb kind 2) (ltb 9 kind) q)
+
+  pub operator-kind : isLeaf kind ≡ false → (2 ≤ kind) × (kind < 10)
+  operator-kind e =
+      let no : T (isLeaf kind) → ⊥ = λ q. subst (λ (b : Bool). T b) e q in (
+        ⊎-elim (λ z. absurd (no (or-l (ltb kind 2) (ltb 9 kind) (lt→ltb kind 2 z)))) (λ z. z) (lt-or-le kind 2),
+        ⊎-elim (λ z. z) (λ z. absurd (no (or-r (ltb kind 2) (ltb 9 kind) (lt→ltb 9 kind (omega arith))))) (lt-or-le kind 10),
+      )

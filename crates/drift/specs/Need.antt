@@ -8,7 +8,8 @@ use lib.ListN.{getD, length}
 use Rattle.grammar.specs.Grammar.{Form, top, leaf, neg, and, or, next, until, release, ev, gl}
 use Rattle.grammar.specs.Limits.{nodes, countNodes}
 use Rattle.grammar.specs.Nodes.{Node, topN, markN, countN, oneN, twoN}
-use Rattle.drift.specs.Tree.{innerTree, clauseTree}
+use Rattle.drift.specs.declared.Operands.{Operands}
+use Rattle.drift.specs.Tree.{firstAt, secondAt, innerTree, clauseTree}
 
 -- Places for tables come in pairs: an operator's table is made in the place of a pair that its operand's is not in. Of two operands the one that needs
 -- more pairs goes first; its table keeps one pair in use while the other operand is judged in the pairs behind. So only where both need the same is it one
@@ -41,6 +42,14 @@ needNode needs (twoN o i j) = more (getD needs i 0) (getD needs j 0)
 pub record Needs (block needs : List ℕ) (n : ℕ) : Type 0 where
   pub room : n ≤ length needs
   pub each : (k m : ℕ) → k < n → k < m → getD needs k 0 ≡ need (innerTree block m k)
+
+-- the operands of node k in the order in which they are judged, with as many pairs for the first as for the node, and one less for the second
+pub record InTurn (block needs : List ℕ) (k : ℕ) (r : Operands) : Type 0 where
+  pub first-is : r .first ≡ cond (r .swapped) (secondAt block k) (firstAt block k)
+  pub second-is : r .second ≡ cond (r .swapped) (firstAt block k) (secondAt block k)
+  pub below : (r .first < k) × (r .second < k)
+  pub first-need : getD needs (r .first) 0 ≤ getD needs k 0
+  pub second-need : getD needs (r .second) 0 < getD needs k 0
 
 -- node k's clause has at most the 128 nodes that a sheet's clause may have
 abbrev pub Small : List ℕ → ℕ → Type 0

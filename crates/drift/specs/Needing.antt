@@ -76,6 +76,10 @@ module _ {L : Type 0} where
 pub needs-less : (block needs : List ℕ) (n m : ℕ) → m ≤ n → Needs block needs n → Needs block needs m
 needs-less block needs n m q r = record { room = let z = r .room in omega arith; each = λ k d p p′. r .each k d (omega arith) p′ }
 
+-- what is known of the nodes up to node k is known of those up to one below it
+pub up-to : (block needs : List ℕ) (k i : ℕ) → i < k → Ordered block (k + 1) × Needs block needs (k + 1) → Ordered block (i + 1) × Needs block needs (i + 1)
+up-to block needs k i q r = (ordered-less block (k + 1) (i + 1) (omega arith) (r .0), needs-less block needs (k + 1) (i + 1) (omega arith) (r .1))
+
 module _ (block needs : List ℕ) (k : ℕ) (o : Ordered block (k + 1)) where
   -- what a node's text needs, by what its operands' need
   need-form : Needs block needs k → (n : ℕ) → k ≤ n → (x : Node) → OperandsBelow k x

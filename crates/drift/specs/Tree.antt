@@ -1,6 +1,6 @@
 -- A block of nodes, four bytes to each, and the text that a node stands for.
 use Prim.Native.Nat.{ℕ, zero, suc, _+_, _*_, _≤_, _<_}
-use mathlib.Core.Bool.{Bool, cond}
+use mathlib.Core.Bool.{Bool, cond, _||_}
 use mathlib.Core.List.{List}
 use lib.Dec.{eqb, ltb}
 use lib.ListN.{getD, length}
@@ -18,6 +18,10 @@ abbrev pub nodeOf : ℕ → ℕ → ℕ → ℕ → Node
 nodeOf kind x y z =
     cond (eqb kind 0) topN
     (cond (eqb kind 1) (markN x) (cond (ltb kind 6) (oneN (oneOf kind) x) (cond (ltb kind 10) (twoN (twoOf kind) x y) (countN x (y + 256 * z) (eqb kind 11)))))
+
+-- `true`, a mark or a count: no operator
+abbrev pub isLeaf : ℕ → Bool
+isLeaf kind = ltb kind 2 || ltb 9 kind
 
 -- the four bytes of node k
 module _ (block : List ℕ) (k : ℕ) where

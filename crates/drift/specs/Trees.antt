@@ -14,9 +14,10 @@ use Rattle.cltl.specs.Meaning.{Rows}
 use Rattle.cltl.specs.Rules.{hasNext, rules}
 use Rattle.cltl.specs.Basics.{lt-or-le}
 use Rattle.cltl.specs.Step.{lowest, failing}
-use Rattle.drift.specs.Tree.{nodeAt, one, two, oneOf, twoOf, formOf, tree, innerTree, clauseTree, Ordered}
+use Rattle.drift.specs.Tree.{isLeaf, nodeAt, one, two, oneOf, twoOf, formOf, tree, innerTree, clauseTree, Ordered}
 use Rattle.drift.specs.Kinds.{kind-top, kind-mark, kind-one, kind-two, kind-count}
 use Rattle.drift.specs.Tree.{kindAt, firstAt, secondAt, thirdAt}
+use Rattle.drift.specs.NodeIs.{of-leaf}
 use Rattle.drift.specs.NodeTruth.{one-low, two-low}
 
 module _ (block : List ℕ) (n k : ℕ) where
@@ -58,14 +59,11 @@ module _ (block : List ℕ) (k : ℕ) where
       next-is : oneOf (kindAt block k) ≡ next₁
       next-is = let a : (kindAt block k ≡ 2) → ⊥ = (λ d. omega arith) in rw (ne-eqb (kindAt block k) 2 a, eq-eqb (kindAt block k) 3 e)
 
-  pub top-tells : kindAt block k < 2 → Tells false
-  top-tells q = tells false (λ n z. sym (ap hasNext (top-tree block n k q)))
-
-  pub count-tells : 10 ≤ kindAt block k → Tells false
-  count-tells q =
+  pub leaf-tells : (kind : ℕ) → kind ≡ kindAt block k → isLeaf kind ≡ true → Tells false
+  leaf-tells kind ek e =
       tells false
-      (λ n z. sym (ap hasNext
-      (looked-up block n k (countN (firstAt block k) (secondAt block k + 256 * thirdAt block k) (eqb (kindAt block k) 11)) (kind-count _ _ _ _ q))))
+      (λ n z. of-leaf (λ x. hasNext (form block n k x)) block k kind ek false refl (λ m. refl) (λ i m percent. refl) e
+      ∙ sym (ap hasNext (looked-up block n k (nodeAt block k) refl)))
 
   has-one : (kind : ℕ) (a : Clause) → (kind ≡ 3 → ⊥) → hasNext a ≡ hasNext (one (oneOf kind) a)
   has-one kind a f = rw (ne-eqb kind 3 f) (go (eqb kind 2) (eqb kind 4))

@@ -1,10 +1,9 @@
 // Inner text for all carts at once, each node once. Of two operands the one that needs more pairs of places goes first, so that few tables are held.
 use crate::Ground;
-use crate::needs::second_first;
+use crate::needs::in_turn;
 use crate::nodes::first_at;
+use crate::nodes::is_leaf;
 use crate::nodes::kind_at;
-use crate::nodes::second_at;
-use crate::places::either;
 use crate::places::place_one;
 use crate::places::place_two;
 use crate::tables::constant_at;
@@ -63,20 +62,15 @@ pub fn inner_table(
         → InnerTable (rowsOn (g .carts) (g .h) (g .l) bears) (now (nodes .entry)) k (now (t .exit)) r) ⌝ }
 {
     let kind = kind_at(nodes, k);
-    if kind < 2 {
+    if is_leaf(kind) {
         return leaf_at(nodes, g, k);
     }
-    if 9 < kind {
-        return leaf_at(nodes, g, k);
-    }
-    let x = first_at(nodes, k);
     if kind < 6 {
-        let a = inner_table(nodes, needs, t, g, at, x);
+        let a = inner_table(nodes, needs, t, g, at, first_at(nodes, k));
         return place_one(kind, t, a, at, g);
     }
-    let y = second_at(nodes, k);
-    let swapped = second_first(needs, x, y);
-    let first = inner_table(nodes, needs, t, g, at, either(swapped, y, x));
-    let second = inner_table(nodes, needs, t, g, at + 2 * g.h, either(swapped, x, y));
-    place_two(kind, swapped, t, first, second, at, g)
+    let o = in_turn(nodes, needs, k);
+    let first = inner_table(nodes, needs, t, g, at, o.first);
+    let second = inner_table(nodes, needs, t, g, at + 2 * g.h, o.second);
+    place_two(kind, o.swapped, t, first, second, at, g)
 }

@@ -22,3 +22,10 @@ pub struct Ground {
     pub d: usize,
     pub marks: usize,
 }
+
+// The operands of a binary operator in the order in which they are judged; swapped, the right one is first.
+pub struct Operands {
+    pub first: usize,
+    pub second: usize,
+    pub swapped: bool,
+}

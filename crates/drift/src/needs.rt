@@ -1,13 +1,14 @@
 // How many pairs of places the text of each node needs.
+use crate::Operands;
 use crate::nodes::first_at;
+use crate::nodes::is_leaf;
 use crate::nodes::kind_at;
 use crate::nodes::second_at;
 ghost use mathlib.Core.Path.{_≡_};
 ghost use Prim.Native.Nat.{ℕ, _+_, _≤_, _<_, max};
-ghost use lib.Dec.{ltb};
 ghost use lib.ListN.{getD, length};
-ghost use Rattle.drift.specs.Tree.{Ordered, nodeAt};
-ghost use Rattle.drift.specs.Need.{more as «more_of», needNode, Needs};
+ghost use Rattle.drift.specs.Tree.{Ordered, kindAt, nodeAt};
+ghost use Rattle.drift.specs.Need.{more as «more_of», needNode, Needs, InTurn};
 
 // An operator's own table takes a pair.
 fn at_least_one(a: u8) -> u8
@@ -34,10 +35,7 @@ fn node_need(nodes: &[u8], needs: &[u8], k: usize) -> u8
     ensures { λ r. ⌜ r ≡ needNode (now (needs .entry)) (nodeAt (now (nodes .entry)) k) ⌝ }
 {
     let kind = kind_at(nodes, k);
-    if kind < 2 {
-        return 0;
-    }
-    if 9 < kind {
+    if is_leaf(kind) {
         return 0;
     }
     let a = needs[first_at(nodes, k)];
@@ -60,10 +58,25 @@ pub fn fill_needs(nodes: &[u8], n: usize, needs: &mut [u8])
     }
 }
 
-// Whether the second of two operands needs more than the first, and so goes first.
-pub fn second_first(needs: &[u8], x: usize, y: usize) -> bool
-    requires { ⌜ (x < length (now needs)) × (y < length (now needs)) ⌝ }
-    ensures { λ r. ⌜ r ≡ ltb (getD (now (needs .entry)) x 0) (getD (now (needs .entry)) y 0) ⌝ }
+// The operands of a binary operator, node k: the one that needs more pairs goes first.
+pub fn in_turn(nodes: &[u8], needs: &[u8], k: usize) -> Operands
+    requires { ⌜ Ordered (now nodes) (k + 1) × Needs (now nodes) (now needs) (k + 1) ⌝ }
+    requires { ⌜ (6 ≤ kindAt (now nodes) k) × (kindAt (now nodes) k < 10) ⌝ }
+    ensures { λ r. ⌜ InTurn (now (nodes .entry)) (now (needs .entry)) k r ⌝ }
 {
-    needs[x] < needs[y]
+    let x = first_at(nodes, k);
+    let y = second_at(nodes, k);
+    if needs[x] < needs[y] {
+        Operands {
+            first: y,
+            second: x,
+            swapped: true,
+        }
+    } else {
+        Operands {
+            first: x,
+            second: y,
+            swapped: false,
+        }
+    }
 }

@@ -5,7 +5,14 @@ use endian::wide16;
 ghost use mathlib.Core.Path.{_≡_};
 ghost use Prim.Native.Nat.{_+_, _*_, _<_};
 ghost use Rattle.drift.specs.Tree.{Ordered};
-ghost use Rattle.drift.specs.Tree.{kindAt, firstAt, secondAt, thirdAt};
+ghost use Rattle.drift.specs.Tree.{isLeaf, kindAt, firstAt, secondAt, thirdAt};
+
+// `true`, a mark or a count: no operator.
+pub fn is_leaf(kind: u8) -> bool
+    ensures { λ r. ⌜ r ≡ isLeaf kind ⌝ }
+{
+    (kind < 2) | (9 < kind)
+}
 
 pub fn kind_at(nodes: &[u8], k: usize) -> u8
     requires { ⌜ Ordered (now nodes) (k + 1) ⌝ }

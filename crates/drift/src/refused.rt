@@ -2,6 +2,7 @@
 use crate::Ground;
 use crate::clauses::clause_row;
 use crate::nodes::first_at;
+use crate::nodes::is_leaf;
 use crate::nodes::kind_at;
 use crate::nodes::second_at;
 ghost use mathlib.Core.Path.{_≡_};
@@ -26,10 +27,7 @@ pub fn has_next(nodes: &[u8], k: usize) -> bool
     if kind == 3 {
         return true;
     }
-    if kind < 2 {
-        return false;
-    }
-    if 9 < kind {
+    if is_leaf(kind) {
         return false;
     }
     let a = has_next(nodes, first_at(nodes, k));
