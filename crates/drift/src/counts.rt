@@ -53,7 +53,8 @@ pub fn count_row(
     requires { ⌜ Lent g (now t) (now w) (now bits) ⌝ }
     requires { ⌜ Ordered (now nodes) (x + 1) × Needs (now nodes) (now needs) (x + 1) × (getD (now needs) x 0 ≤ 6) ⌝ }
     ensures { λ _. ⌜ Kept (pairsAt (g .marks) (g .h)) (now (t .entry)) (now (t .exit)) × (length (now (w .exit)) ≡ 88) ⌝ }
-    ensures { λ r. ⌜ ((bears : ℕ → ℕ → ℕ → Bool) → Shown (g .marks) (g .carts) (g .h) bears (now (t .entry)) → Row (g .h) r (quorum (g .h) (g .l) (g .carts) (g .d) m
+    ensures { λ r. ⌜ ((bears : ℕ → ℕ → ℕ → Bool) → Shown (g .marks) (g .carts) (g .h) bears (now (t .entry))
+        → Row (g .h) r (quorum (g .h) (g .l) (g .carts) (g .d) m
         (λ i. inner (rowsOn (g .carts) (g .h) (g .l) bears) i p (innerTree (now (nodes .entry)) (length (now (nodes .entry))) x)))) ⌝ }
 {
     let at = inner_table(nodes, needs, t, g, (g.marks + 2) * g.h, x);

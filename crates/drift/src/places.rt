@@ -55,7 +55,8 @@ pub fn place_two(
     requires { ⌜ (pairsAt (g .marks) (g .h) ≤ at) × (at + 2 * g .h ≤ pairsEnd (g .marks) (g .h)) × (pairsEnd (g .marks) (g .h) ≤ length (now t)) ⌝ }
     requires { ⌜ Placed (g .marks) (g .h) at first × Placed (g .marks) (g .h) (at + 2 * g .h) second × (second + g .h ≤ length (now t)) ⌝ }
     ensures { λ r. ⌜ (r ≡ otherOf at (g .h) first) × Table (λ i. twoRule (g .h) (g .l) true (twoOf kind)
-        (told (now (t .entry)) (cond swapped second first) i) (told (now (t .entry)) (cond swapped first second) i)) r (g .h) (now (t .entry)) (now (t .exit)) ⌝ }
+        (told (now (t .entry)) (cond swapped second first) i) (told (now (t .entry)) (cond swapped first second) i))
+        r (g .h) (now (t .entry)) (now (t .exit)) ⌝ }
 {
     let to = other(at, first, g.h);
     let a = either(swapped, second, first);

@@ -27,7 +27,8 @@ fn fits(marks: usize, steps: usize, words: usize) -> bool
     (marks + 14) * steps <= words
 }
 
-// Judges the clauses of an accepted sheet on an accepted plan, in the smallest block that has room: a large one costs more to clear than a small floor to check.
+// Judges the clauses of an accepted sheet on an accepted plan, in the smallest block that has room: a large one costs more to clear than a small
+// floor to check.
 fn judge_clauses(floor: &[u8], f: Floor, h: Head, block: &[u8], rules: &[u8]) -> Verdict
     requires { ⌜ AcceptedFloor (now floor) f ⌝ }
     requires { ⌜ HeadInRange h × (length (now block) ≡ 2048) ⌝ }

@@ -138,7 +138,9 @@ clause-row-returns-3 t c =
     )
 
 clause-row-second-at-requires : (t : ℕ) → clause-row-lts.Need-second-at-requires (clause-row-calls t) (clause-row-at t) clause-row.Post
-clause-row-second-at-requires t c κs = c .before .before .before .before .before .before .before .before .before .before .before .before .before .before .before .before .pre .1 .1 .ordered
+clause-row-second-at-requires t c κs =
+    let s = c .before .before .before .before .before .before .before .before .before .before .before .before .before .before .before .before in
+    s .pre .1 .1 .ordered
 
 clause-row-clause-row-requires-2 : (t : ℕ) → clause-row-lts.Need-clause-row-requires-2 (clause-row-calls t) (clause-row-at t) clause-row.Post
 clause-row-clause-row-requires-2 t c κs =

@@ -58,9 +58,10 @@ same-length c = c .before .loop .inv .1
 
 returns : tie.Need-returns Inv-loop μ-loop
 returns c =
+    let a = c .before .before .before .before .args in
     let v = c .before .loop in
     let q = c .loop-test .left in
-    (needs-less (c .before .before .before .before .args .nodes .now) (v .needs) (v .k) _ (omega (arith, q)) (v .inv .2), v .inv .1, λ j p. v .inv .4 j (omega arith))
+    (needs-less (a .nodes .now) (v .needs) (v .k) _ (omega (arith, q)) (v .inv .2), v .inv .1, λ j p. v .inv .4 j (omega arith))
 
 pub fill-needs-spec : {M : Type 1} → statement M
 fill-needs-spec =
