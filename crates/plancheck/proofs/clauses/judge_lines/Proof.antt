@@ -20,7 +20,7 @@ use Rattle.drift.specs.Lent.{Lent}
 use Rattle.drift.specs.Lending.{still-lent}
 use Rattle.drift.specs.Placing.{six-end}
 use Rattle.plancheck.specs.Lines.{accepted-short}
-use Rattle.plancheck.specs.LineHeld.{ready, small-held}
+use Rattle.plancheck.specs.LineHeld.{Ready, ready, small-held}
 use Rattle.plancheck.specs.Check.{marksAt, clauseVerdict}
 use Rattle.plancheck.specs.Marked.{placed, unborne, shown}
 use Rattle.plancheck.specs.Turns.{Going, going-start, going-end, going-16, going-on}
@@ -43,6 +43,17 @@ Inv-loop floor h block rules marks t₀ g nodes₀ w₀ bits found₀ at₀ n₀
 
 abbrev μ-loop : tie.MeasureT-loop
 μ-loop floor h block rules marks t₀ g nodes₀ w₀ bits found₀ at₀ n₀ t nodes w found at n = 32 - n
+
+-- the line that was read where one was left
+line-read : (c : tie.After-read-clause Inv-loop μ-loop) →
+    let v = c .before .before .before .loop in
+    let read = c .read-clause in
+    Ready (c .before .before .before .before .before .before .before .before .before .before .before .before .before .before .args .rules .now) (v .nodes) (read .result) (read .last .1 .1 .0) (v .n) (v .inv .3 .rest)
+line-read c =
+    let v = c .before .before .before .loop in
+    let a = c .before .before .before .before .before .before .before .before .before .before .before .before .before .before .args in
+    ready (a .rules .now) (v .nodes) _ _ (v .at) (v .n) (c .before .before .loop-test .taken) (c .read-clause .ensures) (v .inv .3 .rest) (v .inv .3 .left)
+    (v .inv .0)
 
 fill-requires : tie.Need-fill-requires Inv-loop μ-loop
 fill-requires c κs =
@@ -97,37 +108,13 @@ read-clause-requires c κs =
     (omega arith, accepted-short (s .args .rules .now) (s .pre .1 .1 .1 .0), c .before .before .loop .inv .0)
 
 sub-last : tie.Need-sub-last Inv-loop μ-loop
-sub-last c =
-    let read = c .before .before in
-    let v = read .before .before .before .loop in
-    let s = read .before .before .before .before .before .before .before .before .before .before .before .before .before .before in
-    let a = s .args in
-    let w =
-    ready (a .rules .now) (v .nodes) _ _ (v .at) (v .n) (read .before .before .loop-test .taken) (read .read-clause .ensures) (v .inv .3 .rest)
-    (v .inv .3 .left) (v .inv .0) in
-    omega (arith, w .judge .some)
+sub-last c = omega (arith, line-read (c .before .before) .judge .some)
 
 slice-aggregate-looks-on : tie.Need-slice-aggregate-looks-on Inv-loop μ-loop
-slice-aggregate-looks-on c =
-    let read = c .before .before .before in
-    let v = read .before .before .before .loop in
-    let s = read .before .before .before .before .before .before .before .before .before .before .before .before .before .before in
-    let a = s .args in
-    let w =
-    ready (a .rules .now) (v .nodes) _ _ (v .at) (v .n) (read .before .before .loop-test .taken) (read .read-clause .ensures) (v .inv .3 .rest)
-    (v .inv .3 .left) (v .inv .0) in
-    sym (w .judge .size)
+slice-aggregate-looks-on c = sym (line-read (c .before .before .before) .judge .size)
 
 looks-on-requires : tie.Need-looks-on-requires Inv-loop μ-loop
-looks-on-requires c κs =
-    let read = c .before .before .before in
-    let v = read .before .before .before .loop in
-    let s = read .before .before .before .before .before .before .before .before .before .before .before .before .before .before in
-    let a = s .args in
-    let w =
-    ready (a .rules .now) (v .nodes) _ _ (v .at) (v .n) (read .before .before .loop-test .taken) (read .read-clause .ensures) (v .inv .3 .rest)
-    (v .inv .3 .left) (v .inv .0) in
-    w .judge .ordered
+looks-on-requires c κs = line-read (c .before .before .before) .judge .ordered
 
 refuse-requires : tie.Need-refuse-requires Inv-loop μ-loop
 refuse-requires c κs = tt
@@ -140,11 +127,8 @@ returns : tie.Need-returns Inv-loop μ-loop
 returns c =
     let read = c .before .before .before .before .before .before in
     let v = read .before .before .before .loop in
-    let s = read .before .before .before .before .before .before .before .before .before .before .before .before .before .before in
-    let a = s .args in
-    let w =
-    ready (a .rules .now) (v .nodes) _ _ (v .at) (v .n) (read .before .before .loop-test .taken) (read .read-clause .ensures) (v .inv .3 .rest)
-    (v .inv .3 .left) (v .inv .0) in
+    let a = read .before .before .before .before .before .before .before .before .before .before .before .before .before .before .args in
+    let w = line-read read in
     let d = a .h .drift in
     let x : true ≡ cond (eqb d 0) false (hasNext (w .line .clause)) =
     sym (c .before .if1 .taken) ∙ c .before .before .looks-on .ensures _ (le-refl _)
@@ -152,59 +136,35 @@ returns c =
     ap AboutRules (c .refuse .ensures) ∙ going-16 _ d (a .rules .now) (v .nodes) _ _ (v .at) (v .n) (v .found) (v .inv .3) (w .line) x
 
 slice-aggregate-first-found : tie.Need-slice-aggregate-first-found Inv-loop μ-loop
-slice-aggregate-first-found c =
-    let read = c .before .before .before .before .before .before in
-    let v = read .before .before .before .loop in
-    let s = read .before .before .before .before .before .before .before .before .before .before .before .before .before .before in
-    let a = s .args in
-    let w =
-    ready (a .rules .now) (v .nodes) _ _ (v .at) (v .n) (read .before .before .loop-test .taken) (read .read-clause .ensures) (v .inv .3 .rest)
-    (v .inv .3 .left) (v .inv .0) in
-    sym (w .judge .size)
+slice-aggregate-first-found c = sym (line-read (c .before .before .before .before .before .before) .judge .size)
 
 first-found-requires : tie.Need-first-found-requires Inv-loop μ-loop
 first-found-requires c κs =
     let read = c .before .before .before .before .before .before .before .before .before in
     let v = read .before .before .before .loop in
-    let s = read .before .before .before .before .before .before .before .before .before .before .before .before .before .before in
-    let a = s .args in
-    let w =
-    ready (a .rules .now) (v .nodes) _ _ (v .at) (v .n) (read .before .before .loop-test .taken) (read .read-clause .ensures) (v .inv .3 .rest)
-    (v .inv .3 .left) (v .inv .0) in
-    let j = w .judge in
+    let j = line-read read .judge in
     (v .inv .4, (j .ordered, omega (arith, j .ordered .room, j .size, j .some), small-held _ _ _ j))
 
 add-n : tie.Need-add-n Inv-loop μ-loop
 add-n c =
     let read = c .before .before .before .before .before .before .before .before .before .before .before .before in
     let v = read .before .before .before .loop in
-    let s = read .before .before .before .before .before .before .before .before .before .before .before .before .before .before in
-    let a = s .args in
-    let w =
-    ready (a .rules .now) (v .nodes) _ _ (v .at) (v .n) (read .before .before .loop-test .taken) (read .read-clause .ensures) (v .inv .3 .rest)
-    (v .inv .3 .left) (v .inv .0) in
+    let w = line-read read in
     omega (arith, w .line .more)
 
 loop-less : tie.Need-loop-less Inv-loop μ-loop
 loop-less c =
     let read = c .before .before .before .before .before .before .before .before .before .before .before .before in
     let v = read .before .before .before .loop in
-    let s = read .before .before .before .before .before .before .before .before .before .before .before .before .before .before in
-    let a = s .args in
-    let w =
-    ready (a .rules .now) (v .nodes) _ _ (v .at) (v .n) (read .before .before .loop-test .taken) (read .read-clause .ensures) (v .inv .3 .rest)
-    (v .inv .3 .left) (v .inv .0) in
+    let w = line-read read in
     omega (arith, w .line .more)
 
 loop-again : tie.Need-loop-again Inv-loop μ-loop
 loop-again c =
     let read = c .before .before .before .before .before .before .before .before .before .before .before .before in
     let v = read .before .before .before .loop in
-    let s = read .before .before .before .before .before .before .before .before .before .before .before .before .before .before in
-    let a = s .args in
-    let w =
-    ready (a .rules .now) (v .nodes) _ _ (v .at) (v .n) (read .before .before .loop-test .taken) (read .read-clause .ensures) (v .inv .3 .rest)
-    (v .inv .3 .left) (v .inv .0) in
+    let a = read .before .before .before .before .before .before .before .before .before .before .before .before .before .before .args in
+    let w = line-read read in
     let d = a .h .drift in
     let P : Rows = rows (a .floor .now) (a .f .carts) (a .h) (a .block .now) in
     let tree = w .judge .tree _ (le-refl _) in
