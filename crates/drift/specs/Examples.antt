@@ -1,8 +1,21 @@
--- Worked cases, by computation: where tables lie.
+-- Worked cases, by computation: which nodes are leaves, and where tables lie.
 use mathlib.Core.Path.{_≡_, refl}
 use mathlib.Core.Bool.{true, false}
 use Rattle.grammar.specs.Nodes.{topN, markN, countN}
+use Rattle.drift.specs.Tree.{isLeaf}
 use Rattle.drift.specs.Places.{constantAt, leafAt, pairsEnd, otherOf}
+
+-- by their kinds: `true` and a mark, from ! to R operators, the two kinds of counts
+pub leaves :
+    (isLeaf 0 ≡ true)
+    × (isLeaf 1 ≡ true)
+    × (isLeaf 2 ≡ false)
+    × (isLeaf 5 ≡ false)
+    × (isLeaf 6 ≡ false)
+    × (isLeaf 9 ≡ false)
+    × (isLeaf 10 ≡ true)
+    × (isLeaf 11 ≡ true)
+leaves = (refl, refl, refl, refl, refl, refl, refl, refl)
 
 -- with two marks and three steps: two tables of marks, that of all, that of none, and twelve places
 pub worked :
