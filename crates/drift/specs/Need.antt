@@ -3,7 +3,7 @@ use Prim.Native.Nat.{ℕ, suc, _<_, _≤_, max}
 use mathlib.Core.Path.{_≡_}
 use mathlib.Core.Bool.{cond}
 use mathlib.Core.List.{List}
-use lib.Dec.{eqb}
+use lib.Dec.{eqb, ltb}
 use lib.ListN.{getD, length}
 use Rattle.grammar.specs.Grammar.{Form, top, leaf, neg, and, or, next, until, release, ev, gl}
 use Rattle.grammar.specs.Limits.{nodes, countNodes}
@@ -43,8 +43,10 @@ pub record Needs (block needs : List ℕ) (n : ℕ) : Type 0 where
   pub room : n ≤ length needs
   pub each : (k m : ℕ) → k < n → k < m → getD needs k 0 ≡ need (innerTree block m k)
 
--- the operands of node k in the order in which they are judged, with as many pairs for the first as for the node, and one less for the second
+-- the operands of node k in the order in which they are judged: swapped exactly if the right one needs more pairs. So the first needs no more than the
+-- node, and the second fewer
 pub record InTurn (block needs : List ℕ) (k : ℕ) (r : Operands) : Type 0 where
+  pub order : r .swapped ≡ ltb (getD needs (firstAt block k) 0) (getD needs (secondAt block k) 0)
   pub first-is : r .first ≡ cond (r .swapped) (secondAt block k) (firstAt block k)
   pub second-is : r .second ≡ cond (r .swapped) (firstAt block k) (secondAt block k)
   pub below : (r .first < k) × (r .second < k)

@@ -1,10 +1,12 @@
 -- Worked cases, by computation: how many pairs of places a text needs.
 use Prim.Native.Nat.{ℕ}
 use mathlib.Core.Path.{_≡_, refl}
+use mathlib.Core.Bool.{true}
 use mathlib.Core.List.{List, [], _∷_}
+use native.Mathlib.Omega.{arith}
 use Rattle.grammar.specs.Grammar.{top, leaf, neg, and, or, next, until, release, ev, gl, Inner}
 use Rattle.drift.specs.Tree.{nodeAt, tree, innerTree}
-use Rattle.drift.specs.Need.{more, need, needNode}
+use Rattle.drift.specs.Need.{more, need, needNode, InTurn}
 
 abbrev m : ℕ → Inner
 m k = leaf k
@@ -98,3 +100,7 @@ worked = (
   refl,
   refl,
 )
+
+-- of m0 and X m1 the right one is judged first
+pub turned : InTurn nodes needs 3 (record { first = 2; second = 0; swapped = true })
+turned = record { order = refl; first-is = refl; second-is = refl; below = (omega arith, omega arith); first-need = omega arith; second-need = omega arith }

@@ -1,5 +1,10 @@
+use Prim.Native.Nat.{ℕ, _≤_, _<_}
+use mathlib.Core.Path.{sym, ap₂, _∙_}
 use native.Mathlib.Omega.{arith}
+use lib.Dec.{ltb}
+use lib.ListN.{getD}
 use borrow.Author.Needs.{needs}
+use borrow.Author.Tests.{lt-ltb, le-ltb}
 use Rattle.drift.specs.NodeTruth.{two-low}
 use Rattle.drift.specs.Order.{right-first, left-first}
 use Rattle.drift.proofs.needs.in_turn.Statement.{statement}
@@ -29,9 +34,13 @@ returns c =
     let x-is = c .before .before .before .before .first-at .ensures in
     let y-is = c .before .before .before .second-at .ensures in
     let low = two-low (s .args .nodes .now) (s .args .k) (s .pre .0 .0) (s .pre .1 .0) (s .pre .1 .1) in
+    let needed : ℕ → ℕ = λ i. getD (s .args .needs .now) i 0 in
+    let test : needed (c .before .before .before .before .first-at .result) < needed (c .before .before .before .second-at .result) =
+    omega (arith, c .if1 .taken) in
     let need = right-first (s .args .nodes .now) (s .args .needs .now) (s .args .k) (s .pre .0 .0) (s .pre .0 .1) (s .pre .1 .0) (s .pre .1 .1) _ _ x-is
-    y-is (omega (arith, c .if1 .taken)) in
+    y-is test in
     record {
+      order = sym (lt-ltb _ _ test) ∙ ap₂ (λ (i j : ℕ). ltb (needed i) (needed j)) x-is y-is;
       first-is = y-is;
       second-is = x-is;
       below = (omega (arith, y-is, low .1), omega (arith, x-is, low .0));
@@ -45,9 +54,13 @@ returns-2 c =
     let x-is = c .before .before .before .before .first-at .ensures in
     let y-is = c .before .before .before .second-at .ensures in
     let low = two-low (s .args .nodes .now) (s .args .k) (s .pre .0 .0) (s .pre .1 .0) (s .pre .1 .1) in
+    let needed : ℕ → ℕ = λ i. getD (s .args .needs .now) i 0 in
+    let test : needed (c .before .before .before .second-at .result) ≤ needed (c .before .before .before .before .first-at .result) =
+    omega (arith, c .if1 .left) in
     let need = left-first (s .args .nodes .now) (s .args .needs .now) (s .args .k) (s .pre .0 .0) (s .pre .0 .1) (s .pre .1 .0) (s .pre .1 .1) _ _ x-is y-is
-    (omega (arith, c .if1 .left)) in
+    test in
     record {
+      order = sym (le-ltb _ _ test) ∙ ap₂ (λ (i j : ℕ). ltb (needed i) (needed j)) x-is y-is;
       first-is = x-is;
       second-is = y-is;
       below = (omega (arith, x-is, low .0), omega (arith, y-is, low .1));
