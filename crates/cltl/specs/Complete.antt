@@ -12,11 +12,11 @@ use Rattle.row.specs.Lasso.{stepOf}
 use Rattle.row.specs.Round.{step-low, step-below}
 use Rattle.cltl.specs.Threshold.{threshold, quota}
 use Rattle.cltl.specs.Meaning.{Rows, Proper, AtLeast, Run, Satisfies, Counts}
-use Rattle.cltl.specs.Rules.{tally, every, window, quorum, inner, count}
+use Rattle.cltl.specs.Rules.{tally, every, window, throughout, quorum, inner, count}
 use Rattle.cltl.specs.Basics.{lt-or-le, T-or-not, and-i, or-r}
 use Rattle.cltl.specs.Broken.{Val, Broken}
 use Rattle.cltl.specs.Inner.{inner-sound, inner-opp}
-use Rattle.cltl.specs.Quorum.{throughout, throughout-quorum, all-quorum}
+use Rattle.cltl.specs.Quorum.{throughout-quorum, all-quorum}
 use Rattle.cltl.specs.Tally.{every-at, every-of, tally-mono, tally-not, tally-least, tally-most, at-least-map}
 use Rattle.cltl.specs.Standing.{Standing, highest, gather, gathered}
 
@@ -81,8 +81,8 @@ module _ (h l carts d m : ℕ) (some : 0 < carts) (f : ℕ → ℕ → Bool) (s 
   unfolding gone
   gone-is i = missed (along i) (suc d)
 
-  few : throughout h l carts m f d s < m
-  few = ⊎-elim (λ q. q) (λ q. absurd (broken (throughout-quorum h l carts m f d s q))) (lt-or-le (throughout h l carts m f d s) m)
+  few : throughout h l carts d f s < m
+  few = ⊎-elim (λ q. q) (λ q. absurd (broken (throughout-quorum h l carts m f d s q))) (lt-or-le (throughout h l carts d f s) m)
 
   -- who satisfies it there satisfies it all along
   stays : (i : ℕ) → T (f i (stepOf h l (s + gone i))) → T (window h l (f i) d s)
@@ -101,7 +101,7 @@ module _ (h l carts d m : ℕ) (some : 0 < carts) (f : ℕ → ℕ → Bool) (s 
       ahead = λ i q. let a = gone-is i .low in omega arith;
       last = (i, p, omega arith);
     },
-    let a : tally (λ i. f i (stepOf h l (s + gone i))) carts ≤ throughout h l carts m f d s = tally-mono _ _ stays carts in let b = few in omega arith,
+    let a : tally (λ i. f i (stepOf h l (s + gone i))) carts ≤ throughout h l carts d f s = tally-mono _ _ stays carts in let b = few in omega arith,
   )
 
   -- all fail later on, and m is above 1: the first cart is put on s

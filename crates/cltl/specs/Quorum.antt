@@ -8,7 +8,7 @@ use lib.Dec.{T, leb, eqb, leb→le, eqb→eq, le→leb}
 use lib.Ieee.Fits.{eq→eqb}
 use Rattle.row.specs.Lasso.{nextStep, stepOf}
 use Rattle.row.specs.Round.{step-low, step-below, step-next}
-use Rattle.cltl.specs.Rules.{tally, every, window, quorum}
+use Rattle.cltl.specs.Rules.{tally, every, window, throughout, quorum}
 use Rattle.cltl.specs.Basics.{and-l, and-r, and-i, or-l, or-r, or-cases, join-mono}
 use Rattle.cltl.specs.Tally.{every-at, every-of, every-agrees, tally-mono, tally-all}
 
@@ -59,45 +59,44 @@ module _ (h l : ℕ) where
       and-true false = refl
 
   module _ (carts m : ℕ) (f : ℕ → ℕ → Bool) where
-    -- the carts that satisfy it all along
-    abbrev pub throughout : ℕ → ℕ → ℕ
-    throughout d s = tally (λ i. window h l (f i) d s) carts
+    abbrev along : ℕ → ℕ → ℕ
+    along d s = throughout h l carts d f s
 
-    pub quorum-cases : (d s : ℕ) → T (quorum h l carts d m f s) → (m ≤ throughout d s) ⊎ ((m ≡ 1) × ((i : ℕ) → i < carts → T (f i s)))
+    pub quorum-cases : (d s : ℕ) → T (quorum h l carts d m f s) → (m ≤ along d s) ⊎ ((m ≡ 1) × ((i : ℕ) → i < carts → T (f i s)))
     unfolding quorum
     quorum-cases d s y =
         let all : Bool = every (λ i. f i s) carts in
         ⊎-elim (λ z. inl (leb→le m _ z)) (λ z. inr (eqb→eq m 1 (and-l (eqb m 1) all z), λ i h. every-at (λ i. f i s) carts i h (and-r (eqb m 1) all z)))
-        (or-cases (leb m (throughout d s)) (eqb m 1 && all) y)
+        (or-cases (leb m (along d s)) (eqb m 1 && all) y)
 
     pub quorum-mono : (d d′ s : ℕ) → d′ ≤ d → T (quorum h l carts d m f s) → T (quorum h l carts d′ m f s)
     unfolding quorum
     quorum-mono d d′ s q y =
         let all : Bool = eqb m 1 && every (λ i. f i s) carts in
-        join-mono false (leb m (throughout d s)) (leb m (throughout d′ s)) all all
+        join-mono false (leb m (along d s)) (leb m (along d′ s)) all all
         (λ z.
-        let a = leb→le m (throughout d s) z in
-        let b : throughout d s ≤ throughout d′ s = tally-mono _ _ (λ i. window-mono (f i) d d′ s q) carts in
-        le→leb m (throughout d′ s) (omega arith))
+        let a = leb→le m (along d s) z in
+        let b : along d s ≤ along d′ s = tally-mono _ _ (λ i. window-mono (f i) d d′ s q) carts in
+        le→leb m (along d′ s) (omega arith))
         (λ z. z) y
 
-    pub throughout-quorum : (d s : ℕ) → m ≤ throughout d s → T (quorum h l carts d m f s)
+    pub throughout-quorum : (d s : ℕ) → m ≤ along d s → T (quorum h l carts d m f s)
     unfolding quorum
-    throughout-quorum d s q = or-l (leb m (throughout d s)) _ (le→leb _ _ q)
+    throughout-quorum d s q = or-l (leb m (along d s)) _ (le→leb _ _ q)
 
     pub all-quorum : (d s : ℕ) → m ≡ 1 → ((i : ℕ) → i < carts → T (f i s)) → T (quorum h l carts d m f s)
     unfolding quorum
     all-quorum d s e x =
         let all : Bool = every (λ i. f i s) carts in
-        or-r (leb m (throughout d s)) (eqb m 1 && all) (and-i (eqb m 1) all (eq→eqb e) (every-of (λ i. f i s) carts x))
+        or-r (leb m (along d s)) (eqb m 1 && all) (and-i (eqb m 1) all (eq→eqb e) (every-of (λ i. f i s) carts x))
 
     -- without drift: at least m carts at the step
     pub quorum-none : (s : ℕ) → 0 < carts → T (quorum h l carts 0 m f s) → s < h → m ≤ tally (λ i. f i s) carts
     quorum-none s some y q =
-        let e : throughout 0 s ≤ tally (λ i. f i s) carts = tally-mono _ _ (λ i x. subst T (window-none (f i) s q) x) carts in
+        let e : along 0 s ≤ tally (λ i. f i s) carts = tally-mono _ _ (λ i x. subst T (window-none (f i) s q) x) carts in
         ⊎-elim (λ z. omega arith) (λ z. let e = tally-all (λ i. f i s) carts (z .1) in omega arith) (quorum-cases 0 s y)
 
     pub none-quorum : (s : ℕ) → s < h → m ≤ tally (λ i. f i s) carts → T (quorum h l carts 0 m f s)
     none-quorum s q y =
-        let e : tally (λ i. f i s) carts ≤ throughout 0 s = tally-mono _ _ (λ i x. subst T (sym (window-none (f i) s q)) x) carts in
+        let e : tally (λ i. f i s) carts ≤ along 0 s = tally-mono _ _ (λ i x. subst T (sym (window-none (f i) s q)) x) carts in
         throughout-quorum 0 s (omega arith)

@@ -37,10 +37,14 @@ module _ (h l : ℕ) where
   unfoldable pub window : (ℕ → Bool) → ℕ → ℕ → Bool
   window f d s = every (λ j. f (stepOf h l (s + j))) (suc d)
 
+  -- how many carts satisfy a text at all of them
+  abbrev pub throughout : (carts d : ℕ) → (ℕ → ℕ → Bool) → ℕ → ℕ
+  throughout carts d f s = tally (λ i. window (f i) d s) carts
+
   -- "a count with threshold m is true if at least m carts satisfy the inner text at all of counters s to s + d; with m = 1 also if all N carts
   -- satisfy it at s itself"
   unfoldable pub quorum : (carts d m : ℕ) → (ℕ → ℕ → Bool) → ℕ → Bool
-  quorum carts d m f s = leb m (tally (λ i. window (f i) d s) carts) || (eqb m 1 && every (λ i. f i s) carts)
+  quorum carts d m f s = leb m (throughout carts d f s) || (eqb m 1 && every (λ i. f i s) carts)
 
   -- the operators, over any rule for the leaves
   module _ {L : Type 0} (rule : Bool → L → ℕ → Bool) where

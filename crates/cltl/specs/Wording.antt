@@ -9,9 +9,9 @@ use Rattle.grammar.specs.Grammar.{leaf, neg, Inner, counted}
 use Rattle.row.specs.Round.{step-low}
 use Rattle.cltl.specs.Threshold.{threshold, distance, Nearest, quota}
 use Rattle.cltl.specs.Meaning.{Rows, Proper, AtLeast, Satisfies}
-use Rattle.cltl.specs.Rules.{window, judge, inner, count, rules}
+use Rattle.cltl.specs.Rules.{window, throughout, judge, inner, count, rules}
 use Rattle.cltl.specs.Inner.{inner-sound, inner-complete}
-use Rattle.cltl.specs.Quorum.{throughout, window-at, window-of, quorum-cases, throughout-quorum, all-quorum}
+use Rattle.cltl.specs.Quorum.{window-at, window-of, quorum-cases, throughout-quorum, all-quorum}
 use Rattle.cltl.specs.Tally.{tally-least, tally-le, tally-most, tally-not}
 
 threshold-nearest : (k N : ℕ) → Nearest k N (threshold k true N)
@@ -50,7 +50,7 @@ module _ (P : Rows) (proper : Proper P) (d s : ℕ) (low : s < P .h) (a : Inner)
   abbrev all : ℕ → Bool
   all i = window (P .h) (P .l) (at i) d s
 
-  enough : AtLeast Throughout m (P .carts) → m ≤ throughout (P .h) (P .l) (P .carts) m at d s
+  enough : AtLeast Throughout m (P .carts) → m ≤ throughout (P .h) (P .l) (P .carts) d at s
   enough x =
       let y =
       tally-most (λ i. not (all i)) Throughout (P .carts)
