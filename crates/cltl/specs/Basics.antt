@@ -49,6 +49,20 @@ pub mix-mono : (p x x′ y y′ z z′ : Bool) → (T x → T x′) → (T y →
 mix-mono true x x′ y y′ z z′ f g k = join-mono false y y′ (x && z) (x′ && z′) g (join-mono true x x′ z z′ f k)
 mix-mono false x x′ y y′ z z′ f g k = join-mono true y y′ (x || z) (x′ || z′) g (join-mono false x x′ z z′ f k)
 
+-- what makes no difference beside what it implies
+pub or-absorb : (z x : Bool) → (T z → T x) → (z || x) ≡ x
+or-absorb true true h = refl
+or-absorb true false h = absurd (h tt)
+or-absorb false x h = refl
+
+-- nor where until asks for a or b, and release for a
+pub mix-absorb : (p z a b rest : Bool) → (T z → T (join (not p) a b)) → mix p (z || a) b rest ≡ mix p a b rest
+mix-absorb p false a b rest h = refl
+mix-absorb p true true b rest h = refl
+mix-absorb true true false true rest h = refl
+mix-absorb true true false false rest h = absurd (h tt)
+mix-absorb false true false b rest h = absurd (h tt)
+
 pub join-not : (p x y : Bool) → join (not p) (not x) (not y) ≡ not (join p x y)
 join-not true true y = refl
 join-not true false y = refl

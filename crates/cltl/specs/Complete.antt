@@ -101,7 +101,7 @@ module _ (h l carts d m : ℕ) (some : 0 < carts) (f : ℕ → ℕ → Bool) (s 
       ahead = λ i q. let a = gone-is i .low in omega arith;
       last = (i, p, omega arith);
     },
-    let a : tally (λ i. f i (stepOf h l (s + gone i))) carts ≤ throughout h l carts d f s = tally-mono _ _ stays carts in let b = few in omega arith,
+    let a : tally (λ i. f i (stepOf h l (s + gone i))) carts ≤ throughout h l carts d f s = tally-mono _ _ carts (λ i _. stays i) in let b = few in omega arith,
   )
 
   -- all fail later on, and m is above 1: the first cart is put on s

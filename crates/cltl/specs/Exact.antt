@@ -7,14 +7,16 @@ use native.Mathlib.Omega.{arith}
 use lib.Dec.{T}
 use Rattle.grammar.specs.Grammar.{Inner, Counted, counted, Clause}
 use Rattle.row.specs.Lasso.{stepOf}
+use Rattle.row.specs.Round.{step-below}
 use Rattle.cltl.specs.Threshold.{threshold, quota}
 use Rattle.cltl.specs.Meaning.{Rows, Proper, inStep, Counts, InStepAt}
-use Rattle.cltl.specs.Rules.{tally, inner, count, rules}
+use Rattle.cltl.specs.Rules.{tally, judge, nothing, leaves, inner, asked, text, count, someText, joined, rules, plainRules}
 use Rattle.cltl.specs.Basics.{lt-or-le, bool-opp}
 use Rattle.cltl.specs.Broken.{Val}
-use Rattle.cltl.specs.Operators.{exact-sound, exact-complete}
+use Rattle.cltl.specs.Operators.{judge-plain, exact-sound, exact-complete}
 use Rattle.cltl.specs.Inner.{inner-opp}
-use Rattle.cltl.specs.Quorum.{quorum-none, none-quorum}
+use Rattle.cltl.specs.Quorum.{throughout-none, quorum-none, none-quorum}
+use Rattle.cltl.specs.Joint.{some-map, leaf-ruled, pigeonhole, joint-more}
 use Rattle.cltl.specs.Tally.{tally-not}
 use Rattle.cltl.specs.Hindmost.{least-at}
 use Rattle.cltl.specs.Sound.{count-sound}
@@ -53,10 +55,30 @@ module _ (P : Rows) (proper : Proper P) where
       let b = least-at (P .carts) 0 (proper .some) (inStep (P .carts)) t in
       count-sound P proper 0 (inStep (P .carts)) p x t (subst (λ (v : ℕ). T (count P 0 p x (stepOf (P .h) (P .l) v))) (b .2) y)
 
-  -- at every moment
-  pub rules-exact : (c : Clause) (t : ℕ) → T (rules P 0 c (stepOf (P .h) (P .l) t)) ↔ InStepAt P c t
-  unfolding rules
-  rules-exact c t = (
+  -- a count of those that are joined is true by itself, by the pigeonhole
+  joined-none : (p : Bool) (c : Clause) (s : ℕ) → s < P .h → T (joined P 0 p c s) → T (judge (P .h) (P .l) (count P 0) nothing p c s)
+  unfolding joined count
+  joined-none p c s q z =
+      let xs = leaves p c in
+      let many = joint-more P 0 xs s z in
+      let there = throughout-none (P .h) (P .l) (P .carts) (someText P xs) s q in
+      leaf-ruled (P .h) (P .l) (count P 0) nothing s p c (some-map _ _ reached xs (pigeonhole P (λ i. s) (P .carts) xs (omega arith)))
+    where
+      reached : (x : Bool × Counted) → asked P x ≤ tally (λ i. text P i x s) (P .carts) → T (count P 0 (x .0) (x .1) s)
+      reached x z = none-quorum (P .h) (P .l) (P .carts) (asked P x) (λ i. text P i x) s q z
+
+  -- "Drift 0 gives the old verdicts."
+  pub rules-plain : (c : Clause) (s : ℕ) → s < P .h → rules P 0 c s ≡ plainRules P 0 c s
+  unfolding rules plainRules
+  rules-plain c s q = judge-plain (P .h) (P .l) (proper .lap) (count P 0) (joined P 0) joined-none true c s q
+
+  plain-exact : (c : Clause) (t : ℕ) → T (plainRules P 0 c (stepOf (P .h) (P .l) t)) ↔ InStepAt P c t
+  unfolding plainRules
+  plain-exact c t = (
     λ x. exact-sound (P .h) (P .l) (proper .lap) (count P 0) (Counts P (inStep (P .carts) .at)) step-sound count-opps true c t x,
     λ v. exact-complete (P .h) (P .l) (proper .lap) (count P 0) (Counts P (inStep (P .carts) .at)) step-sound count-opps true c t v,
   )
+
+  -- at every moment
+  pub rules-exact : (c : Clause) (t : ℕ) → T (rules P 0 c (stepOf (P .h) (P .l) t)) ↔ InStepAt P c t
+  rules-exact c t = rw (rules-plain c (stepOf (P .h) (P .l) t) (step-below (P .h) (P .l) (proper .lap) t)) (plain-exact c t)

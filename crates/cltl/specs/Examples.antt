@@ -9,7 +9,7 @@ use Rattle.grammar.specs.Grammar.{top, leaf, neg, and, next, until, release, ev
 use Rattle.row.specs.Lasso.{nextStep, stepOf}
 use Rattle.cltl.specs.Threshold.{threshold, quota}
 use Rattle.cltl.specs.Meaning.{Rows, Run, Bears, Satisfies}
-use Rattle.cltl.specs.Rules.{fix, window, quorum, tally, every, judge, mark, inner, count, rules, hasNext}
+use Rattle.cltl.specs.Rules.{fix, window, quorum, tally, every, leaves, judge, mark, inner, count, slack, someText, joint, joined, rules, hasNext}
 use Rattle.cltl.specs.Step.{lowest, failing}
 
 -- tests of a step
@@ -43,7 +43,7 @@ judged d c = (rules places d c 0, failing places d c)
 
 -- the definitions that the table computes with, under one name
 computing : ℕ → Clause → Bool × ℕ
-unfolding threshold quota tally every fix window quorum nextStep stepOf judge mark inner count rules lowest failing
+unfolding threshold quota tally every fix window quorum nextStep stepOf leaves judge mark inner count slack someText joint joined rules lowest failing
 computing d c = judged d c
 
 pub worked :

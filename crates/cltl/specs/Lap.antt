@@ -1,7 +1,7 @@
 -- Until and release round the lap.
 use Prim.Native.Nat.{ℕ, zero, suc, _+_, _-_, _≤_, _<_}
 use mathlib.Core.Path.{_≡_, refl, sym, subst, ap, _∙_}
-use mathlib.Core.Bool.{Bool, true, false, not, Bool·not-not}
+use mathlib.Core.Bool.{Bool, true, false, not, _||_, Bool·not-not}
 use mathlib.Core.Logic.{_⊎_, ⊎-elim}
 use native.Mathlib.Omega.{arith}
 use native.Mathlib.Nat.{eq-or-lt-of-le, le-refl}
@@ -9,9 +9,9 @@ use lib.Dec.{T}
 use Rattle.row.specs.Lasso.{nextStep, stepOf}
 use Rattle.row.specs.Round.{step-low, step-next, step-lap, next-below}
 use Rattle.cltl.specs.Meaning.{Until}
-use Rattle.cltl.specs.Rules.{mix, fix}
+use Rattle.cltl.specs.Rules.{join, mix, fix}
 use Rattle.cltl.specs.Pace.{until-here, until-later}
-use Rattle.cltl.specs.Basics.{lt-or-le, bool-ext, and-i, or-l, or-r, or-cases, and-l, and-r, mix-mono, mix-not}
+use Rattle.cltl.specs.Basics.{lt-or-le, bool-ext, and-i, or-l, or-r, or-cases, and-l, and-r, mix-mono, mix-not, mix-absorb}
 
 module _ (h l : ℕ) where
   -- more is true of more
@@ -138,3 +138,12 @@ module _ (h l : ℕ) where
     unfolding fix
     fix-cong p a b a′ b′ f g zero s q = refl
     fix-cong p a b a′ b′ f g (suc n) s q = rw (f s q, g s q, fix-cong p a b a′ b′ f g n (nextStep h l s) (next-below h l ok s))
+
+    -- a further truth makes no difference where until has a or b already, and release a and b
+    pub fix-absorb : (p : Bool) (z a b : ℕ → Bool) → ((s : ℕ) → s < h → T (z s) → T (join (not p) (a s) (b s))) → (n s : ℕ) → s < h
+        → fix h l p (λ s. z s || a s) b n s ≡ fix h l p a b n s
+    unfolding fix
+    fix-absorb p z a b f zero s q = refl
+    fix-absorb p z a b f (suc n) s q =
+        let t : ℕ = nextStep h l s in
+        rw (fix-absorb p z a b f n t (next-below h l ok s)) (mix-absorb p (z s) (a s) (b s) (fix h l p a b n t) (f s q))

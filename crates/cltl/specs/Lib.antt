@@ -8,16 +8,19 @@ pub mod Broken
 pub mod Promises
 -- worked cases
 pub mod Examples
+pub mod JointExamples
 -- laws
 pub mod Basics
 pub mod Pace
 pub mod Lap
 pub mod Operators
 pub mod Wording
+pub mod JointWording
 pub mod Tally
 pub mod Hindmost
 pub mod Inner
 pub mod Quorum
+pub mod Joint
 pub mod Sound
 pub mod Monotone
 pub mod Exact

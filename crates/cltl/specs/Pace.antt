@@ -17,6 +17,17 @@ until-here t b = (t, le-refl t, b, λ w p q. absurd (omega arith))
 pub until-later : {A B : ℕ → Type 0} (t : ℕ) → A t → Until A B (suc t) → Until A B t
 until-later {A} {B} t a h = (h .0, omega arith, h .2, λ w p q. ⊎-elim (λ e. subst A e a) (λ e. h .3 w e q) (eq-or-lt-of-le p))
 
+-- "a or b" up to where b comes: a up to where b comes first
+either-within : {A B : ℕ → Type 0} (n t u : ℕ) → t ≤ u → u ≤ t + n → B u → ((w : ℕ) → t ≤ w → w < u → A w ⊎ B w) → Until A B t
+either-within {A} {B} zero t u p q b f = let e : u ≡ t = omega arith in until-here t (subst B e b)
+either-within {A} {B} (suc n) t u p q b f =
+    ⊎-elim (λ e. until-here t (subst B (sym e) b))
+    (λ e. ⊎-elim (λ a. until-later t a (either-within n (suc t) u e (omega arith) b (λ w x y. f w (omega arith) y))) (λ z. until-here t z) (f t (le-refl t) e))
+    (eq-or-lt-of-le p)
+
+pub until-either : {A B : ℕ → Type 0} {t : ℕ} → Until (λ w. A w ⊎ B w) B t → Until A B t
+until-either {A} {B} {t} h = either-within (h .0 - t) t (h .0) (h .1) (omega (arith, h .1)) (h .2) (h .3)
+
 pub record Pace (lo : ℕ → ℕ) : Type 0 where
   pub up : (t : ℕ) → lo t ≤ lo (suc t)
   pub one : (t : ℕ) → lo (suc t) ≤ suc (lo t)

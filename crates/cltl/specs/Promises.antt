@@ -1,28 +1,33 @@
 -- What is claimed of cLTL+, for any rows with a cart and a lap, any clauses and drifts.
 use Prim.Native.Nat.{ℕ, suc, _+_, _*_, _-_, _≤_, _<_}
-use mathlib.Core.Path.{_≡_, refl, subst}
+use mathlib.Core.Path.{_≡_, refl, subst, _∙_}
 use mathlib.Core.Bool.{Bool, true, false, _&&_, _||_}
+use mathlib.Core.List.{List}
 use mathlib.Core.Logic.{_⊎_, _↔_}
 use native.Mathlib.Omega.{arith}
 use lib.Dec.{T}
+use lib.ListN.{length}
 use Rattle.cltl.specs.Globally.{globally-broken}
 use Rattle.grammar.specs.Grammar.{top, leaf, neg, and, or, next, until, release, ev, gl, Inner, Counted, counted, Clause}
 use Rattle.row.specs.Lasso.{nextStep, stepOf}
 use Rattle.row.specs.Round.{step-low}
 use Rattle.cltl.specs.Threshold.{threshold, Nearest, quota}
 use Rattle.cltl.specs.Meaning.{Rows, Proper, Until, AtLeast, Run, Satisfies, Counts, TrueOf, InStepAt, TrueInStep}
-use Rattle.cltl.specs.Rules.{judge, inner, count, rules, hasNext}
+use Rattle.cltl.specs.Rules.{judge, leaves, inner, asked, count, slack, joint, joined, rules, plainRules, hasNext}
 use Rattle.cltl.specs.Lap.{fix-law, reach, forever}
 use Rattle.cltl.specs.Wording.{nearest, none-below-half, count-holds, asks-none}
+use Rattle.cltl.specs.Pace.{until-map}
+use Rattle.cltl.specs.Joint.{Some}
+use Rattle.cltl.specs.JointWording.{Text, total, asks, ask-or, slack-total, asks-no-cart, plain-kept, joint-holds}
 use Rattle.cltl.specs.Inner.{inner-sound, inner-complete}
 use Rattle.cltl.specs.Sound.{rules-sound}
 use Rattle.cltl.specs.Monotone.{rules-mono}
-use Rattle.cltl.specs.Exact.{rules-exact}
+use Rattle.cltl.specs.Exact.{rules-plain, rules-exact}
 use Rattle.cltl.specs.Standing.{gather, gathered, highest}
 use Rattle.cltl.specs.Broken.{countOr, Broken}
 use Rattle.cltl.specs.Complete.{count-complete}
 
----- 'The sheet' and 'Drift rules', in document 01's words, and percentages in document 02's.
+---- 'The sheet' and 'Drift rules', in document 01's words; percentages and ors of counts in document 02's.
 -- "A percentage becomes a number of carts", "rounded to the nearest cart, a half going up": its threshold is that number and no other
 pub percentage : (k N m : ℕ) → (m ≡ threshold k true N) ↔ Nearest k N m
 percentage = nearest
@@ -51,7 +56,7 @@ module _ (P : Rows) (d s : ℕ) where
   -- "F a is true U a; G a is !F !a; a R b is !(!a U !b)."
   pub written-out : (a b : Clause)
       → (Here (ev a) ≡ Here (until top a)) × (Here (gl a) ≡ Here (neg (ev (neg a)))) × (Here (release a b) ≡ Here (neg (until (neg a) (neg b))))
-  unfolding rules judge
+  unfolding rules judge leaves joint joined
   written-out a b = (refl, refl, refl)
 
   -- "Negations outside counts are first driven inward."
@@ -59,7 +64,7 @@ module _ (P : Rows) (d s : ℕ) where
       → (Here (neg (neg a)) ≡ Here a) × (Here (neg (and a b)) ≡ Here (or (neg a) (neg b))) × (Here (neg (or a b)) ≡ Here (and (neg a) (neg b)))
       × (Here (neg (next a)) ≡ Here (next (neg a))) × (Here (neg (until a b)) ≡ Here (release (neg a) (neg b)))
       × (Here (neg (release a b)) ≡ Here (until (neg a) (neg b))) × (Here (neg (ev a)) ≡ Here (gl (neg a))) × (Here (neg (gl a)) ≡ Here (ev (neg a)))
-  unfolding rules judge
+  unfolding rules judge leaves joined
   inward a b = (refl, refl, refl, refl, refl, refl, refl, refl)
 
   -- "Then !`[a,m]` becomes `[!a,N+1−m]`, N being the carts, never below 0."
@@ -69,11 +74,26 @@ module _ (P : Rows) (d s : ℕ) where
   negated-count a k true = refl
   negated-count a k false = refl
 
-  -- "`true` holds and its negation doesn't; an and is true if both sides are, an or if either is"
-  pub plain-rules : (a b : Clause)
-      → (Here top ≡ true) × (Here (neg top) ≡ false) × (Here (and a b) ≡ (Here a && Here b)) × (Here (or a b) ≡ (Here a || Here b))
-  unfolding rules judge
-  plain-rules a b = (refl, refl, refl, refl)
+  -- "`true` holds and its negation doesn't; an and is true if both sides are"
+  pub plain-rules : (a b : Clause) → (Here top ≡ true) × (Here (neg top) ≡ false) × (Here (and a b) ≡ (Here a && Here b))
+  unfolding rules judge leaves joint joined
+  plain-rules a b = (refl, refl, refl)
+
+  -- ".. an or if either is", and by document 02 "also" as its counts are joined
+  pub or-rule : (a b : Clause) → Here (or a b) ≡ (joint P d (leaves true (or a b)) s || (Here a || Here b))
+  unfolding rules judge joined
+  or-rule a b = refl
+
+  -- whatever is kept without joining is kept
+  pub no-less : (c : Clause) → T (plainRules P d c s) → T (Here c)
+  no-less c x = plain-kept P d c s x
+
+  -- a threshold of 0, from which no 1 can be subtracted: then the or is true already, and else the sum is that of the thresholds less one for each count
+  pub no-threshold : (c : Clause) → Some (λ x. asked P x ≡ 0) (leaves true c) → T (Here c)
+  no-threshold c z = asks-no-cart P d c s z
+
+  pub sum-less : (xs : List (Bool × Counted)) → Some (λ x. asked P x ≡ 0) xs ⊎ (slack P xs + length xs ≡ total P xs)
+  sum-less xs = slack-total P xs
 
   -- "With d = 0, X outside counts looks one step on." With d above 0 it is refused before (16).
   pub next-rule : (a : Clause) → Here (next a) ≡ rules P d a after
@@ -90,28 +110,38 @@ module _ (P : Rows) (d s : ℕ) where
         ((m ≡ 1) × ((i : ℕ) → i < P .carts → Satisfies P i a s)))
     count-rule a k percent = count-holds P proper d s low a k percent
 
+    -- "more carts than the sum of (threshold − 1) satisfy the or of the inner texts at all of counters s to s + d": at each of them some text, and not the
+    -- same one at all
+    pub joint-rule : (xs : List (Bool × Counted)) → T (joint P d xs s)
+        ↔ AtLeast (λ i. (j : ℕ) → j ≤ d → Some (λ x. Text P i x (s + j)) xs) (suc (slack P xs)) (P .carts)
+    joint-rule xs = joint-holds P proper d s xs
+
     -- a count that asks for no cart, as a share of less than half a cart does, is true always, and its negation never
     pub no-carts : (a : Inner) (k : ℕ) (percent : Bool) → threshold k percent (P .carts) ≡ 0
         → T (Here (leaf (counted a k percent))) × (T (Here (neg (leaf (counted a k percent)))) → ⊥)
     no-carts a k percent none = asks-none P proper d s low a k percent none
 
     module _ (a b : Clause) where
-      -- "a U b: b here, or a here and a U b at the step after, with b reached": at a counter from s on, and a up to there
-      pub until-rule : Here (until a b) ≡ (Here b || (Here a && rules P d (until a b) after))
+      -- "a U b: b here, or a here and a U b at the step after, with b reached"; "a U b then asks, where b isn't yet true, for "a or b" by this rule
+      -- instead of a": b at a counter from s on, and a or b up to there
+      pub until-rule : Here (until a b) ≡ (Here b || (Here (or a b) && rules P d (until a b) after))
       unfolding rules judge
-      until-rule = fix-law (P .h) (P .l) (proper .lap) true _ _ s low
+      until-rule =
+          fix-law (P .h) (P .l) (proper .lap) true _ _ s low ∙ ask-or (joined P d true (or a b) s) (Here a) (Here b) (rules P d (until a b) after)
 
-      pub until-reached : T (Here (until a b)) → Until (On a) (On b) s
+      pub until-reached : T (Here (until a b)) → Until (On (or a b)) (On b) s
       unfolding rules judge
-      until-reached x = reach (P .h) (P .l) (proper .lap) (λ v. rules P d a v) (λ v. rules P d b v) s (rw (step-low (P .h) (P .l) s low) x)
+      until-reached x =
+          until-map s (λ w y. asks (joined P d true (or a b) (stepOf (P .h) (P .l) w)) (rules P d a (stepOf (P .h) (P .l) w)) _ y) (λ w y. y)
+          (reach (P .h) (P .l) (proper .lap) (λ v. joined P d true (or a b) v || rules P d a v) (λ v. rules P d b v) s (rw (step-low (P .h) (P .l) s low) x))
 
       -- "a R b: b here, and either a here or a R b at the step after, with no need that a ever comes": b for ever is enough
       pub release-rule : Here (release a b) ≡ (Here b && (Here a || rules P d (release a b) after))
-      unfolding rules judge
+      unfolding rules judge leaves joint joined
       release-rule = fix-law (P .h) (P .l) (proper .lap) false _ _ s low
 
       pub release-unended : ((u : ℕ) → s ≤ u → On b u) → T (Here (release a b))
-      unfolding rules judge
+      unfolding rules judge leaves joint joined
       release-unended f = rw (step-low (P .h) (P .l) s low) at (forever (P .h) (P .l) (proper .lap) (λ v. rules P d a v) (λ v. rules P d b v) (P .h) s f)
 
 ---- Runs.
@@ -136,6 +166,10 @@ module _ (P : Rows) (proper : Proper P) where
   -- kept with every smaller drift as well, at every step
   pub smaller : (d d′ : ℕ) → d′ ≤ d → (c : Clause) (s : ℕ) → T (rules P d c s) → T (rules P d′ c s)
   smaller d d′ less c s kept = rules-mono P d d′ less c s kept
+
+  -- "Drift 0 gives the old verdicts": those of document 01 alone
+  pub old-verdicts : (c : Clause) (s : ℕ) → s < P .h → rules P 0 c s ≡ plainRules P 0 c s
+  old-verdicts c s low = rules-plain P proper c s low
 
   -- without drift exactly what is true in step, at every moment and at moment 0
   pub in-step-at : (c : Clause) (t : ℕ) → T (rules P 0 c (stepOf (P .h) (P .l) t)) ↔ InStepAt P c t

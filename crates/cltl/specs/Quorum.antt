@@ -58,6 +58,12 @@ module _ (h l : ℕ) where
       and-true true = refl
       and-true false = refl
 
+  pub throughout-mono : (carts : ℕ) (f : ℕ → ℕ → Bool) (d d′ s : ℕ) → d′ ≤ d → throughout h l carts d f s ≤ throughout h l carts d′ f s
+  throughout-mono carts f d d′ s q = tally-mono _ _ carts (λ i _. window-mono (f i) d d′ s q)
+
+  pub throughout-none : (carts : ℕ) (f : ℕ → ℕ → Bool) (s : ℕ) → s < h → throughout h l carts 0 f s ≤ tally (λ i. f i s) carts
+  throughout-none carts f s q = tally-mono _ _ carts (λ i _ x. subst T (window-none (f i) s q) x)
+
   module _ (carts m : ℕ) (f : ℕ → ℕ → Bool) where
     abbrev along : ℕ → ℕ → ℕ
     along d s = throughout h l carts d f s
@@ -74,10 +80,7 @@ module _ (h l : ℕ) where
     quorum-mono d d′ s q y =
         let all : Bool = eqb m 1 && every (λ i. f i s) carts in
         join-mono false (leb m (along d s)) (leb m (along d′ s)) all all
-        (λ z.
-        let a = leb→le m (along d s) z in
-        let b : along d s ≤ along d′ s = tally-mono _ _ (λ i. window-mono (f i) d d′ s q) carts in
-        le→leb m (along d′ s) (omega arith))
+        (λ z. let a = leb→le m (along d s) z in let b = throughout-mono carts f d d′ s q in le→leb m (along d′ s) (omega arith))
         (λ z. z) y
 
     pub throughout-quorum : (d s : ℕ) → m ≤ along d s → T (quorum h l carts d m f s)
@@ -93,10 +96,10 @@ module _ (h l : ℕ) where
     -- without drift: at least m carts at the step
     pub quorum-none : (s : ℕ) → 0 < carts → T (quorum h l carts 0 m f s) → s < h → m ≤ tally (λ i. f i s) carts
     quorum-none s some y q =
-        let e : along 0 s ≤ tally (λ i. f i s) carts = tally-mono _ _ (λ i x. subst T (window-none (f i) s q) x) carts in
+        let e = throughout-none carts f s q in
         ⊎-elim (λ z. omega arith) (λ z. let e = tally-all (λ i. f i s) carts (z .1) in omega arith) (quorum-cases 0 s y)
 
     pub none-quorum : (s : ℕ) → s < h → m ≤ tally (λ i. f i s) carts → T (quorum h l carts 0 m f s)
     none-quorum s q y =
-        let e : tally (λ i. f i s) carts ≤ along 0 s = tally-mono _ _ (λ i x. subst T (sym (window-none (f i) s q)) x) carts in
+        let e : tally (λ i. f i s) carts ≤ along 0 s = tally-mono _ _ carts (λ i _ x. subst T (sym (window-none (f i) s q)) x) in
         throughout-quorum 0 s (omega arith)

@@ -1,7 +1,9 @@
--- The drift rules of document 01, at a step. A flag says what is judged: the text itself (true), or its negation, driven inward (false).
-use Prim.Native.Nat.{ℕ, zero, suc, _+_}
+-- The drift rules of document 01 and document 02, 4), at a step. A flag says what is judged: the text itself (true), or its negation, driven inward
+-- (false).
+use Prim.Native.Nat.{ℕ, zero, suc, _+_, _-_}
 use mathlib.Core.Bool.{Bool, true, false, not, cond, _&&_, _||_}
-use lib.Dec.{leb, eqb}
+use mathlib.Core.List.{List, [], _∷_, _++_}
+use lib.Dec.{leb, ltb, eqb}
 use Rattle.grammar.specs.Grammar.{Form, top, leaf, neg, and, or, next, until, release, ev, gl, Inner, Counted, counted, Clause}
 use Rattle.row.specs.Lasso.{nextStep, stepOf}
 use Rattle.cltl.specs.Threshold.{threshold, quota}
@@ -46,19 +48,44 @@ module _ (h l : ℕ) where
   unfoldable pub quorum : (carts d m : ℕ) → (ℕ → ℕ → Bool) → ℕ → Bool
   quorum carts d m f s = leb m (throughout carts d f s) || (eqb m 1 && every (λ i. f i s) carts)
 
-  -- the operators, over any rule for the leaves
-  module _ {L : Type 0} (rule : Bool → L → ℕ → Bool) where
+  -- The operators, over any rule for the leaves and any rule by which an or "is also true". The flag says which are ors: a | b, and !(a & b).
+  -- "a U b then asks, where b isn't yet true, for "a or b" by this rule instead of a": for a, or for what else makes the or true.
+  module _ {L : Type 0} (rule : Bool → L → ℕ → Bool) (also : Bool → Form L → ℕ → Bool) where
     unfoldable pub judge : Bool → Form L → ℕ → Bool
     judge p top s = p
     judge p (leaf x) s = rule p x s
     judge p (neg a) s = judge (not p) a s
-    judge p (and a b) s = join p (judge p a s) (judge p b s)
-    judge p (or a b) s = join (not p) (judge p a s) (judge p b s)
+    judge p (and a b) s = also p (and a b) s || join p (judge p a s) (judge p b s)
+    judge p (or a b) s = also p (or a b) s || join (not p) (judge p a s) (judge p b s)
     judge p (next a) s = judge p a (nextStep h l s)
-    judge p (until a b) s = fix p (λ s. judge p a s) (λ s. judge p b s) h s
-    judge p (release a b) s = fix (not p) (λ s. judge p a s) (λ s. judge p b s) h s
+    judge p (until a b) s = fix p (λ s. also p (or a b) s || judge p a s) (λ s. judge p b s) h s
+    judge p (release a b) s = fix (not p) (λ s. also p (and a b) s || judge p a s) (λ s. judge p b s) h s
     judge p (ev a) s = fix p (λ s. p) (λ s. judge p a s) h s
     judge p (gl a) s = fix (not p) (λ s. not p) (λ s. judge p a s) h s
+
+-- no or is true but by a side
+abbrev pub nothing : {L : Type 0} → Bool → Form L → ℕ → Bool
+nothing p c s = false
+
+-- The counts of "an or whose sides, through nested ors, are all counts", each with its flag. A count has itself, and whatever else there is has none.
+module _ {L : Type 0} where
+  -- of two sides, if both have some
+  abbrev pub both : List (Bool × L) → List (Bool × L) → List (Bool × L)
+  both [] ys = []
+  both (x ∷ xs) [] = []
+  both (x ∷ xs) (y ∷ ys) = (x ∷ xs) ++ (y ∷ ys)
+
+  unfoldable pub leaves : Bool → Form L → List (Bool × L)
+  leaves p top = []
+  leaves p (leaf x) = (p, x) ∷ []
+  leaves p (neg a) = leaves (not p) a
+  leaves p (and a b) = cond p [] (both (leaves p a) (leaves p b))
+  leaves p (or a b) = cond p (both (leaves p a) (leaves p b)) []
+  leaves p (next a) = []
+  leaves p (until a b) = []
+  leaves p (release a b) = []
+  leaves p (ev a) = []
+  leaves p (gl a) = []
 
 module _ (P : Rows) where
   unfoldable pub mark : ℕ → Bool → ℕ → ℕ → Bool
@@ -67,14 +94,44 @@ module _ (P : Rows) where
 
   -- cart i satisfies inner text, or its negation
   unfoldable pub inner : ℕ → Bool → Inner → ℕ → Bool
-  inner i p a s = judge (P .h) (P .l) (mark i) p a s
+  inner i p a s = judge (P .h) (P .l) (mark i) nothing p a s
+
+  -- a count, or its negation: its threshold, and whether cart i satisfies its text
+  abbrev pub asked : Bool × Counted → ℕ
+  asked (p, counted a k percent) = quota p (threshold k percent (P .carts)) (P .carts)
+
+  abbrev pub text : ℕ → Bool × Counted → ℕ → Bool
+  text i (p, counted a k percent) s = inner i p a s
 
   unfoldable pub count : ℕ → Bool → Counted → ℕ → Bool
-  count d p (counted a k percent) s = quorum (P .h) (P .l) (P .carts) d (quota p (threshold k percent (P .carts)) (P .carts)) (λ i. inner i p a) s
+  count d p x s = quorum (P .h) (P .l) (P .carts) d (asked (p, x)) (λ i. text i (p, x)) s
+
+  -- "the sum of (threshold − 1)"; a count that asks for none is true by itself
+  unfoldable pub slack : List (Bool × Counted) → ℕ
+  slack [] = 0
+  slack (x ∷ xs) = (asked x - 1) + slack xs
+
+  -- "the or of the inner texts"
+  unfoldable pub someText : List (Bool × Counted) → ℕ → ℕ → Bool
+  someText [] i s = false
+  someText (x ∷ xs) i s = text i x s || someText xs i s
+
+  -- "An or whose sides, through nested ors, are all counts is also true if more carts than the sum of (threshold − 1) satisfy the or of the inner
+  -- texts at all of counters s to s + d."
+  unfoldable pub joint : ℕ → List (Bool × Counted) → ℕ → Bool
+  joint d [] s = false
+  joint d (x ∷ xs) s = ltb (slack (x ∷ xs)) (throughout (P .h) (P .l) (P .carts) d (someText (x ∷ xs)) s)
+
+  unfoldable pub joined : ℕ → Bool → Clause → ℕ → Bool
+  joined d p c s = joint d (leaves p c) s
 
   -- a clause with drift d at a step
   unfoldable pub rules : ℕ → Clause → ℕ → Bool
-  rules d c s = judge (P .h) (P .l) (count d) true c s
+  rules d c s = judge (P .h) (P .l) (count d) (joined d) true c s
+
+  -- the same by document 01 alone, where an or is true only if a side is
+  unfoldable pub plainRules : ℕ → Clause → ℕ → Bool
+  plainRules d c s = judge (P .h) (P .l) (count d) nothing true c s
 
 -- X outside a count
 abbrev pub hasNext : {L : Type 0} → Form L → Bool

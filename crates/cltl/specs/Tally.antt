@@ -110,10 +110,10 @@ cond-mono true false k k′ f h = absurd (f tt)
 cond-mono false true k k′ f h = omega arith
 cond-mono false false k k′ f h = h
 
-pub tally-mono : (f g : ℕ → Bool) → ((i : ℕ) → T (f i) → T (g i)) → (n : ℕ) → tally f n ≤ tally g n
+pub tally-mono : (f g : ℕ → Bool) (n : ℕ) → ((i : ℕ) → i < n → T (f i) → T (g i)) → tally f n ≤ tally g n
 unfolding tally
-tally-mono f g h zero = omega arith
-tally-mono f g h (suc n) = cond-mono (f n) (g n) (tally f n) (tally g n) (h n) (tally-mono f g h n)
+tally-mono f g zero h = omega arith
+tally-mono f g (suc n) h = cond-mono (f n) (g n) (tally f n) (tally g n) (h n (le-refl (suc n))) (tally-mono f g n (λ i p. h i (omega arith)))
 
 pub tally-all : (f : ℕ → Bool) (n : ℕ) → ((i : ℕ) → i < n → T (f i)) → tally f n ≡ n
 unfolding tally

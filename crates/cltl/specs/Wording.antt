@@ -6,6 +6,7 @@ use mathlib.Core.Logic.{_⊎_, inl, inr, ⊎-elim, _↔_}
 use native.Mathlib.Omega.{arith}
 use lib.Dec.{T, T-not}
 use Rattle.grammar.specs.Grammar.{leaf, neg, Inner, counted}
+use Rattle.row.specs.Lasso.{stepOf}
 use Rattle.row.specs.Round.{step-low}
 use Rattle.cltl.specs.Threshold.{threshold, distance, Nearest, quota}
 use Rattle.cltl.specs.Meaning.{Rows, Proper, AtLeast, Satisfies}
@@ -36,38 +37,44 @@ pub none-below-half : (k N : ℕ) → (threshold k true N ≡ 0) ↔ (2 * (k * N
 unfolding threshold
 none-below-half k N = (λ e. omega arith, λ q. omega arith)
 
-module _ (P : Rows) (proper : Proper P) (d s : ℕ) (low : s < P .h) (a : Inner) (k : ℕ) (percent : Bool) where
-  -- cart i satisfies the text at all of counters s to s + d
-  abbrev pub Throughout : ℕ → Type 0
-  Throughout i = (j : ℕ) → j ≤ d → Satisfies P i a (s + j)
+-- over a test of each cart at a step that tells what it satisfies at a counter: m carts pass it throughout exactly if m satisfy it at all of counters s to
+-- s + d
+module _ (h l carts : ℕ) (f : ℕ → ℕ → Bool) (Sat : ℕ → ℕ → Type 0) (exact : (i v : ℕ) → T (f i (stepOf h l v)) ↔ Sat i v) (d s m : ℕ) where
+  abbrev Throughout : ℕ → Type 0
+  Throughout i = (j : ℕ) → j ≤ d → Sat i (s + j)
 
+  abbrev all : ℕ → Bool
+  all i = window h l (f i) d s
+
+  pub throughout-holds : (m ≤ throughout h l carts d f s) ↔ AtLeast Throughout m carts
+  throughout-holds = (
+    λ q. tally-least all Throughout carts (λ i p y j z. exact i (s + j) .0 (window-at h l (f i) d s j z y)) m q,
+    λ x.
+        let y =
+        tally-most (λ i. not (all i)) Throughout carts (λ i p z w. T-not (all i) z (window-of h l (f i) d s (λ j q. exact i (s + j) .1 (w j q)))) m x in
+        let e = tally-not all (λ i. not (all i)) (λ i. sym (Bool·not-not (all i))) carts in
+        omega arith,
+  )
+
+module _ (P : Rows) (proper : Proper P) (d s : ℕ) (low : s < P .h) (a : Inner) (k : ℕ) (percent : Bool) where
   abbrev m : ℕ
   m = threshold k percent (P .carts)
 
   abbrev at : ℕ → ℕ → Bool
   at i v = inner P i true a v
 
-  abbrev all : ℕ → Bool
-  all i = window (P .h) (P .l) (at i) d s
-
-  enough : AtLeast Throughout m (P .carts) → m ≤ throughout (P .h) (P .l) (P .carts) d at s
-  enough x =
-      let y =
-      tally-most (λ i. not (all i)) Throughout (P .carts)
-      (λ i p z w. T-not (all i) z (window-of (P .h) (P .l) (at i) d s (λ j q. inner-complete P proper i true a (s + j) (w j q)))) m x in
-      let e = tally-not all (λ i. not (all i)) (λ i. sym (Bool·not-not (all i))) (P .carts) in
-      omega arith
+  along : (m ≤ throughout (P .h) (P .l) (P .carts) d at s) ↔ AtLeast (λ i. (j : ℕ) → j ≤ d → Satisfies P i a (s + j)) m (P .carts)
+  along =
+      throughout-holds (P .h) (P .l) (P .carts) at (λ i. Satisfies P i a) (λ i v. (inner-sound P proper i true a v, inner-complete P proper i true a v)) d s m
 
   pub count-holds : T (rules P d (leaf (counted a k percent)) s)
-      ↔ (AtLeast Throughout m (P .carts) ⊎ ((m ≡ 1) × ((i : ℕ) → i < P .carts → Satisfies P i a s)))
+      ↔ (AtLeast (λ i. (j : ℕ) → j ≤ d → Satisfies P i a (s + j)) m (P .carts) ⊎ ((m ≡ 1) × ((i : ℕ) → i < P .carts → Satisfies P i a s)))
   unfolding rules judge count quota
   count-holds = (
     λ x.
-        ⊎-elim
-        (λ q. inl (tally-least all Throughout (P .carts) (λ i p y j z. inner-sound P proper i true a (s + j) (window-at (P .h) (P .l) (at i) d s j z y)) m q))
-        (λ q. inr (q .0, λ i p. inner-sound P proper i true a s (rw (step-low (P .h) (P .l) s low) (q .1 i p))))
+        ⊎-elim (λ q. inl (along .0 q)) (λ q. inr (q .0, λ i p. inner-sound P proper i true a s (rw (step-low (P .h) (P .l) s low) (q .1 i p))))
         (quorum-cases (P .h) (P .l) (P .carts) m at d s x),
-    ⊎-elim (λ x. throughout-quorum (P .h) (P .l) (P .carts) m at d s (enough x))
+    ⊎-elim (λ x. throughout-quorum (P .h) (P .l) (P .carts) m at d s (along .1 x))
         (λ x.
         all-quorum (P .h) (P .l) (P .carts) m at d s (x .0)
         (λ i p. rw (step-low (P .h) (P .l) s low) at (inner-complete P proper i true a s (x .1 i p)))),
