@@ -1,26 +1,80 @@
--- The row of a clause, node by node.
-use Prim.Native.Nat.{ℕ, _+_, _*_, _≤_, _<_}
-use mathlib.Core.Path.{_≡_, subst}
-use mathlib.Core.Bool.{Bool}
-use mathlib.Core.List.{List}
+-- A part of a clause, node by node: its row, and its counts.
+use Prim.Native.Nat.{ℕ, zero, suc, _+_, _*_, _≤_, _<_, min}
+use mathlib.Core.Path.{_≡_, refl, sym, ap, ap₂, subst, _∙_}
+use mathlib.Core.Bool.{Bool, true, false, not, cond, _||_, or-false}
+use mathlib.Core.List.{List, [], _∷_}
 use mathlib.Core.Logic.{⊎-elim}
 use native.Mathlib.Omega.{arith}
-use lib.Dec.{eqb}
+use lib.Dec.{eqb, ltb}
 use lib.ListN.{length}
-use Rattle.grammar.specs.Grammar.{Form, top, leaf, Counted, counted}
+use borrow.Author.Tests.{ne-eqb}
+use Rattle.grammar.specs.Grammar.{Form, top, leaf, neg, Counted, counted, Clause}
+use Rattle.grammar.specs.Nodes.{countN, Op₁, neg₁, next₁, ev₁, gl₁, Op₂, and₂, or₂, until₂, release₂}
 use Rattle.cltl.specs.Threshold.{threshold, quota}
-use Rattle.cltl.specs.Meaning.{Rows}
-use Rattle.cltl.specs.Rules.{judge, count, inner, quorum}
+use Rattle.cltl.specs.Meaning.{Rows, Proper}
+use Rattle.cltl.specs.Rules.{both, leaves, judge, inner, quorum, asked, text, count, slack, someText, joint, joined}
 use Rattle.cltl.specs.Basics.{lt-or-le}
-use Rattle.mask.specs.Mask.{on, Row}
-use Rattle.drift.specs.Tree.{oneOf, twoOf, Ordered, innerTree, clauseTree}
-use Rattle.drift.specs.Operator.{under, oneRule, twoRule}
-use Rattle.drift.specs.Answer.{ClauseRow}
-use Rattle.drift.specs.Tree.{kindAt, firstAt, secondAt, thirdAt}
-use Rattle.drift.specs.Judged.{TruthIs}
-use Rattle.drift.specs.NodeTruth.{under-other, at-top, at-mark, at-count, at-one, at-two}
+use Rattle.mask.specs.Mask.{on, Row, signed}
+use Rattle.table.specs.Table.{told}
+use Rattle.table.specs.Layout.{Constants}
+use Rattle.drift.specs.declared.Judged.{Judged}
+use Rattle.drift.specs.Tree.{kindAt, firstAt, secondAt, thirdAt, one, two, oneOf, twoOf, tree, Ordered, innerTree, clauseTree}
+use Rattle.drift.specs.Operator.{under, isOr, orOf, oneRule, twoRule}
+use Rattle.drift.specs.Answer.{InnerTable, ClauseRow, Alone, Gathered, ClauseJudged}
+use Rattle.drift.specs.Kinds.{kind-count}
+use Rattle.drift.specs.OperatorTruth.{TruthIs, two-cong}
+use Rattle.drift.specs.NodeTruth.{under-other, one-low, two-low, at-top, at-mark, at-count, at-one, at-two}
+use Rattle.drift.specs.InnerTables.{inner-signed}
+use Rattle.drift.specs.Trees.{looked-up, top-tree, one-tree, two-tree}
 
-module _ (P : Rows) (d : ℕ) (nodes : List ℕ) (ok : P .l < P .h) (p : Bool) (k r kind x : ℕ) (ek : kind ≡ kindAt nodes k) (ex : x ≡ firstAt nodes k) where
+---- The counts of an operator's text.
+-- the or of two texts has the counts of both
+pub or-leaves : {L : Type 0} (o : Op₂) (p : Bool) (a b : Form L) → leaves p (orOf o a b) ≡ cond (isOr o p) (both (leaves p a) (leaves p b)) []
+unfolding leaves
+or-leaves and₂ true a b = refl
+or-leaves and₂ false a b = refl
+or-leaves or₂ true a b = refl
+or-leaves or₂ false a b = refl
+or-leaves until₂ true a b = refl
+or-leaves until₂ false a b = refl
+or-leaves release₂ true a b = refl
+or-leaves release₂ false a b = refl
+
+-- and what is U or R has none
+two-leaves : {L : Type 0} (kind : ℕ) → 6 ≤ kind → kind < 10 → (p : Bool) (a b : Form L)
+    → leaves p (two (twoOf kind) a b) ≡ cond (ltb kind 8) (cond (isOr (twoOf kind) p) (both (leaves p a) (leaves p b)) []) []
+unfolding leaves
+two-leaves kind q q′ p a b = ⊎-elim (λ z. ⊎-elim (λ u. six (omega arith)) (λ u. seven (omega arith)) (lt-or-le kind 7))
+    (λ z. ⊎-elim (λ u. eight (omega arith)) (λ u. nine (omega arith)) (lt-or-le kind 9)) (lt-or-le kind 8)
+  where
+    Is : ℕ → Type 0
+    Is kind = leaves p (two (twoOf kind) a b) ≡ cond (ltb kind 8) (cond (isOr (twoOf kind) p) (both (leaves p a) (leaves p b)) []) []
+
+    six : kind ≡ 6 → Is kind
+    six e = subst Is (sym e) (or-leaves and₂ p a b)
+
+    seven : kind ≡ 7 → Is kind
+    seven e = subst Is (sym e) (or-leaves or₂ p a b)
+
+    eight : kind ≡ 8 → Is kind
+    eight e = subst Is (sym e) refl
+
+    nine : kind ≡ 9 → Is kind
+    nine e = subst Is (sym e) refl
+
+-- nor has what is "next", F or G
+one-leaves : {L : Type 0} (kind : ℕ) → (kind ≡ 2 → ⊥) → (p : Bool) (a : Form L) → leaves p (one (oneOf kind) a) ≡ []
+unfolding leaves
+one-leaves kind n p a = rw (ne-eqb kind 2 n) (go (eqb kind 3) (eqb kind 4))
+  where
+    go : (b c : Bool) → leaves p (one (cond b next₁ (cond c ev₁ gl₁)) a) ≡ []
+    go true c = refl
+    go false true = refl
+    go false false = refl
+
+---- What is told of a node, by the tests on its kind.
+module _ (P : Rows) (d : ℕ) (nodes : List ℕ) (proper : Proper P) (p : Bool) (k kind x : ℕ) (ek : kind ≡ kindAt nodes k) (ex : x ≡ firstAt nodes k)
+    (t : List ℕ) (r : Judged) where
   abbrev rule : Bool → Counted → ℕ → Bool
   rule = count P d
 
@@ -30,38 +84,107 @@ module _ (P : Rows) (d : ℕ) (nodes : List ℕ) (ok : P .l < P .h) (p : Bool) (
   abbrev counts : ℕ → ℕ → Bool → Form Counted
   counts i m percent = leaf (counted (innerTree nodes (length nodes) i) m percent)
 
-  pub clause-top : kind < 2 → Row (P .h) r (λ s. p) → ClauseRow P d nodes p k r
-  unfolding clauseTree judge
-  clause-top q g n z = record { low = g .low; at = ⊎-elim top-at mark-at (lt-or-le kind 1) n z }
+  -- by the tree of the node, however deep the look
+  gathered : (xs : ℕ → List (Bool × Counted)) → ((n : ℕ) → k ≤ n → leaves p (clauseTree nodes (suc n) k) ≡ xs n) → ((n : ℕ) → k ≤ n → Gathered P (xs n) t r)
+      → (n : ℕ) → k < n → Gathered P (leaves p (clauseTree nodes n k)) t r
+  gathered xs e f zero q = absurd (omega arith)
+  gathered xs e f (suc n) q = subst (λ ys. Gathered P ys t r) (sym (e n (omega arith))) (f n (omega arith))
+
+  pub top-judged : kind < 2 → Row (P .h) (r .row) (λ s. p) → Gathered P [] t r → ClauseJudged P d nodes p k t r
+  unfolding clauseTree judge leaves
+  top-judged q g f = record {
+    rows = λ n z. record { low = g .low; at = ⊎-elim top-at mark-at (lt-or-le kind 1) n z };
+    counts = gathered (λ n. []) (λ n z. ap (leaves p) (top-tree nodes n k (omega arith))) (λ n z. f);
+  }
     where
-      top-at : kind < 1 → TruthIs (P .h) (P .l) ok nodes rule none counts p k (on r)
-      top-at u = at-top (P .h) (P .l) ok nodes rule none counts p k (on r) kind x ek ex (omega arith) (g .at)
+      top-at : kind < 1 → TruthIs (P .h) (P .l) (proper .lap) nodes rule (joined P d) none counts p k (on (r .row))
+      top-at u = at-top (P .h) (P .l) (proper .lap) nodes rule (joined P d) none counts p k (on (r .row)) kind x ek ex (omega arith) (g .at)
 
-      mark-at : 1 ≤ kind → TruthIs (P .h) (P .l) ok nodes rule none counts p k (on r)
-      mark-at u = at-mark (P .h) (P .l) ok nodes rule none counts p k (on r) kind x ek ex (omega arith) (g .at)
+      mark-at : 1 ≤ kind → TruthIs (P .h) (P .l) (proper .lap) nodes rule (joined P d) none counts p k (on (r .row))
+      mark-at u = at-mark (P .h) (P .l) (proper .lap) nodes rule (joined P d) none counts p k (on (r .row)) kind x ek ex (omega arith) (g .at)
 
-  pub clause-count : (m : ℕ) → m ≡ secondAt nodes k + 256 * thirdAt nodes k → 10 ≤ kind
-      → Row (P .h) r
-      (quorum (P .h) (P .l) (P .carts) d (quota p (threshold m (eqb kind 11) (P .carts)) (P .carts)) (λ i. inner P i p (innerTree nodes (length nodes) x)))
-      → ClauseRow P d nodes p k r
-  unfolding clauseTree judge count
-  clause-count m em q g n z = record { low = g .low; at = at-count (P .h) (P .l) ok nodes rule none counts p k (on r) kind x ek ex m em q (g .at) n z }
+  module _ (m : ℕ) (em : m ≡ secondAt nodes k + 256 * thirdAt nodes k) (q : 10 ≤ kind) where
+    abbrev this : Counted
+    this = counted (innerTree nodes (length nodes) x) m (eqb kind 11)
 
-  module _ (a : ℕ) (o : Ordered nodes (k + 1)) (f : ClauseRow P d nodes (under (oneOf kind) p) x a) where
-    pub clause-one : 2 ≤ kind → kind < 6 → Row (P .h) r (oneRule (P .h) (P .l) p (oneOf kind) (on a)) → ClauseRow P d nodes p k r
-    unfolding clauseTree
-    clause-one q q′ g n z = record {
-      low = g .low;
-      at = at-one (P .h) (P .l) ok nodes rule none counts p k (on r) kind x ek ex (on a) o q q′ (λ n z. f n z .at) (g .at) n z;
+    count-tree : (n : ℕ) → clauseTree nodes (suc n) k ≡ leaf this
+    count-tree n =
+        looked-up nodes n k (countN (firstAt nodes k) (secondAt nodes k + 256 * thirdAt nodes k) (eqb (kindAt nodes k) 11)) (kind-count (kindAt nodes k) _ _ _ (omega arith))
+        ∙ ap₂ (λ (i j : ℕ). counts i j (eqb (kindAt nodes k) 11)) (sym ex) (sym em) ∙ ap (λ (o : ℕ). counts x m (eqb o 11)) (sym ek)
+
+    pub count-judged : Row (P .h) (r .row) (quorum (P .h) (P .l) (P .carts) d (asked P (p, this)) (λ i. text P i (p, this))) → Gathered P ((p, this) ∷ []) t r
+        → ClauseJudged P d nodes p k t r
+    unfolding clauseTree judge count leaves
+    count-judged g f = record {
+      rows = λ n z. record {
+        low = g .low;
+        at = at-count (P .h) (P .l) (proper .lap) nodes rule (joined P d) none counts p k (on (r .row)) kind x ek ex m em q (g .at) n z;
+      };
+      counts = gathered (λ n. (p, this) ∷ []) (λ n z. ap (leaves p) (count-tree n)) (λ n z. f);
     }
 
-    pub clause-two : (b y : ℕ) → y ≡ secondAt nodes k → 6 ≤ kind → kind < 10 → ClauseRow P d nodes p y b
-        → Row (P .h) r (twoRule (P .h) (P .l) p (twoOf kind) (on a) (on b)) → ClauseRow P d nodes p k r
-    unfolding clauseTree
-    clause-two b y ey q q′ f′ g n z =
-        let e : under (oneOf kind) p ≡ p = under-other kind p (λ e. omega arith) in
-        record {
+  module _ (o : Ordered nodes (k + 1)) where
+    module _ (q : 2 ≤ kind) (q′ : kind < 6) where
+      one-low′ : firstAt nodes k < k
+      one-low′ = one-low nodes k o (omega arith) (omega arith)
+
+      -- a negation is in its operand's flag already
+      pub neg-judged : kind ≡ 2 → ClauseJudged P d nodes (not p) x t r → ClauseJudged P d nodes p k t r
+      unfolding clauseTree judge leaves
+      neg-judged e f =
+          let low = one-low′ in
+          let is : oneOf kind ≡ neg₁ = (rw e) in
+          record {
+            rows = λ n z. record {
+              low = f .rows (suc x) (omega arith) .low;
+              at = at-one (P .h) (P .l) (proper .lap) nodes rule (joined P d) none counts p k (on (r .row)) kind x ek ex (on (r .row)) o q q′
+                  (λ n z s u. rw is (f .rows n z .at s u)) (λ s u. rw is) n z;
+            };
+            counts = gathered (λ n. leaves (not p) (clauseTree nodes n x))
+                (λ n z.
+                ap (leaves p) (one-tree nodes n k (omega arith) (omega arith) ∙ ap₂ (λ (o : Op₁) (i : ℕ). one o (clauseTree nodes n i)) (ap oneOf (sym ek) ∙ is) (sym ex)))
+                (λ n z. f .counts n (omega arith));
+          }
+
+      pub one-judged : (a : ℕ) → (kind ≡ 2 → ⊥) → ClauseRow P d nodes p x a → Row (P .h) (r .row) (oneRule (P .h) (P .l) p (oneOf kind) (on a)) → Gathered P [] t r
+          → ClauseJudged P d nodes p k t r
+      unfolding clauseTree
+      one-judged a n f g f′ = record {
+        rows = λ m z. record {
           low = g .low;
-          at = at-two (P .h) (P .l) ok nodes rule none counts p k (on r) kind x ek ex (on a) o (on b) y ey q q′
-              (λ n z. subst (λ (q : Bool). ClauseRow P d nodes q x a) e f n z .at) (λ n z. f′ n z .at) (g .at) n z;
-        }
+          at = at-one (P .h) (P .l) (proper .lap) nodes rule (joined P d) none counts p k (on (r .row)) kind x ek ex (on a) o q q′
+              (λ m z. subst (λ (b : Bool). ClauseRow P d nodes b x a) (sym (under-other kind p n)) f m z .at) (g .at) m z;
+        };
+        counts = gathered (λ m. [])
+            (λ m z. ap (leaves p) (one-tree nodes m k (omega arith) (omega arith)) ∙ one-leaves (kindAt nodes k) (λ e. n (ek ∙ e)) p _) (λ m z. f′);
+      }
+
+    module _ (y : ℕ) (ey : y ≡ secondAt nodes k) (q : 6 ≤ kind) (q′ : kind < 10) where
+      -- the counts of both operands, if it is an or or asks for one
+      abbrev zs : ℕ → List (Bool × Counted)
+      zs n = cond (isOr (twoOf kind) p) (both (leaves p (clauseTree nodes n x)) (leaves p (clauseTree nodes n y))) []
+
+      pub two-judged : (a b : ℕ) → ClauseRow P d nodes p x a → ClauseRow P d nodes p y b
+          → ((n : ℕ) → x < n → y < n
+          → Row (P .h) (r .row) (twoRule (P .h) (P .l) p (twoOf kind) (joint P d (zs n)) (on a) (on b)) × Gathered P (cond (ltb kind 8) (zs n) []) t r)
+          → ClauseJudged P d nodes p k t r
+      unfolding clauseTree joined
+      two-judged a b ra rb g =
+          let low = two-low nodes k o (omega arith) (omega arith) in
+          record {
+            rows = λ n u. record {
+              low = g k (omega arith) (omega arith) .0 .low;
+              at = at-two (P .h) (P .l) (proper .lap) nodes rule (joined P d) none counts p k (on (r .row)) kind x ek ex (on a) o (on b) y ey q q′
+                  (λ n u. ra n u .at) (λ n u. rb n u .at) (λ n u u′ s v. g n u u′ .0 .at s v
+                  ∙ two-cong (P .h) (P .l) (proper .lap) p (twoOf kind) _ _ _ _ _ _ (λ s _. ap (λ zs. joint P d zs s) (sym (or-leaves (twoOf kind) p _ _))) (λ s _. refl)
+                  (λ s _. refl) s v) n u;
+            };
+            counts = gathered (λ n. cond (ltb kind 8) (zs n) []) (λ n u. ap (leaves p) (tree-is n) ∙ two-leaves kind q q′ p _ _)
+                (λ n u. g n (omega arith) (omega arith) .1);
+          }
+        where
+          tree-is : (n : ℕ) → clauseTree nodes (suc n) k ≡ two (twoOf kind) (clauseTree nodes n x) (clauseTree nodes n y)
+          tree-is n =
+              two-tree nodes n k (omega arith) (omega arith)
+              ∙ ap₂ (λ (o i : ℕ). two (twoOf o) (clauseTree nodes n i) (clauseTree nodes n (secondAt nodes k))) (sym ek) (sym ex)
+              ∙ ap (λ (i : ℕ). two (twoOf kind) (clauseTree nodes n x) (clauseTree nodes n i)) (sym ey)

@@ -7,7 +7,7 @@ use lib.ListN.{length}
 use Rattle.grammar.specs.Grammar.{Form, top, leaf}
 use Rattle.grammar.specs.Nodes.{Op₁, neg₁, next₁, ev₁, gl₁}
 use Rattle.cltl.specs.Meaning.{Rows, Proper}
-use Rattle.cltl.specs.Rules.{judge, mark, inner, quorum}
+use Rattle.cltl.specs.Rules.{judge, nothing, mark, inner, quorum}
 use Rattle.cltl.specs.Inner.{inner-opp}
 use Rattle.cltl.specs.Agree.{quorum-agrees}
 use Rattle.mask.specs.Mask.{Row, signed}
@@ -16,7 +16,7 @@ use Rattle.drift.specs.Tree.{oneOf, twoOf, Ordered, innerTree, kindAt, f
 use Rattle.drift.specs.Operator.{under, oneRule, twoRule, exactRule}
 use Rattle.drift.specs.Answer.{InnerTable}
 use Rattle.drift.specs.OperatorRows.{row-of}
-use Rattle.drift.specs.Judged.{Same}
+use Rattle.drift.specs.OperatorTruth.{Same}
 use Rattle.drift.specs.NodeTruth.{at-top, at-mark, at-count, at-one, at-two}
 
 -- the truth of an operand, as its operator takes it
@@ -47,19 +47,19 @@ module _ (P : Rows) (proper : Proper P) (nodes t : List ℕ) (k at kind x : ℕ)
 
   pub inner-top : kind ≡ 0 → Is (λ i s. true) → InnerTable P nodes k t at
   unfolding inner innerTree
-  inner-top e g = record { is = λ i n s q z u. at-top (P .h) (P .l) (proper .lap) nodes (rule i) marks none true k _ kind x ek ex e (g i q) n z s u }
+  inner-top e g = record { is = λ i n s q z u. at-top (P .h) (P .l) (proper .lap) nodes (rule i) nothing marks none true k _ kind x ek ex e (g i q) n z s u }
 
   pub inner-count : 10 ≤ kind → Is (λ i s. true) → InnerTable P nodes k t at
   unfolding inner innerTree judge
-  inner-count e g = record { is = λ i n s q z u. at-count (P .h) (P .l) (proper .lap) nodes (rule i) marks none true k _ kind x ek ex _ refl e (g i q) n z s u }
+  inner-count e g = record { is = λ i n s q z u. at-count (P .h) (P .l) (proper .lap) nodes (rule i) nothing marks none true k _ kind x ek ex _ refl e (g i q) n z s u }
 
   pub inner-mark : kind ≡ 1 → Is (λ i s. P .bears i s x) → InnerTable P nodes k t at
   unfolding inner innerTree judge mark
-  inner-mark e g = record { is = λ i n s q z u. at-mark (P .h) (P .l) (proper .lap) nodes (rule i) marks none true k _ kind x ek ex e (g i q) n z s u }
+  inner-mark e g = record { is = λ i n s q z u. at-mark (P .h) (P .l) (proper .lap) nodes (rule i) nothing marks none true k _ kind x ek ex e (g i q) n z s u }
 
   module _ (before : List ℕ) (a : ℕ) (o : Ordered nodes (k + 1)) (ra : InnerTable P nodes x before a) where
     operand : (o : Op₁) (i : ℕ) → i < P .carts → (n : ℕ) → x < n
-        → Same (P .h) (signedBy o (told before a i)) (judge (P .h) (P .l) (mark P i) (under o true) (innerTree nodes n x))
+        → Same (P .h) (signedBy o (told before a i)) (judge (P .h) (P .l) (mark P i) nothing (under o true) (innerTree nodes n x))
     unfolding inner
     operand neg₁ i q n z s u = ap not (ra .is i n s q z u) ∙ sym (inner-opp P proper i (innerTree nodes n x) s u)
     operand next₁ i q n z s u = ra .is i n s q z u
@@ -69,16 +69,16 @@ module _ (P : Rows) (proper : Proper P) (nodes t : List ℕ) (k at kind x : ℕ)
     pub inner-one : 2 ≤ kind → kind < 6 → Is (λ i. exactRule (P .h) (P .l) true (oneOf kind) (told before a i)) → InnerTable P nodes k t at
     unfolding inner innerTree
     inner-one q q′ g = record {
-      is = λ i n s c z u. at-one (P .h) (P .l) (proper .lap) nodes (rule i) marks none true k _ kind x ek ex _ o q q′ (operand (oneOf kind) i c)
+      is = λ i n s c z u. at-one (P .h) (P .l) (proper .lap) nodes (rule i) nothing marks none true k _ kind x ek ex _ o q q′ (operand (oneOf kind) i c)
           (λ s u. g i c s u ∙ exact-one (P .h) (P .l) (oneOf kind) (told before a i) s) n z s u;
     }
 
     pub inner-two : (b y : ℕ) → y ≡ secondAt nodes k → 6 ≤ kind → kind < 10 → InnerTable P nodes y before b
-        → Is (λ i. twoRule (P .h) (P .l) true (twoOf kind) (told before a i) (told before b i)) → InnerTable P nodes k t at
+        → Is (λ i. twoRule (P .h) (P .l) true (twoOf kind) (λ s. false) (told before a i) (told before b i)) → InnerTable P nodes k t at
     unfolding inner innerTree
     inner-two b y ey q q′ rb g = record {
-      is = λ i n s c z u. at-two (P .h) (P .l) (proper .lap) nodes (rule i) marks none true k _ kind x ek ex _ o _ y ey q q′ (λ n z s u. ra .is i n s c z u)
-          (λ n z s u. rb .is i n s c z u) (g i c) n z s u;
+      is = λ i n s c z u. at-two (P .h) (P .l) (proper .lap) nodes (rule i) nothing marks none true k _ kind x ek ex _ o _ y ey q q′ (λ n z s u. ra .is i n s c z u)
+          (λ n z s u. rb .is i n s c z u) (λ m _ _. g i c) n z s u;
     }
 
 -- the table tells of the text (p), or of its negation

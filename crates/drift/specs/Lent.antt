@@ -2,13 +2,13 @@
 use Prim.Native.Nat.{ℕ, _+_, _≤_}
 use mathlib.Core.Path.{_≡_}
 use mathlib.Core.List.{List}
-use lib.ListN.{length}
+use lib.ListN.{getD, length}
 use Rattle.table.specs.Layout.{Constants}
 use Rattle.quorum.specs.Words.{Bits}
 use Rattle.drift.specs.declared.Ground.{Ground}
 use Rattle.drift.specs.Ground.{InRange}
 use Rattle.drift.specs.Tree.{Ordered}
-use Rattle.drift.specs.Need.{Needs, Small}
+use Rattle.drift.specs.Need.{Needs}
 use Rattle.drift.specs.Places.{pairsEnd}
 
 -- a block of tables t with its pairs of places, words w for windows, and the table b of bits by which steps are gathered
@@ -23,4 +23,4 @@ pub record Lent (g : Ground) (t w b : List ℕ) : Type 0 where
 pub record ClauseNodes (nodes needs : List ℕ) (k : ℕ) : Type 0 where
   pub ordered : Ordered nodes (k + 1)
   pub needed : Needs nodes needs (k + 1)
-  pub small : Small nodes k
+  pub few : getD needs k 0 ≤ 6

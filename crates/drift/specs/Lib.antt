@@ -10,7 +10,7 @@ pub mod Lent
 pub mod Examples
 pub mod NeedExamples
 -- laws
-pub mod Judged
+pub mod OperatorTruth
 pub mod Kinds
 pub mod NodeIs
 pub mod Needing
@@ -23,5 +23,6 @@ pub mod Lending
 pub mod InnerTables
 pub mod NodeTables
 pub mod ClauseRows
+pub mod Gathering
 pub mod Trees
 pub mod Off

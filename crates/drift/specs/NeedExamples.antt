@@ -1,12 +1,19 @@
 -- Worked cases, by computation: how many pairs of places a text needs.
 use Prim.Native.Nat.{ℕ}
 use mathlib.Core.Path.{_≡_, refl}
-use mathlib.Core.Bool.{true}
+use mathlib.Core.Bool.{true, false}
 use mathlib.Core.List.{List, [], _∷_}
 use native.Mathlib.Omega.{arith}
-use Rattle.grammar.specs.Grammar.{top, leaf, neg, and, or, next, until, release, ev, gl, Inner}
-use Rattle.drift.specs.Tree.{nodeAt, tree, innerTree}
-use Rattle.drift.specs.Need.{more, need, needNode, InTurn}
+use Rattle.grammar.specs.Grammar.{top, leaf, neg, and, or, next, until, release, ev, gl, Inner, counted, Clause}
+use Rattle.drift.specs.Tree.{nodeAt, tree, innerTree, clauseTree}
+use Rattle.drift.specs.Need.{more, need, markNeed, countNeed, needNode, InTurn}
+
+-- inside a count, and outside
+abbrev inside : Inner → ℕ
+inside a = need markNeed a
+
+abbrev outside : Clause → ℕ
+outside c = need countNeed c
 
 abbrev m : ℕ → Inner
 m k = leaf k
@@ -38,37 +45,47 @@ pub worked :
     × (more 1 2 ≡ 2)
     × (more 0 3 ≡ 3)
     -- a leaf needs none, an operator at least one
-    × (need (m 0) ≡ 0)
-    × (need {L = ℕ} top ≡ 0)
-    × (need (neg (m 0)) ≡ 1)
-    × (need (next (m 0)) ≡ 1)
-    × (need both ≡ 1)
+    × (inside (m 0) ≡ 0)
+    × (inside top ≡ 0)
+    × (inside (neg (m 0)) ≡ 1)
+    × (inside (next (m 0)) ≡ 1)
+    × (inside both ≡ 1)
     -- however deep it goes on one side
-    × (need (neg (neg (m 0))) ≡ 1)
-    × (need (gl (ev (next (neg (m 0))))) ≡ 1)
-    × (need (and both (m 2)) ≡ 1)
-    × (need (and (m 2) both) ≡ 1)
-    × (need (until (next (m 0)) (m 1)) ≡ 1)
-    × (need (release (m 0) (until (m 1) (or (m 2) (m 3)))) ≡ 1)
+    × (inside (neg (neg (m 0))) ≡ 1)
+    × (inside (gl (ev (next (neg (m 0))))) ≡ 1)
+    × (inside (and both (m 2)) ≡ 1)
+    × (inside (and (m 2) both) ≡ 1)
+    × (inside (until (next (m 0)) (m 1)) ≡ 1)
+    × (inside (release (m 0) (until (m 1) (or (m 2) (m 3)))) ≡ 1)
     -- two operands that are both operators
-    × (need four ≡ 2)
-    × (need (release (neg (m 0)) (next (m 1))) ≡ 2)
-    × (need (gl four) ≡ 2)
-    × (need (and four both) ≡ 2)
-    × (need (and both four) ≡ 2)
-    × (need (or (and four both) both) ≡ 2)
-    × (need eight ≡ 3)
-    × (need (and eight four) ≡ 3)
-    × (need (ev (and four eight)) ≡ 3)
+    × (inside four ≡ 2)
+    × (inside (release (neg (m 0)) (next (m 1))) ≡ 2)
+    × (inside (gl four) ≡ 2)
+    × (inside (and four both) ≡ 2)
+    × (inside (and both four) ≡ 2)
+    × (inside (or (and four both) both) ≡ 2)
+    × (inside eight ≡ 3)
+    × (inside (and eight four) ≡ 3)
+    × (inside (ev (and four eight)) ≡ 3)
     -- the same by nodes, of marks, an operator and one over it
     × (needNode needs (nodeAt nodes 0) ≡ 0)
     × (needNode needs (nodeAt nodes 2) ≡ 1)
     × (needNode needs (nodeAt nodes 3) ≡ 1)
-    × (need (innerTree nodes 4 3) ≡ 1)
-    -- a count's text is not part of what is around the count
-    × (needNode needs (nodeAt nodes 4) ≡ 0)
-unfolding need innerTree tree
+    × (inside (innerTree nodes 4 3) ≡ 1)
+    -- a count needs what its text needs, and two of them as two operands do
+    × (needNode needs (nodeAt nodes 4) ≡ 1)
+    × (outside (leaf (counted (m 0) 1 false)) ≡ 0)
+    × (outside (leaf (counted four 1 false)) ≡ 2)
+    × (outside (or (leaf (counted four 1 false)) (leaf (counted four 2 true))) ≡ 3)
+    × (outside (or (leaf (counted four 1 false)) (leaf (counted both 2 true))) ≡ 2)
+    × (outside (clauseTree nodes 9 8) ≡ 2)
+unfolding need clauseTree innerTree tree
 worked = (
+  refl,
+  refl,
+  refl,
+  refl,
+  refl,
   refl,
   refl,
   refl,

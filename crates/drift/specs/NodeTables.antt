@@ -60,7 +60,7 @@ module _ (P : Rows) (proper : Proper P) (few : P .carts ≤ 32) (nodes : List �
     -- whichever operand went first
     pub two-made : 6 ≤ kind → kind < 10 → (swapped : Bool) (i j first second : ℕ) → i ≡ cond swapped (secondAt nodes k) (firstAt nodes k)
         → j ≡ cond swapped (firstAt nodes k) (secondAt nodes k) → InnerTable P nodes i before first → InnerTable P nodes j before second
-        → Table (λ i. twoRule (P .h) (P .l) true (twoOf kind) (told before (cond swapped second first) i) (told before (cond swapped first second) i)) to (P .h)
+        → Table (λ i. twoRule (P .h) (P .l) true (twoOf kind) (λ s. false) (told before (cond swapped second first) i) (told before (cond swapped first second) i)) to (P .h)
         before after
         → InnerTable P nodes k after to
     two-made q q′ true i j first second ei ej r r′ t =

@@ -11,9 +11,9 @@ use Rattle.grammar.specs.Grammar.{Form}
 use Rattle.grammar.specs.Nodes.{Node, topN, markN, countN, oneN, twoN, next₁, ev₁, gl₁}
 use Rattle.cltl.specs.Rules.{judge}
 use Rattle.cltl.specs.Basics.{lt-or-le}
-use Rattle.drift.specs.Tree.{kindAt, firstAt, secondAt, thirdAt, nodeAt, oneOf, twoOf, OperandsBelow, Ordered}
-use Rattle.drift.specs.Operator.{under, oneRule, twoRule}
-use Rattle.drift.specs.Judged.{Same, TruthIs, node-truth, one-truth, two-truth, top-truth}
+use Rattle.drift.specs.Tree.{kindAt, firstAt, secondAt, thirdAt, nodeAt, oneOf, twoOf, OperandsBelow, tree, Ordered}
+use Rattle.drift.specs.Operator.{under, oneRule, twoRule, orOf}
+use Rattle.drift.specs.OperatorTruth.{Same, TruthIs, node-truth, one-truth, two-truth, top-truth}
 use Rattle.drift.specs.Kinds.{kind-top, kind-mark, kind-one, kind-two, kind-count}
 
 module _ (block : List ℕ) (k : ℕ) (o : Ordered block (k + 1)) where
@@ -45,20 +45,21 @@ under-other kind p q = rw (ne-eqb kind 2 q) (rest (eqb kind 3) (eqb kind 4))
     rest false true = refl
     rest false false = refl
 
-module _ (h l : ℕ) (ok : l < h) (block : List ℕ) {L : Type 0} (rule : Bool → L → ℕ → Bool) (mark : ℕ → Form L) (count : ℕ → ℕ → Bool → Form L) where
+module _ (h l : ℕ) (ok : l < h) (block : List ℕ) {L : Type 0} (rule : Bool → L → ℕ → Bool) (also : Bool → Form L → ℕ → Bool)
+    (mark : ℕ → Form L) (count : ℕ → ℕ → Bool → Form L) where
   abbrev J : Bool → ℕ → (ℕ → Bool) → Type 0
-  J p k f = TruthIs h l ok block rule mark count p k f
+  J p k f = TruthIs h l ok block rule also mark count p k f
 
   module _ (p : Bool) (k : ℕ) (f : ℕ → Bool) (kind x : ℕ) (ek : kind ≡ kindAt block k) (ex : x ≡ firstAt block k) where
     pub at-top : kind ≡ 0 → Same h f (λ s. p) → J p k f
-    at-top e g = top-truth h l ok block rule mark count p k f topN (kind-top _ _ _ _ (sym ek ∙ e)) (λ n. refl) g
+    at-top e g = top-truth h l ok block rule also mark count p k f topN (kind-top _ _ _ _ (sym ek ∙ e)) (λ n. refl) g
 
-    pub at-mark : kind ≡ 1 → Same h f (judge h l rule p (mark x)) → J p k f
-    at-mark e g = node-truth h l ok block rule mark count p k f (markN x) (kind-mark _ _ _ _ (sym ek ∙ e) ∙ ap markN (sym ex)) (λ n m. g)
+    pub at-mark : kind ≡ 1 → Same h f (judge h l rule also p (mark x)) → J p k f
+    at-mark e g = node-truth h l ok block rule also mark count p k f (markN x) (kind-mark _ _ _ _ (sym ek ∙ e) ∙ ap markN (sym ex)) (λ n m. g)
 
-    pub at-count : (m : ℕ) → m ≡ secondAt block k + 256 * thirdAt block k → 10 ≤ kind → Same h f (judge h l rule p (count x m (eqb kind 11))) → J p k f
+    pub at-count : (m : ℕ) → m ≡ secondAt block k + 256 * thirdAt block k → 10 ≤ kind → Same h f (judge h l rule also p (count x m (eqb kind 11))) → J p k f
     at-count m em q g =
-        node-truth h l ok block rule mark count p k f (countN x m (eqb kind 11))
+        node-truth h l ok block rule also mark count p k f (countN x m (eqb kind 11))
         (kind-count (kindAt block k) _ _ _ (omega arith) ∙ ap₂ (λ (i n : ℕ). countN i n (eqb (kindAt block k) 11)) (sym ex) (sym em) ∙ ap
         (λ (o : ℕ). countN x m (eqb o 11)) (sym ek))
         (λ n m. g)
@@ -67,14 +68,15 @@ module _ (h l : ℕ) (ok : l < h) (block : List ℕ) {L : Type 0} (rule : Bool �
       pub at-one : 2 ≤ kind → kind < 6 → J (under (oneOf kind) p) x a → Same h f (oneRule h l p (oneOf kind) a) → J p k f
       at-one q q′ ra g =
           let low = one-low block k o (omega arith) (omega arith) in
-          one-truth h l ok block rule mark count p k f a (oneOf kind) x
+          one-truth h l ok block rule also mark count p k f a (oneOf kind) x
           (kind-one (kindAt block k) _ _ _ (omega arith) (omega arith) ∙ ap₂ (λ (o i : ℕ). oneN (oneOf o) i) (sym ek) (sym ex)) (omega arith) ra g
 
-      pub at-two : (b : ℕ → Bool) (y : ℕ) → y ≡ secondAt block k → 6 ≤ kind → kind < 10 → J p x a → J p y b → Same h f (twoRule h l p (twoOf kind) a b)
-          → J p k f
+      pub at-two : (b : ℕ → Bool) (y : ℕ) → y ≡ secondAt block k → 6 ≤ kind → kind < 10 → J p x a → J p y b
+          → ((n : ℕ) → x < n → y < n
+          → Same h f (twoRule h l p (twoOf kind) (also p (orOf (twoOf kind) (tree mark count block n x) (tree mark count block n y))) a b)) → J p k f
       at-two b y ey q q′ ra rb g =
           let low = two-low block k o (omega arith) (omega arith) in
-          two-truth h l ok block rule mark count p k f a b (twoOf kind) x y
+          two-truth h l ok block rule also mark count p k f a b (twoOf kind) x y
           (kind-two (kindAt block k) _ _ _ (omega arith) (omega arith) ∙ ap₂ (λ (o i : ℕ). twoN (twoOf o) i (secondAt block k)) (sym ek) (sym ex) ∙ ap
           (twoN (twoOf kind) x) (sym ey))
           (omega arith) (omega arith) ra rb g

@@ -33,7 +33,7 @@ module _ (h l kind a k : ℕ) (before after : List ℕ) where
 
   module _ (b : ℕ) where
     abbrev Two : Type 0
-    Two = Table (λ i. twoRule h l true (twoOf kind) (told before a i) (told before b i)) k h before after
+    Two = Table (λ i. twoRule h l true (twoOf kind) (λ s. false) (told before a i) (told before b i)) k h before after
 
     pub both-table : kind ≡ 6 → Table (λ i s. join true (told before a i s) (told before b i s)) k h before after → Two
     both-table e g = rw (eq-eqb kind 6 e) g
@@ -47,6 +47,6 @@ module _ (h l kind a k : ℕ) (before after : List ℕ) where
     reach-table n n′ g = rw (ne-eqb kind 6 n, ne-eqb kind 7 n′) (go (eqb kind 8) g)
       where
         go : (p : Bool) → Table (λ i. fix h l p (told before a i) (told before b i) h) k h before after
-            → Table (λ i. twoRule h l true (cond p until₂ release₂) (told before a i) (told before b i)) k h before after
+            → Table (λ i. twoRule h l true (cond p until₂ release₂) (λ s. false) (told before a i) (told before b i)) k h before after
         go true g = g
         go false g = g

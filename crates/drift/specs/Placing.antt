@@ -106,6 +106,17 @@ module _ (marks h : ℕ) where
         go true = omega arith
         go false = le-refl at
 
+    -- two operands and the place that their operator takes
+    pub two-apart : (first second n : ℕ) → Placed marks h at first → Placed marks h (at + 2 * h) second → at + 2 * h ≤ n → let to = otherOf at h first in
+        (first + h ≤ n) × (to + h ≤ n) × Apart first to h × Apart second to h
+    two-apart first second n p q room =
+        let made = other-placed first in (
+          omega (arith, placed-ends first p),
+          omega (arith, placed-ends (otherOf at h first) made),
+          other-apart first p,
+          behind-apart second (otherOf at h first) q made (other-behind first),
+        )
+
 -- room for fewer pairs, and for those behind the first
 module _ (h at end n m : ℕ) (room : at + m * (2 * h) ≤ end) where
   pub fewer-pairs : n ≤ m → at + n * (2 * h) ≤ end

@@ -1,56 +1,97 @@
 // A clause on the rows of all carts. A negation goes inward as a flag, down to the counts.
 use crate::Ground;
-use crate::counts::count_row;
+use crate::Judged;
 use crate::counts::quota;
+use crate::counts::slack_of;
 use crate::counts::threshold;
+use crate::inner::inner_table;
+use crate::joining::alone;
+use crate::joining::one_judged;
+use crate::joining::two_judged;
+use crate::needs::in_turn;
 use crate::nodes::first_at;
 use crate::nodes::kind_at;
 use crate::nodes::number_at;
-use crate::nodes::second_at;
-use crate::operators::one_row;
-use crate::operators::two_row;
 use crate::operators::under;
 ghost use mathlib.Core.Path.{_≡_};
 ghost use mathlib.Core.Bool.{Bool};
-ghost use Prim.Native.Nat.{ℕ, _≤_};
-ghost use lib.ListN.{length};
+ghost use Prim.Native.Nat.{ℕ, _+_, _*_, _≤_};
+ghost use lib.ListN.{getD, length};
 ghost use Rattle.table.specs.Table.{Kept};
 ghost use Rattle.table.specs.Layout.{pairsAt, Shown};
 ghost use Rattle.drift.specs.Tree.{kindAt};
+ghost use Rattle.drift.specs.Places.{pairsEnd, Placed};
 ghost use Rattle.drift.specs.Lent.{Lent, ClauseNodes};
-ghost use Rattle.drift.specs.Answer.{rowsOn, ClauseRow};
+ghost use Rattle.drift.specs.Answer.{rowsOn, ClauseRow, ClauseJudged};
 
-// A count's row, or its negation's.
-fn leaf_row(
+// A count, or its negation, its text judged in the pairs of places from an offset on.
+fn leaf_judged(
     nodes: &[u8],
     needs: &[u8],
     t: &mut [u32],
     w: &mut [u32; 88],
     bits: &[u32; 32],
     g: Ground,
+    at: usize,
     p: bool,
     k: usize,
-) -> u64
+) -> Judged
     requires { ⌜ Lent g (now t) (now w) (now bits) ⌝ }
-    requires { ⌜ ClauseNodes (now nodes) (now needs) k ⌝ }
-    requires { ⌜ 10 ≤ kindAt (now nodes) k ⌝ }
-    ensures { λ _. ⌜ Kept (pairsAt (g .marks) (g .h)) (now (t .entry)) (now (t .exit)) × (length (now (w .exit)) ≡ 88) ⌝ }
+    requires { ⌜ ClauseNodes (now nodes) (now needs) k × (10 ≤ kindAt (now nodes) k) ⌝ }
+    requires { ⌜ (pairsAt (g .marks) (g .h) ≤ at) × (at + getD (now needs) k 0 * (2 * g .h) ≤ pairsEnd (g .marks) (g .h)) ⌝ }
+    ensures { λ r. ⌜ Kept at (now (t .entry)) (now (t .exit)) × (length (now (w .exit)) ≡ 88) × Placed (g .marks) (g .h) at (r .at)
+        × (r .at + g .h ≤ length (now (t .exit))) ⌝ }
     ensures { λ r. ⌜ ((bears : ℕ → ℕ → ℕ → Bool) → Shown (g .marks) (g .carts) (g .h) bears (now (t .entry))
-        → ClauseRow (rowsOn (g .carts) (g .h) (g .l) bears) (g .d) (now (nodes .entry)) p k r) ⌝ }
+        → ClauseJudged (rowsOn (g .carts) (g .h) (g .l) bears) (g .d) (now (nodes .entry)) p k (now (t .exit)) r) ⌝ }
 {
     let percent = kind_at(nodes, k) == 11;
-    let m = threshold(number_at(nodes, k), percent, g.carts);
-    count_row(
-        nodes,
-        needs,
-        t,
-        w,
-        bits,
-        g,
-        p,
-        quota(p, m, g.carts),
-        first_at(nodes, k),
-    )
+    let m = quota(p, threshold(number_at(nodes, k), percent, g.carts), g.carts);
+    let from = inner_table(nodes, needs, t, g, at, first_at(nodes, k));
+    Judged {
+        row: quorum::count_row(t, from, p, m, g.carts, g.h, g.l, g.d, w, bits),
+        joins: true,
+        at: from,
+        sign: p,
+        slack: slack_of(m),
+    }
+}
+
+// Node k with drift d, or its negation, judged in the pairs of places from an offset on.
+fn clause_judged(
+    nodes: &[u8],
+    needs: &[u8],
+    t: &mut [u32],
+    w: &mut [u32; 88],
+    bits: &[u32; 32],
+    g: Ground,
+    at: usize,
+    p: bool,
+    k: usize,
+) -> Judged
+    requires { ⌜ Lent g (now t) (now w) (now bits) ⌝ }
+    requires { ⌜ ClauseNodes (now nodes) (now needs) k ⌝ }
+    requires { ⌜ (pairsAt (g .marks) (g .h) ≤ at) × (at + getD (now needs) k 0 * (2 * g .h) ≤ pairsEnd (g .marks) (g .h)) ⌝ }
+    ensures { λ r. ⌜ Kept at (now (t .entry)) (now (t .exit)) × (length (now (w .exit)) ≡ 88) × Placed (g .marks) (g .h) at (r .at)
+        × (r .at + g .h ≤ length (now (t .exit))) ⌝ }
+    ensures { λ r. ⌜ ((bears : ℕ → ℕ → ℕ → Bool) → Shown (g .marks) (g .carts) (g .h) bears (now (t .entry))
+        → ClauseJudged (rowsOn (g .carts) (g .h) (g .l) bears) (g .d) (now (nodes .entry)) p k (now (t .exit)) r) ⌝ }
+{
+    let kind = kind_at(nodes, k);
+    if 9 < kind {
+        return leaf_judged(nodes, needs, t, w, bits, g, at, p, k);
+    }
+    if kind < 2 {
+        return alone(mask::constant(p, g.h), g);
+    }
+    if kind < 6 {
+        let q = under(kind, p);
+        let a = clause_judged(nodes, needs, t, w, bits, g, at, q, first_at(nodes, k));
+        return one_judged(kind, p, a, g);
+    }
+    let o = in_turn(nodes, needs, k);
+    let first = clause_judged(nodes, needs, t, w, bits, g, at, p, o.first);
+    let second = clause_judged(nodes, needs, t, w, bits, g, at + 2 * g.h, p, o.second);
+    two_judged(kind, p, o.swapped, first, second, t, w, bits, g, at)
 }
 
 // Node k's row with drift d, or its negation's.
@@ -70,18 +111,6 @@ pub fn clause_row(
     ensures { λ r. ⌜ ((bears : ℕ → ℕ → ℕ → Bool) → Shown (g .marks) (g .carts) (g .h) bears (now (t .entry))
         → ClauseRow (rowsOn (g .carts) (g .h) (g .l) bears) (g .d) (now (nodes .entry)) p k r) ⌝ }
 {
-    let kind = kind_at(nodes, k);
-    if 9 < kind {
-        return leaf_row(nodes, needs, t, w, bits, g, p, k);
-    }
-    if kind < 2 {
-        return mask::constant(p, g.h);
-    }
-    let x = first_at(nodes, k);
-    let a = clause_row(nodes, needs, t, w, bits, g, under(kind, p), x);
-    if kind < 6 {
-        return one_row(kind, p, a, g.h, g.l);
-    }
-    let b = clause_row(nodes, needs, t, w, bits, g, p, second_at(nodes, k));
-    two_row(kind, p, a, b, g.h, g.l)
+    let r = clause_judged(nodes, needs, t, w, bits, g, (g.marks + 2) * g.h, p, k);
+    r.row
 }

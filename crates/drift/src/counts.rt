@@ -1,19 +1,14 @@
-// A count over all carts, at every step at once.
+// Counts over all carts, at every step at once.
 use crate::Ground;
-use crate::inner::inner_table;
 ghost use mathlib.Core.Path.{_≡_};
-ghost use mathlib.Core.Bool.{Bool};
-ghost use Prim.Native.Nat.{ℕ, _+_, _<_, _≤_};
-ghost use lib.ListN.{getD, length};
+ghost use Prim.Native.Nat.{_+_, _-_, _<_, _≤_, min};
+ghost use lib.Dec.{ltb};
+ghost use lib.ListN.{length};
 ghost use Rattle.cltl.specs.Threshold.{threshold as «threshold_of», quota as «quota_of»};
-ghost use Rattle.cltl.specs.Rules.{inner, quorum};
+ghost use Rattle.cltl.specs.Rules.{throughout};
 ghost use Rattle.mask.specs.Mask.{Row};
-ghost use Rattle.table.specs.Table.{Kept};
-ghost use Rattle.table.specs.Layout.{pairsAt, Shown};
-ghost use Rattle.drift.specs.Tree.{Ordered, innerTree};
-ghost use Rattle.drift.specs.Need.{Needs};
+ghost use Rattle.table.specs.Table.{told};
 ghost use Rattle.drift.specs.Lent.{Lent};
-ghost use Rattle.drift.specs.Answer.{rowsOn};
 
 // The number of carts that a count over so many carts asks for: a share is rounded to the nearest, a half going up.
 pub fn threshold(number: usize, percent: bool, size: usize) -> usize
@@ -38,25 +33,40 @@ pub fn quota(p: bool, m: usize, size: usize) -> usize
     if m <= size { size + 1 - m } else { 0 }
 }
 
-// The rule for a count of threshold m over the inner text of node x, judged in the places behind the tables that are there already.
-pub fn count_row(
-    nodes: &[u8],
-    needs: &[u8],
-    t: &mut [u32],
+// What a count adds to the slack of an or: no or has more carts than 32.
+pub fn slack_of(m: usize) -> usize
+    ensures { λ r. ⌜ r ≡ min 32 (m - 1) ⌝ }
+{
+    if m == 0 {
+        return 0;
+    }
+    if 32 < m { 32 } else { m - 1 }
+}
+
+// The slack of two sides.
+pub fn added(a: usize, b: usize) -> usize
+    requires { ⌜ (a ≤ 32) × (b ≤ 32) ⌝ }
+    ensures { λ r. ⌜ r ≡ min 32 (a + b) ⌝ }
+{
+    if 32 < a + b { 32 } else { a + b }
+}
+
+// The steps at which more carts than the slack satisfy, throughout, the text whose table begins at `at`.
+pub fn together(
+    t: &[u32],
+    at: usize,
+    slack: usize,
     w: &mut [u32; 88],
     bits: &[u32; 32],
     g: Ground,
-    p: bool,
-    m: usize,
-    x: usize,
 ) -> u64
     requires { ⌜ Lent g (now t) (now w) (now bits) ⌝ }
-    requires { ⌜ Ordered (now nodes) (x + 1) × Needs (now nodes) (now needs) (x + 1) × (getD (now needs) x 0 ≤ 6) ⌝ }
-    ensures { λ _. ⌜ Kept (pairsAt (g .marks) (g .h)) (now (t .entry)) (now (t .exit)) × (length (now (w .exit)) ≡ 88) ⌝ }
-    ensures { λ r. ⌜ ((bears : ℕ → ℕ → ℕ → Bool) → Shown (g .marks) (g .carts) (g .h) bears (now (t .entry))
-        → Row (g .h) r (quorum (g .h) (g .l) (g .carts) (g .d) m
-        (λ i. inner (rowsOn (g .carts) (g .h) (g .l) bears) i p (innerTree (now (nodes .entry)) (length (now (nodes .entry))) x)))) ⌝ }
+    requires { ⌜ (at + g .h ≤ length (now t)) × (slack ≤ 32) ⌝ }
+    ensures { λ _. ⌜ length (now (w .exit)) ≡ 88 ⌝ }
+    ensures { λ r. ⌜ Row (g .h) r (λ s. ltb slack (throughout (g .h) (g .l) (g .carts) (g .d) (told (now (t .entry)) at) s)) ⌝ }
 {
-    let at = inner_table(nodes, needs, t, g, (g.marks + 2) * g.h, x);
-    quorum::count_row(t, at, p, m, g.carts, g.h, g.l, g.d, w, bits)
+    if g.carts <= slack {
+        return 0;
+    }
+    quorum::joint_row(t, at, true, slack + 1, g.carts, g.h, g.l, g.d, w, bits)
 }

@@ -2,6 +2,7 @@
 mod clauses;
 mod counts;
 mod inner;
+mod joining;
 mod needs;
 mod nodes;
 mod operators;
@@ -28,4 +29,14 @@ pub struct Operands {
     pub first: usize,
     pub second: usize,
     pub swapped: bool,
+}
+
+// What judging a part of a clause gives: its row; and where it is a count, or an or whose sides are all counts, the table of the or of their texts, or of its
+// negation (no sign), with where it begins, and the sum of (threshold - 1), 32 at most.
+pub struct Judged {
+    pub row: u64,
+    pub joins: bool,
+    pub at: usize,
+    pub sign: bool,
+    pub slack: usize,
 }

@@ -1,7 +1,6 @@
 // How many pairs of places the text of each node needs.
 use crate::Operands;
 use crate::nodes::first_at;
-use crate::nodes::is_leaf;
 use crate::nodes::kind_at;
 use crate::nodes::second_at;
 ghost use mathlib.Core.Path.{_≡_};
@@ -28,17 +27,20 @@ fn more(a: u8, b: u8) -> u8
     if a < b { b } else { a }
 }
 
-// What node k needs, by the needs of its operands.
+// What node k needs, by the needs of its operands: a count needs what its text needs.
 fn node_need(nodes: &[u8], needs: &[u8], k: usize) -> u8
     requires { ⌜ Ordered (now nodes) (k + 1) ⌝ }
     requires { ⌜ (k ≤ length (now needs)) × (k < 255) × ((j : ℕ) → j < k → getD (now needs) j 0 ≤ j) ⌝ }
     ensures { λ r. ⌜ r ≡ needNode (now (needs .entry)) (nodeAt (now (nodes .entry)) k) ⌝ }
 {
     let kind = kind_at(nodes, k);
-    if is_leaf(kind) {
+    if kind < 2 {
         return 0;
     }
     let a = needs[first_at(nodes, k)];
+    if 9 < kind {
+        return a;
+    }
     if kind < 6 {
         return at_least_one(a);
     }

@@ -1,11 +1,12 @@
-// One operator of inner text, its table made in the place of a pair that its operand's is not in.
+// One operator, its table made in the place of a pair that its operand's is not in.
 use crate::Ground;
 use crate::tables::one_table;
 use crate::tables::two_table;
 ghost use mathlib.Core.Path.{_≡_};
-ghost use mathlib.Core.Bool.{true, cond};
+ghost use mathlib.Core.Bool.{true, false, cond, _||_};
 ghost use Prim.Native.Nat.{_+_, _*_, _≤_};
 ghost use lib.ListN.{length};
+ghost use Rattle.mask.specs.Mask.{signed};
 ghost use Rattle.table.specs.Table.{told, Table};
 ghost use Rattle.table.specs.Layout.{pairsAt, Constants};
 ghost use Rattle.drift.specs.Tree.{oneOf, twoOf};
@@ -54,7 +55,7 @@ pub fn place_two(
     requires { ⌜ InRange g × Constants (g .marks) (g .h) (now t) ⌝ }
     requires { ⌜ (pairsAt (g .marks) (g .h) ≤ at) × (at + 2 * g .h ≤ pairsEnd (g .marks) (g .h)) × (pairsEnd (g .marks) (g .h) ≤ length (now t)) ⌝ }
     requires { ⌜ Placed (g .marks) (g .h) at first × Placed (g .marks) (g .h) (at + 2 * g .h) second × (second + g .h ≤ length (now t)) ⌝ }
-    ensures { λ r. ⌜ (r ≡ otherOf at (g .h) first) × Table (λ i. twoRule (g .h) (g .l) true (twoOf kind)
+    ensures { λ r. ⌜ (r ≡ otherOf at (g .h) first) × Table (λ i. twoRule (g .h) (g .l) true (twoOf kind) (λ s. false)
         (told (now (t .entry)) (cond swapped second first) i) (told (now (t .entry)) (cond swapped first second) i))
         r (g .h) (now (t .entry)) (now (t .exit)) ⌝ }
 {
@@ -62,5 +63,26 @@ pub fn place_two(
     let a = either(swapped, second, first);
     let b = either(swapped, first, second);
     two_table(kind, t, a, b, to, g);
+    to
+}
+
+// The or of two texts (p, q), or of their negations, by their tables, which lie as for place_two.
+pub fn place_either(
+    p: bool,
+    q: bool,
+    t: &mut [u32],
+    first: usize,
+    second: usize,
+    at: usize,
+    g: Ground,
+) -> usize
+    requires { ⌜ InRange g × Constants (g .marks) (g .h) (now t) ⌝ }
+    requires { ⌜ (pairsAt (g .marks) (g .h) ≤ at) × (at + 2 * g .h ≤ pairsEnd (g .marks) (g .h)) × (pairsEnd (g .marks) (g .h) ≤ length (now t)) ⌝ }
+    requires { ⌜ Placed (g .marks) (g .h) at first × Placed (g .marks) (g .h) (at + 2 * g .h) second × (second + g .h ≤ length (now t)) ⌝ }
+    ensures { λ r. ⌜ (r ≡ otherOf at (g .h) first) × Table (λ i s. signed p (told (now (t .entry)) first i s)
+        || signed q (told (now (t .entry)) second i s)) r (g .h) (now (t .entry)) (now (t .exit)) ⌝ }
+{
+    let to = other(at, first, g.h);
+    table::either_table(p, q, t, first, second, to, g.h);
     to
 }

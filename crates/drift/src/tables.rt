@@ -1,7 +1,7 @@
 // One operator of inner text on the tables of its operands.
 use crate::Ground;
 ghost use mathlib.Core.Path.{_≡_};
-ghost use mathlib.Core.Bool.{true};
+ghost use mathlib.Core.Bool.{true, false};
 ghost use Prim.Native.Nat.{_+_, _≤_};
 ghost use lib.ListN.{length};
 ghost use Rattle.table.specs.Table.{told, Apart, Table};
@@ -47,7 +47,7 @@ pub fn two_table(kind: u8, t: &mut [u32], a: usize, b: usize, to: usize, g: Grou
     requires { ⌜ InRange g ⌝ }
     requires { ⌜ (a + g .h ≤ length (now t)) × (b + g .h ≤ length (now t)) × (to + g .h ≤ length (now t)) ⌝ }
     requires { ⌜ Apart a to (g .h) × Apart b to (g .h) ⌝ }
-    ensures { λ _. ⌜ Table (λ i. twoRule (g .h) (g .l) true (twoOf kind) (told (now (t .entry)) a i) (told (now (t .entry)) b i)) to (g .h)
+    ensures { λ _. ⌜ Table (λ i. twoRule (g .h) (g .l) true (twoOf kind) (λ s. false) (told (now (t .entry)) a i) (told (now (t .entry)) b i)) to (g .h)
         (now (t .entry)) (now (t .exit)) ⌝ }
 {
     if kind == 6 {

@@ -1,7 +1,7 @@
 -- A text's words, step by step and then round the lap.
 use Prim.Native.Nat.{ℕ, _+_, _-_, _^_, _≤_, _<_}
-use mathlib.Core.Path.{_≡_, refl, sym, ap, ap₂, _∙_}
-use mathlib.Core.Bool.{Bool, true, false, not, xor, _&&_, and-true}
+use mathlib.Core.Path.{_≡_, sym, ap, ap₂, _∙_}
+use mathlib.Core.Bool.{Bool, not, _&&_, and-true}
 use mathlib.Core.List.{List}
 use native.Mathlib.Omega.{arith}
 use lib.Bits.{bitAnd, bitXor, and-le-r}
@@ -10,23 +10,11 @@ use lib.Pow.{pow-pos}
 use Rattle.row.specs.Lasso.{stepOf}
 use Rattle.row.specs.Round.{pick, step-low, step-lap}
 use Rattle.mask.specs.Mask.{on, Row, signed}
-use Rattle.mask.specs.EachBit.{on-and, on-xor, on-zero, on-ones}
+use Rattle.mask.specs.EachBit.{on-and, on-ones}
 use Rattle.table.specs.Table.{Word, Stored}
+use Rattle.table.specs.Words.{signed-word}
 use Rattle.quorum.specs.Words.{CounterAt}
 use Rattle.quorum.specs.OwnNumber.{own}
-
-pub text : (p : Bool) (r : ℕ) → p ≡ true → r ≡ 0 → Word (λ i. not p) r
-text p r e z i q = ap (λ (x : ℕ). on x i) z ∙ on-zero i ∙ ap not (sym e)
-
-pub negation : (p : Bool) (r : ℕ) → p ≡ false → r ≡ 2 ^ 32 - 1 → Word (λ i. not p) r
-negation p r e z i q = ap (λ (x : ℕ). on x i) z ∙ on-ones 32 i q ∙ ap not (sym e)
-
-turned : (p x : Bool) → xor x (not p) ≡ signed p x
-unfolding xor
-turned true true = refl
-turned true false = refl
-turned false true = refl
-turned false false = refl
 
 -- a word turned over or not, and no bit beyond the carts
 pub carts-at : (carts a flip full : ℕ) (p : Bool) → carts ≤ 32 → full ≡ 2 ^ carts - 1 → Word (λ i. not p) flip
@@ -35,8 +23,7 @@ carts-at carts a flip full p few e turn = record {
   low = omega (arith, and-le-r (bitXor a flip) full, pow-pos carts);
   at = λ i q.
       on-and (bitXor a flip) full i
-      ∙ ap₂ (λ (x y : Bool). x && y) (on-xor a flip i ∙ ap (xor (on a i)) (turn i (omega arith)) ∙ turned p (on a i))
-      (ap (λ (x : ℕ). on x i) e ∙ on-ones carts i q)
+      ∙ ap₂ (λ (x y : Bool). x && y) (signed-word p a flip turn i (omega arith)) (ap (λ (x : ℕ). on x i) e ∙ on-ones carts i q)
       ∙ and-true (signed p (on a i));
 }
 

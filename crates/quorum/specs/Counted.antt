@@ -12,7 +12,7 @@ use lib.ListN.{getD}
 use borrow.Author.Tests.{eq-eqb, ne-eqb}
 use Rattle.row.specs.Lasso.{stepOf}
 use Rattle.row.specs.Round.{pick, step-low, step-below}
-use Rattle.cltl.specs.Rules.{every, window, quorum}
+use Rattle.cltl.specs.Rules.{every, window, throughout, quorum}
 use Rattle.cltl.specs.Tally.{every-agrees}
 use Rattle.mask.specs.Mask.{on, Row}
 use Rattle.mask.specs.EachBit.{on-or, on-beyond}
@@ -22,7 +22,7 @@ use Rattle.quorum.specs.Words.{CartsAt, CounterAt, shared, Window, Narro
 use Rattle.quorum.specs.OwnNumber.{own}
 use Rattle.quorum.specs.Below.{below}
 use Rattle.quorum.specs.Widened.{widened}
-use Rattle.quorum.specs.Ones.{counted, all-counted}
+use Rattle.quorum.specs.Ones.{tally-agrees, counted, all-counted}
 
 -- all carts at the step itself: as many bits as there are carts
 module _ (h m carts : ℕ) (w : List ℕ) where
@@ -58,37 +58,58 @@ module _ (h l d off : ℕ) (some : l < h) (w₀ w₁ w₂ : List ℕ) (again : S
       widened w₁ (d + 1 - off) off (d + 1 - off) (d + 1) s _ _ (omega (arith, narrow .short)) (omega arith) (omega (arith, narrow .short))
       (narrow .each s (omega arith)) (narrow .each (s + off) (omega arith))
 
-  module _ (m carts : ℕ) (f : ℕ → ℕ → Bool) (steps : (s : ℕ) → s < h → CartsAt carts f s (getD w₀ s 0)) where
+  -- no bit of what is no cart
+  module _ (carts : ℕ) (low : (s : ℕ) → s < h → getD w₀ s 0 < 2 ^ carts) where
     -- bit i all along the window
     along : (s i : ℕ) → s < h → on (shared w₂ off s) i ≡ every (λ j. on (getD w₀ (stepOf h l (s + j)) 0) i) (suc d)
     along s i p =
         whole s p i ∙ ap (every (λ j. on (getD w₁ (s + j) 0) i)) (add-one d)
         ∙ every-agrees _ _ (suc d) (λ j u. ap (λ (x : ℕ). on x i) (counter (s + j) (omega arith)))
 
-    -- what is no cart has no bit
     no-cart : (s i : ℕ) → s < h → carts ≤ i → on (shared w₂ off s) i ≡ false
     unfolding every
     no-cart s i p q =
         along s i p
         ∙ ap (λ (b : Bool). b && every (λ j. on (getD w₀ (stepOf h l (s + j)) 0) i) d)
-        (on-beyond (getD w₀ (stepOf h l (s + d)) 0) carts i (steps (stepOf h l (s + d)) (step-below h l some (s + d)) .low) q)
+        (on-beyond (getD w₀ (stepOf h l (s + d)) 0) carts i (low (stepOf h l (s + d)) (step-below h l some (s + d))) q)
 
-    -- the carts that satisfy f all along
-    pub windows : (s : ℕ) → s < h → Row carts (shared w₂ off s) (λ i. window h l (f i) d s)
+    -- the carts that have their bit all along
+    pub windows : (s : ℕ) → s < h → Row carts (shared w₂ off s) (λ i. window h l (λ s. on (getD w₀ s 0) i) d s)
     unfolding window
-    windows s p = record {
-      low = below (shared w₂ off s) carts (λ i. no-cart s i p);
-      at = λ i q. along s i p ∙ every-agrees _ _ (suc d) (λ j _. steps (stepOf h l (s + j)) (step-below h l some (s + j)) .at i q);
+    windows s p = record { low = below (shared w₂ off s) carts (λ i. no-cart s i p); at = λ i q. along s i p }
+
+    -- enough of them
+    pub enough : (m r : ℕ) → Row h r (λ s. leb m (ones (shared w₂ off s)))
+        → Row h r (λ s. leb m (throughout h l carts d (λ i s. on (getD w₀ s 0) i) s))
+    enough m r row = record { low = row .low; at = λ s p. row .at s p ∙ ap (leb m) (counted carts _ _ (windows s p)) }
+
+-- where the words are those of a text
+module _ (h carts : ℕ) (f : ℕ → ℕ → Bool) (before w : List ℕ) (text : Stored (CartsAt carts f) 0 0 h before w) where
+  step : (s : ℕ) → s < h → CartsAt carts f s (getD w s 0)
+  step s p = own (CartsAt carts f) 0 h before w text s (omega arith) p
+
+  pub carts-alone : (s : ℕ) → s < h → getD w s 0 < 2 ^ carts
+  carts-alone s p = step s p .low
+
+  module _ (l d m : ℕ) (some : l < h) where
+    pub joint : (r : ℕ) → Row h r (λ s. leb m (throughout h l carts d (λ i s. on (getD w s 0) i) s)) → Row h r (λ s. leb m (throughout h l carts d f s))
+    unfolding window
+    joint r row = record {
+      low = row .low;
+      at = λ s p.
+          row .at s p
+          ∙ ap (leb m) (tally-agrees _ _ carts
+          (λ i q. every-agrees _ _ (suc d) (λ j _. step (stepOf h l (s + j)) (step-below h l some (s + j)) .at i q)));
     }
 
-    -- enough of them, or with a threshold of 1 all at the step itself
-    pub quorate : (many all : ℕ) → Row h many (λ s. leb m (ones (shared w₂ off s))) → Row h all (λ s. eqb m 1 && every (on (getD w₀ s 0)) carts)
-        → Row h (bitOr many all) (quorum h l carts d m f)
+    -- enough all along, or with a threshold of 1 all at the step itself
+    pub quorate : (many all : ℕ) → Row h many (λ s. leb m (throughout h l carts d (λ i s. on (getD w s 0) i) s))
+        → Row h all (λ s. eqb m 1 && every (on (getD w s 0)) carts) → Row h (bitOr many all) (quorum h l carts d m f)
     unfolding quorum
-    quorate many all enough each = record {
-      low = or-lt h many all (enough .low) (each .low);
+    quorate many all along here = record {
+      low = or-lt h many all (along .low) (here .low);
       at = λ s p.
           on-or many all s
-          ∙ ap₂ (λ (x y : Bool). x || y) (enough .at s p ∙ ap (leb m) (counted carts _ _ (windows s p)))
-          (each .at s p ∙ ap (λ (b : Bool). eqb m 1 && b) (every-agrees _ _ carts (steps s p .at)));
+          ∙ ap₂ (λ (x y : Bool). x || y) (joint many along .at s p)
+          (here .at s p ∙ ap (λ (b : Bool). eqb m 1 && b) (every-agrees _ _ carts (step s p .at)));
     }

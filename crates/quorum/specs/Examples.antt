@@ -3,8 +3,9 @@ use Prim.Native.Nat.{ℕ}
 use mathlib.Core.Path.{_≡_, refl}
 use mathlib.Core.Bool.{Bool, true, false}
 use mathlib.Core.List.{List, [], _∷_}
+use lib.Dec.{leb}
 use Rattle.row.specs.Lasso.{stepOf}
-use Rattle.cltl.specs.Rules.{tally, every, window, quorum}
+use Rattle.cltl.specs.Rules.{tally, every, window, throughout, quorum}
 use Rattle.mask.specs.Mask.{on, signed}
 use Rattle.table.specs.Table.{told}
 use Rattle.quorum.specs.Words.{shared, sharedByThree}
@@ -13,9 +14,24 @@ use Rattle.quorum.specs.Words.{shared, sharedByThree}
 abbrev table : List ℕ
 table = 0 ∷ 7 ∷ 5 ∷ 7 ∷ []
 
--- the rule for a count over the text or its negation
+-- both carts at step 0 alone
+abbrev once : List ℕ
+once = 0 ∷ 3 ∷ 0 ∷ 0 ∷ []
+
+-- cart 0, then cart 1, then cart 0
+abbrev byTurns : List ℕ
+byTurns = 0 ∷ 1 ∷ 2 ∷ 1 ∷ []
+
+-- the text of each cart, or its negation
+abbrev text : List ℕ → Bool → ℕ → ℕ → Bool
+text t p i s = signed p (told t 1 i s)
+
+-- the rule for a count, and enough carts all along
 abbrev counts : (d m : ℕ) → Bool → ℕ → Bool
-counts d m p s = quorum 3 1 2 d m (λ i s. signed p (told table 1 i s)) s
+counts d m p s = quorum 3 1 2 d m (text table p) s
+
+abbrev joint : List ℕ → (d m : ℕ) → Bool → ℕ → Bool
+joint t d m p s = leb m (throughout 3 1 2 d (text t p) s)
 
 -- the definitions that the table computes with, under one name
 computing : (d m : ℕ) → Bool → ℕ → Bool
@@ -38,9 +54,25 @@ pub worked :
     × (counts 1 1 false 1 ≡ false)
     -- a threshold of 0 is always reached
     × (counts 1 0 false 1 ≡ true)
+    -- both carts at step 0 alone are a count with threshold 1, and yet no cart has it along two counters
+    × (quorum 3 1 2 1 1 (text once true) 0 ≡ true)
+    × (joint once 1 1 true 0 ≡ false)
+    × (joint once 0 2 true 0 ≡ true)
+    -- it has to be the same cart all along
+    × (joint byTurns 1 1 true 0 ≡ false)
+    -- as many as the threshold are enough, one less is not
+    × (joint table 1 1 true 0 ≡ true)
+    × (joint table 1 2 true 0 ≡ false)
+    × (joint table 1 1 true 2 ≡ true)
+    × (joint table 1 2 true 2 ≡ false)
+    × (joint table 0 3 true 0 ≡ false)
+    -- the negation is that of the text and not of the count
+    × (joint table 0 1 false 1 ≡ true)
+    × (joint table 0 1 false 2 ≡ false)
+    × (joint table 1 1 false 1 ≡ false)
     -- the bits that a word and the one two further on share
     × (shared (6 ∷ 0 ∷ 3 ∷ []) 2 0 ≡ 2)
     -- and the one four further on as well
     × (sharedByThree (7 ∷ 0 ∷ 6 ∷ 0 ∷ 3 ∷ []) 2 0 ≡ 2)
 unfolding computing
-worked = (refl, refl, refl, refl, refl, refl, refl, refl, refl, refl, refl, refl)
+worked = (refl, refl, refl, refl, refl, refl, refl, refl, refl, refl, refl, refl, refl, refl, refl, refl, refl, refl, refl, refl, refl, refl, refl, refl)

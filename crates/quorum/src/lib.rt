@@ -1,8 +1,10 @@
 // The rule for a count, on a table of truth by step and for all steps at once: a word a step, with bit i for cart i.
+mod along;
 mod counting;
 mod windows;
 mod words;
 
+pub use along::joint_row;
 ghost use Prim.Native.Nat.{ℕ, _+_, _^_, _≤_, _<_};
 ghost use mathlib.Core.Path.{_≡_};
 ghost use mathlib.Core.Bool.{_&&_};
@@ -63,7 +65,5 @@ pub fn count_row(
 {
     words::unroll(t, at, p, carts, h, w);
     let all = all_row(w, m, carts, h, bits);
-    words::repeat_lap(w, h, l, d);
-    let off = windows::narrow(w, h, d);
-    counting::at_least(w, off, m, carts, h, bits) | all
+    along::throughout_row(w, m, carts, h, l, d, bits) | all
 }

@@ -1,10 +1,9 @@
 // The words of a text along the counters, the lap again behind the last step: no loop over them has to look where the lap ends.
 ghost use Prim.Native.Nat.{_+_, _-_, _^_, _≤_, _<_};
 ghost use mathlib.Core.Path.{_≡_};
-ghost use mathlib.Core.Bool.{not};
 ghost use lib.ListN.{length};
 ghost use Rattle.mask.specs.Mask.{signed};
-ghost use Rattle.table.specs.Table.{told, Word, Stored};
+ghost use Rattle.table.specs.Table.{told, Stored};
 ghost use Rattle.quorum.specs.Words.{CartsAt, CounterAt};
 
 // The n lowest bits: of as many carts, one each.
@@ -15,13 +14,6 @@ pub(crate) fn lowest(n: usize) -> u32
     ((1u64 << n) - 1) as u32
 }
 
-// What a word is turned over by: nothing for the text itself (p), every bit for its negation.
-fn turn(p: bool) -> u32
-    ensures { λ r. ⌜ Word (λ i. not p) r ⌝ }
-{
-    if p { 0 } else { u32::MAX }
-}
-
 // The words of the steps: the carts that satisfy the text (p) or its negation, and no bit of what is no cart.
 pub(crate) fn unroll(t: &[u32], at: usize, p: bool, carts: usize, h: usize, w: &mut [u32; 88])
     requires { ⌜ (carts ≤ 32) × (h ≤ 64) ⌝ }
@@ -30,7 +22,7 @@ pub(crate) fn unroll(t: &[u32], at: usize, p: bool, carts: usize, h: usize, w: &
     ensures { λ _. ⌜ Stored (CartsAt carts (λ i s. signed p (told (now (t .entry)) at i s))) 0 0 h (now (w .entry)) (now (w .exit)) ⌝ }
 {
     let full = lowest(carts);
-    let flip = turn(p);
+    let flip = table::turn(p);
     let mut s = 0;
     while s < h {
         w[s] = (t[at + s] ^ flip) & full;

@@ -1,10 +1,12 @@
 // Tables made word by word.
 use crate::words::join_word;
-ghost use mathlib.Core.Bool.{not};
+use crate::words::turn;
+ghost use mathlib.Core.Bool.{not, _||_};
 ghost use Prim.Native.Nat.{_+_, _<_, _≤_};
 ghost use lib.ListN.{length};
 ghost use Rattle.row.specs.Lasso.{nextStep};
 ghost use Rattle.cltl.specs.Rules.{join};
+ghost use Rattle.mask.specs.Mask.{signed};
 ghost use Rattle.table.specs.Table.{told, Table, Apart};
 
 // "and" (p) or "or" of the tables at a and b.
@@ -16,6 +18,22 @@ pub fn join_table(p: bool, t: &mut [u32], a: usize, b: usize, k: usize, h: usize
     let mut s = 0;
     while s < h {
         t[k + s] = join_word(p, t[a + s], t[b + s]);
+        s += 1;
+    }
+}
+
+// The or of two texts: that whose table begins at a (pa), or its negation, and the one at b (pb), or its negation.
+pub fn either_table(pa: bool, pb: bool, t: &mut [u32], a: usize, b: usize, k: usize, h: usize)
+    requires { ⌜ (a + h ≤ length (now t)) × (b + h ≤ length (now t)) × (k + h ≤ length (now t)) ⌝ }
+    requires { ⌜ Apart a k h × Apart b k h ⌝ }
+    ensures { λ _. ⌜ Table (λ i s. signed pa (told (now (t .entry)) a i s) || signed pb (told (now (t .entry)) b i s)) k h
+        (now (t .entry)) (now (t .exit)) ⌝ }
+{
+    let turn_a = turn(pa);
+    let turn_b = turn(pb);
+    let mut s = 0;
+    while s < h {
+        t[k + s] = (t[a + s] ^ turn_a) | (t[b + s] ^ turn_b);
         s += 1;
     }
 }

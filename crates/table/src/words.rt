@@ -1,4 +1,5 @@
 // One word: a truth of each cart.
+ghost use mathlib.Core.Bool.{not};
 ghost use Rattle.cltl.specs.Rules.{join, mix};
 ghost use Rattle.mask.specs.Mask.{on};
 ghost use Rattle.table.specs.Table.{Word};
@@ -8,6 +9,13 @@ pub(crate) fn same_word(p: bool) -> u32
     ensures { λ r. ⌜ Word (λ i. p) r ⌝ }
 {
     if p { u32::MAX } else { 0 }
+}
+
+// What a word is turned over by: nothing for the text itself (p), every bit for its negation.
+pub fn turn(p: bool) -> u32
+    ensures { λ r. ⌜ Word (λ i. not p) r ⌝ }
+{
+    same_word(!p)
 }
 
 // "and" (p) or "or".

@@ -99,7 +99,7 @@ operand t c =
     let known = s .pre .1 .1 .0 in
     let e = c .first-at .ensures in
     let low = first-low (a .nodes .now) (a .k) (known .0) more in
-    let need = one-need (a .nodes .now) (a .needs .now) (a .k) (known .0) (known .1) more less in (
+    let need = one-need (a .nodes .now) (a .needs .now) (a .k) (known .1) more less in (
       operator,
       omega (arith, e, low),
       subst (λ (i : ℕ). getD (a .needs .now) i 0 ≤ getD (a .needs .now) (a .k) 0) (sym e) (need .0),

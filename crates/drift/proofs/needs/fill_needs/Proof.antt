@@ -4,7 +4,7 @@ use lib.ListN.{getD, length, length-set}
 use lib.Seq.{getD-set-other}
 use Rattle.drift.specs.Need.{Needs}
 use Rattle.drift.specs.Needing.{needs-less, needs-more, need-below, each-more}
-use Rattle.drift.specs.Judged.{ordered-less}
+use Rattle.drift.specs.OperatorTruth.{ordered-less}
 use Rattle.drift.specs.Tree.{nodeAt}
 use native.Mathlib.Omega.{arith}
 use Rattle.drift.proofs.needs.fill_needs.Statement.{statement}
@@ -19,7 +19,7 @@ abbrev μ-loop : tie.MeasureT-loop
 μ-loop nodes n needs₀ k₀ needs k = n - k
 
 loop-holds : tie.Need-loop-holds Inv-loop μ-loop
-loop-holds c = (omega arith, refl, record { room = omega arith; each = λ k m p. absurd (omega arith) }, λ j p. absurd (omega arith), λ j p. refl)
+loop-holds c = (omega arith, refl, record { room = omega arith; each = λ k p. absurd (omega arith) }, λ j p. absurd (omega arith), λ j p. refl)
 
 node-need-requires : tie.Need-node-need-requires Inv-loop μ-loop
 node-need-requires c κs =
@@ -48,7 +48,7 @@ loop-again c =
     let low = need-below (v .needs) (v .k) (nodeAt block (v .k)) (o .below (v .k) (omega arith)) (v .inv .3) in (
       omega arith,
       length-set (v .needs) (v .k) _ ∙ v .inv .1,
-      needs-more block (v .needs) (v .k) o _ (v .inv .2) room e,
+      needs-more block (v .needs) (v .k) _ o (v .inv .2) room e,
       each-more (λ (j x : ℕ). x ≤ j) (v .needs) (v .k) _ room (v .inv .3) (omega (arith, e, low)),
       λ j q. getD-set-other (v .needs) (v .k) j _ 0 (λ d. omega arith) ∙ v .inv .4 j (omega arith),
     )

@@ -37,7 +37,7 @@ returns c =
     let needed : ℕ → ℕ = λ i. getD (s .args .needs .now) i 0 in
     let test : needed (c .before .before .before .before .first-at .result) < needed (c .before .before .before .second-at .result) =
     omega (arith, c .if1 .taken) in
-    let need = right-first (s .args .nodes .now) (s .args .needs .now) (s .args .k) (s .pre .0 .0) (s .pre .0 .1) (s .pre .1 .0) (s .pre .1 .1) _ _ x-is
+    let need = right-first (s .args .nodes .now) (s .args .needs .now) (s .args .k) (s .pre .0 .1) (s .pre .1 .0) (s .pre .1 .1) _ _ x-is
     y-is test in
     record {
       order = sym (lt-ltb _ _ test) ∙ ap₂ (λ (i j : ℕ). ltb (needed i) (needed j)) x-is y-is;
@@ -57,7 +57,7 @@ returns-2 c =
     let needed : ℕ → ℕ = λ i. getD (s .args .needs .now) i 0 in
     let test : needed (c .before .before .before .second-at .result) ≤ needed (c .before .before .before .before .first-at .result) =
     omega (arith, c .if1 .left) in
-    let need = left-first (s .args .nodes .now) (s .args .needs .now) (s .args .k) (s .pre .0 .0) (s .pre .0 .1) (s .pre .1 .0) (s .pre .1 .1) _ _ x-is y-is
+    let need = left-first (s .args .nodes .now) (s .args .needs .now) (s .args .k) (s .pre .0 .1) (s .pre .1 .0) (s .pre .1 .1) _ _ x-is y-is
     test in
     record {
       order = sym (le-ltb _ _ test) ∙ ap₂ (λ (i j : ℕ). ltb (needed i) (needed j)) x-is y-is;

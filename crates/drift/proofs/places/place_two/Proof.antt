@@ -2,8 +2,7 @@ use mathlib.Core.Path.{sym, subst}
 use Prim.Native.Nat.{ℕ, _+_, _≤_}
 use lib.ListN.{length}
 use Rattle.table.specs.Table.{Apart}
-use Rattle.drift.specs.Places.{otherOf}
-use Rattle.drift.specs.Placing.{either-of, pairs-end, placed-ends, other-placed, other-apart, behind-apart, other-behind}
+use Rattle.drift.specs.Placing.{either-of, pairs-end, two-apart}
 use native.Mathlib.Omega.{arith}
 use borrow.Author.Needs.{needs}
 use Rattle.drift.proofs.places.place_two.Statement.{statement}
@@ -26,22 +25,17 @@ two-table-requires c κs =
     let r = s .pre .1 .0 in
     let p = s .pre .1 .1 in
     let e = c .before .before .before .other .ensures in
-    let made = other-placed (g .marks) (g .h) (a .at) (r .0) (a .first) in
-    let ends = placed-ends (g .marks) (g .h) (a .at) (r .0) in
+    let lie = two-apart (g .marks) (g .h) (a .at) (r .0) (a .first) (a .second) (length (a .t .now)) (p .0) (p .1) (omega (arith, r .1, r .2)) in
     let Inside : ℕ → Type 0 = λ n. n + g .h ≤ length (a .t .now) in
     let Beside : ℕ → Type 0 = λ n. Apart n (c .before .before .before .other .result) (g .h) in
-    let first-in : Inside (a .first) = omega (arith, r .1, r .2, ends (a .first) (p .0)) in
-    let first-by : Beside (a .first) =
-    subst (λ (n : ℕ). Apart (a .first) n (g .h)) (sym e) (other-apart (g .marks) (g .h) (a .at) (r .0) (a .first) (p .0)) in
-    let second-by : Beside (a .second) =
-    subst (λ (n : ℕ). Apart (a .second) n (g .h)) (sym e)
-    (behind-apart (g .marks) (g .h) (a .at) (r .0) (a .second) _ (p .1) made (other-behind (g .marks) (g .h) (a .at) (r .0) (a .first))) in (
+    let first-by : Beside (a .first) = subst (λ (n : ℕ). Apart (a .first) n (g .h)) (sym e) (lie .2) in
+    let second-by : Beside (a .second) = subst (λ (n : ℕ). Apart (a .second) n (g .h)) (sym e) (lie .3) in (
       s .pre .0 .0,
       (
         (
-          either-of Inside (a .swapped) (a .second) (a .first) (p .2) first-in _ (c .before .before .either .ensures),
-          either-of Inside (a .swapped) (a .first) (a .second) first-in (p .2) _ (c .before .either2 .ensures),
-          omega (arith, e, r .1, r .2, ends (otherOf (a .at) (g .h) (a .first)) made),
+          either-of Inside (a .swapped) (a .second) (a .first) (p .2) (lie .0) _ (c .before .before .either .ensures),
+          either-of Inside (a .swapped) (a .first) (a .second) (lie .0) (p .2) _ (c .before .either2 .ensures),
+          omega (arith, e, lie .1),
         ),
         (
           either-of Beside (a .swapped) (a .second) (a .first) second-by first-by _ (c .before .before .either .ensures),

@@ -3,7 +3,7 @@ use native.Mathlib.Omega.{arith}
 use mathlib.Core.Path.{_≡_, sym, subst, _∙_}
 use Rattle.cltl.specs.Rules.{hasNext}
 use Rattle.drift.specs.Tree.{clauseTree}
-use Rattle.drift.specs.Judged.{ordered-less}
+use Rattle.drift.specs.OperatorTruth.{ordered-less}
 use Rattle.drift.specs.Kinds.{operator-kind}
 use Rattle.drift.specs.NodeTruth.{first-low, two-low}
 use Rattle.drift.specs.Trees.{next-tells, leaf-tells, one-tells, two-tells}

@@ -4,7 +4,9 @@ use Rattle.cltl.specs.Agree.{lowest-agrees}
 use Rattle.table.specs.Keeping.{kept-all}
 use Rattle.drift.specs.Answer.{rowsOn}
 use Rattle.drift.specs.Lent.{ClauseNodes}
-use Rattle.drift.specs.Needing.{first-nodes}
+use Rattle.drift.specs.NodeTruth.{first-low}
+use Rattle.drift.specs.Order.{one-need}
+use Rattle.drift.specs.Needing.{operand-nodes}
 use Rattle.drift.specs.Trees.{globally-step, other-step}
 use native.Mathlib.Omega.{arith}
 use Rattle.drift.proofs.refused.failing_step.Statement.{statement}
@@ -24,7 +26,8 @@ clause-row-requires c κs =
     let e = sym (tested .before .kind-at .ensures) ∙ tested .if1 .taken in (
       s .pre .0,
       subst (ClauseNodes (a .nodes .now) (a .needs .now)) (sym (c .first-at .ensures))
-          (first-nodes (a .nodes .now) (a .needs .now) (a .k) (s .pre .1) (omega arith) (omega arith)),
+          (operand-nodes (a .nodes .now) (a .needs .now) (a .k) (s .pre .1) _ (first-low (a .nodes .now) (a .k) (s .pre .1 .ordered) (omega arith))
+          (one-need (a .nodes .now) (a .needs .now) (a .k) (s .pre .1 .needed) (omega arith) (omega arith) .0)),
     )
 
 lowest-off-requires : tie.Need-lowest-off-requires

@@ -1,0 +1,56 @@
+// The carts that keep to a text all along a window of d + 1 counters.
+ghost use Prim.Native.Nat.{ℕ, _+_, _^_, _≤_, _<_};
+ghost use mathlib.Core.Path.{_≡_};
+ghost use lib.Dec.{leb};
+ghost use lib.ListN.{length, getD};
+ghost use Rattle.cltl.specs.Rules.{throughout};
+ghost use Rattle.mask.specs.Mask.{on, Row, signed};
+ghost use Rattle.table.specs.Table.{told};
+ghost use Rattle.quorum.specs.Words.{Bits};
+
+// Of the words of the steps: from which steps on at least m carts have their bit at all of d + 1 counters.
+pub(crate) fn throughout_row(
+    w: &mut [u32; 88],
+    m: usize,
+    carts: usize,
+    h: usize,
+    l: usize,
+    d: usize,
+    bits: &[u32; 32],
+) -> u64
+    requires { ⌜ (l < h) × (h ≤ 64) × (d ≤ 16) × (carts ≤ 32) ⌝ }
+    requires { ⌜ length (now w) ≡ 88 ⌝ }
+    requires { ⌜ Bits (now bits) ⌝ }
+    requires { ⌜ ((s : ℕ) → s < h → getD (now w) s 0 < 2 ^ carts) ⌝ }
+    ensures { λ _. ⌜ length (now (w .exit)) ≡ 88 ⌝ }
+    ensures { λ r. ⌜ Row h r (λ s. leb m (throughout h l carts d (λ i s. on (getD (now (w .entry)) s 0) i) s)) ⌝ }
+{
+    crate::words::repeat_lap(w, h, l, d);
+    let off = crate::windows::narrow(w, h, d);
+    crate::counting::at_least(w, off, m, carts, h, bits)
+}
+
+// The steps s at which at least m carts satisfy the text (p), or its negation, whose table begins at `at`, at all of counters s to s + d: count_row
+// without its case of all carts at the step itself. The words of w are scratch.
+pub fn joint_row(
+    t: &[u32],
+    at: usize,
+    p: bool,
+    m: usize,
+    carts: usize,
+    h: usize,
+    l: usize,
+    d: usize,
+    w: &mut [u32; 88],
+    bits: &[u32; 32],
+) -> u64
+    requires { ⌜ (l < h) × (h ≤ 64) × (d ≤ 16) × (carts ≤ 32) ⌝ }
+    requires { ⌜ at + h ≤ length (now t) ⌝ }
+    requires { ⌜ length (now w) ≡ 88 ⌝ }
+    requires { ⌜ Bits (now bits) ⌝ }
+    ensures { λ _. ⌜ length (now (w .exit)) ≡ 88 ⌝ }
+    ensures { λ r. ⌜ Row h r (λ s. leb m (throughout h l carts d (λ i s. signed p (told (now (t .entry)) at i s)) s)) ⌝ }
+{
+    crate::words::unroll(t, at, p, carts, h, w);
+    throughout_row(w, m, carts, h, l, d, bits)
+}
