@@ -6,7 +6,7 @@ use mathlib.Core.List.{List}
 use lib.ListN.{length, drop}
 use Rattle.record.specs.Buffer.{stored}
 use Rattle.grammar.specs.Grammar.{Clause}
-use Rattle.grammar.specs.Limits.{nodes, countNodes}
+use Rattle.grammar.specs.Limits.{countNodes}
 use Rattle.grammar.specs.Nodes.{flatCount, flatClause}
 use Rattle.grammar.specs.Reader.{clauseLine}
 use Rattle.token.specs.Block.{nodesBytes}
@@ -23,10 +23,7 @@ pub record Judgeable (block : List ℕ) (n : ℕ) (c : Clause) : Type 0 where
   pub ordered : Ordered block ((n - 1) + 1)
   pub size : length block ≡ 512
   pub tree : (m : ℕ) → n - 1 < m → clauseTree block m (n - 1) ≡ c
-  pub small : nodes countNodes c ≤ 128
-
-pub small-held : (block : List ℕ) (n : ℕ) (c : Clause) → Judgeable block n c → Small block (n - 1)
-small-held block n c j m q = subst (λ (d : Clause). nodes countNodes d ≤ 128) (sym (j .tree m q)) (j .small)
+  pub small : Small block (n - 1)
 
 pub line-held : (s before : List ℕ) (r : PartRead) (block : List ℕ) (n : ℕ) (cs : List Clause) → (l : Line s before r block n cs) → length before ≡ 512
     → Judgeable block (r .n) (l .clause)
@@ -37,16 +34,16 @@ line-held s before r block n cs l size =
     let k : ℕ = length (flatClause c 0) in
     let e : k ≡ r .n = sym (l .held .slots ∙ zero k) in
     subst (λ (b : List ℕ). Judgeable b (r .n) c) (sym (l .held .block))
-    (subst (λ (m : ℕ). Judgeable (stored before 0 (nodesBytes (flatClause c 0))) m c) e (all h (l .good .0)))
+    (subst (λ (m : ℕ). Judgeable (stored before 0 (nodesBytes (flatClause c 0))) m c) e (all h))
   where
     zero : (k : ℕ) → 0 + k ≡ k
     zero k = omega arith
 
-    all : {b : List ℕ} {k : ℕ} {c : Clause} → (Ordered b k) × (0 < k) × (length b ≡ 512) × ((m : ℕ) → k ≤ m → clauseTree b m (k - 1) ≡ c)
-        → nodes countNodes c ≤ 128 → Judgeable b k c
-    all {b} {k} h few =
+    all : {b : List ℕ} {k : ℕ} {c : Clause}
+        → (Ordered b k) × (0 < k) × (length b ≡ 512) × ((m : ℕ) → k ≤ m → clauseTree b m (k - 1) ≡ c) × Small b (k - 1) → Judgeable b k c
+    all {b} {k} h =
         let z : k ≡ (k - 1) + 1 = omega (arith, h .1) in
-        record { some = h .1; ordered = subst (Ordered b) z (h .0); size = h .2; tree = λ m q. h .3 m (omega (arith, h .1)); small = few }
+        record { some = h .1; ordered = subst (Ordered b) z (h .0); size = h .2; tree = λ m q. h .3 m (omega (arith, h .1)); small = h .4 }
 
 -- a line read where one is left, ready to be judged
 pub record Ready (s before : List ℕ) (r : PartRead) (block : List ℕ) (n : ℕ) (cs : List Clause) : Type 0 where

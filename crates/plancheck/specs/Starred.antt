@@ -22,7 +22,7 @@ use Rattle.conflict.specs.OfPlan.{named}
 use Rattle.grammar.specs.Reader.{bind, node, skip, expectAt, expect, literal, digits, number, percent, chainAt, chainMore, chain, andChain, orChain, byKind, smallAt, smallOf, byOnward, untilAt, untilOf, deeper, smalls, untils, ors, markBy, marks, inners, countEnd, countBy, counts, clauses, clauseLine, lines, outcome, start, readSheet}
 use Rattle.sheet.specs.Rules.{rulesVerdict}
 use Rattle.cltl.specs.Threshold.{threshold, quota}
-use Rattle.cltl.specs.Rules.{tally, every, fix, window, quorum, judge, mark, inner, count, rules}
+use Rattle.cltl.specs.Rules.{tally, every, fix, window, quorum, judge, leaves, mark, inner, count, slack, someText, joint, joined, rules}
 use Rattle.cltl.specs.Step.{lowest, failing}
 use Rattle.plancheck.specs.Check.{nextVerdict, keptVerdict, checked}
 
@@ -67,7 +67,7 @@ unfolding
     bind node skip expectAt expect literal digits number percent chainAt chainMore chain andChain orChain byKind
     smallAt smallOf byOnward untilAt untilOf deeper smalls untils ors markBy marks inners countEnd countBy counts clauses
     clauseLine lines outcome start readSheet rulesVerdict
-    quota threshold tally every fix window quorum judge mark inner count rules lowest failing nextVerdict keptVerdict checked
+    quota threshold tally every fix window quorum judge leaves mark inner count slack someText joint joined rules lowest failing nextVerdict keptVerdict checked
 computing floor plan sheet = checked floor plan sheet
 
 -- document 01's starred cases, on a floor
@@ -183,6 +183,63 @@ pub percentages :
     × (verdict "F ![m0,75%]" 2 ≡ Accepted)
 unfolding computing
 percentages = (refl, refl, refl, refl, refl, refl, refl, refl, refl, refl, refl, refl, refl, refl, refl, refl, refl, refl)
+
+---- Document 02, 4): either table will do.
+-- places with m1, with m2 and with no mark, lanes 0→1, 0→2 and 1→2, two carts from place 0 and one from place 1
+abbrev tables : List ℕ
+tables =
+    4 ∷ 0 ∷ 1 ∷ 0 ∷ 2 ∷ 0 ∷ 0 ∷ 0 ∷
+    4 ∷ 0 ∷ 1 ∷ 0 ∷ 4 ∷ 0 ∷ 0 ∷ 0 ∷
+    4 ∷ 0 ∷ 1 ∷ 0 ∷ 0 ∷ 0 ∷ 0 ∷ 0 ∷
+    3 ∷ 0 ∷ 2 ∷ 0 ∷ 0 ∷ 1 ∷ 255 ∷
+    3 ∷ 0 ∷ 2 ∷ 0 ∷ 0 ∷ 2 ∷ 255 ∷
+    3 ∷ 0 ∷ 2 ∷ 0 ∷ 1 ∷ 2 ∷ 255 ∷
+    2 ∷ 0 ∷ 3 ∷ 0 ∷ 0 ∷ 0 ∷
+    2 ∷ 0 ∷ 3 ∷ 0 ∷ 0 ∷ 0 ∷
+    2 ∷ 0 ∷ 3 ∷ 0 ∷ 0 ∷ 1 ∷ []
+
+-- document 002's example 3: one always on m1, one on m1 once and then on m2, one always on m2
+abbrev three : ℕ → List ℕ
+three d =
+    6 ∷ 0 ∷ 4 ∷ 0 ∷ 2 ∷ 0 ∷ 1 ∷ 0 ∷ d ∷ 0 ∷
+    2 ∷ 0 ∷ 5 ∷ 0 ∷ 0 ∷ 0 ∷
+    2 ∷ 0 ∷ 5 ∷ 0 ∷ 0 ∷ 1 ∷
+    2 ∷ 0 ∷ 5 ∷ 0 ∷ 1 ∷ 1 ∷ []
+
+-- and then all on neither
+abbrev leaving : ℕ → List ℕ
+leaving d =
+    6 ∷ 0 ∷ 4 ∷ 0 ∷ 3 ∷ 0 ∷ 2 ∷ 0 ∷ d ∷ 0 ∷
+    3 ∷ 0 ∷ 5 ∷ 0 ∷ 0 ∷ 0 ∷ 2 ∷
+    3 ∷ 0 ∷ 5 ∷ 0 ∷ 0 ∷ 1 ∷ 2 ∷
+    3 ∷ 0 ∷ 5 ∷ 0 ∷ 1 ∷ 1 ∷ 2 ∷ []
+
+pub either-table :
+    -- neither side is true with drift 1, so that it was refused; now it is accepted, and with drift 0 as before
+    (checked tables (three 1) (sheet "[m1,2]") ≡ AboutRules (refused 17 0 0))
+    × (checked tables (three 1) (sheet "[m2,2]") ≡ AboutRules (refused 17 0 0))
+    × (checked tables (three 1) (sheet "[m1,2] | [m2,2]") ≡ Accepted)
+    × (checked tables (three 0) (sheet "[m1,2] | [m2,2]") ≡ Accepted)
+    -- more carts than the sum, not as many
+    × (checked tables (three 1) (sheet "[m1,2] | [m2,3]") ≡ AboutRules (refused 17 0 0))
+    -- which are ors: under a negation an and, and no written or
+    × (checked tables (three 1) (sheet "!(![m1,2] & ![m2,2])") ≡ Accepted)
+    × (checked tables (three 1) (sheet "!([m1,2] | [m2,2])") ≡ AboutRules (refused 17 0 0))
+    -- grouped as written, and without parentheses from the left
+    × (checked tables (three 1) (sheet "([m1,2] | [m2,2]) | [m3,3]") ≡ Accepted)
+    × (checked tables (three 1) (sheet "[m1,2] | ([m2,2] | [m3,3])") ≡ AboutRules (refused 17 0 0))
+    × (checked tables (three 1) (sheet "[m1,2] | [m2,2] | [m3,3]") ≡ Accepted)
+    -- not all counts
+    × (checked tables (three 1) (sheet "[m1,2] | F [m3,1] | [m2,2]") ≡ AboutRules (refused 17 0 0))
+    -- U asks for the or, and its right side is still to be reached
+    × (checked tables (three 1) (sheet "[m1,2] U [m2,2]") ≡ Accepted)
+    × (checked tables (three 1) (sheet "!(![m1,2] R ![m2,2])") ≡ Accepted)
+    × (checked tables (three 1) (sheet "[m1,2] U [m3,1]") ≡ AboutRules (refused 17 0 0))
+    -- the lowest step where the body fails is by the new rule: with drift 1 step 1, with drift 2 step 0
+    × (checked tables (leaving 1) (sheet "true\nG ([m1,2] | [m2,2])") ≡ AboutRules (refused 17 1 1))
+    × (checked tables (leaving 2) (sheet "true\nG ([m1,2] | [m2,2])") ≡ AboutRules (refused 17 1 0))
+unfolding computing
+either-table = (refl, refl, refl, refl, refl, refl, refl, refl, refl, refl, refl, refl, refl, refl, refl, refl)
 
 ---- Further cases, so that no definition here has another reading.
 -- the two places, lanes 1→0 and 0→1 for these classes, a cart of class 2 from place 1; and a plan that goes to place 0 and back

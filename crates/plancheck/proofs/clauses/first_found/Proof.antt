@@ -42,7 +42,7 @@ clause-row-requires : tie.Need-clause-row-requires
 clause-row-requires c κs =
     let filled = c .before .before .before .before in
     let s = filled .before .before .before .before .before .before in
-    (s .pre .0, record { ordered = s .pre .1 .0; needed = filled .fill-needs .ensures .0; small = s .pre .1 .2 })
+    (s .pre .0, record { ordered = s .pre .1 .0; needed = filled .fill-needs .ensures .0; few = s .pre .1 .2 _ (filled .fill-needs .ensures .0) })
 
 same-length : tie.Need-same-length
 same-length c = c .before .before .before .clause-row .ensures .0 .0 .size
@@ -73,7 +73,7 @@ failing-step-requires c κs =
     let a = s .args in
     let r = judged .clause-row .ensures .0 in (
       still-lent (a .g) (a .t .now) (a .w .now) (a .bits .now) _ _ (s .pre .0) (r .0) (r .1),
-      record { ordered = s .pre .1 .0; needed = filled .fill-needs .ensures .0; small = s .pre .1 .2 },
+      record { ordered = s .pre .1 .0; needed = filled .fill-needs .ensures .0; few = s .pre .1 .2 _ (filled .fill-needs .ensures .0) },
     )
 
 cast-refuse : tie.Need-cast-refuse

@@ -20,7 +20,7 @@ use Rattle.drift.specs.Lent.{Lent}
 use Rattle.drift.specs.Lending.{still-lent}
 use Rattle.drift.specs.Placing.{six-end}
 use Rattle.plancheck.specs.Lines.{accepted-short}
-use Rattle.plancheck.specs.LineHeld.{Ready, ready, small-held}
+use Rattle.plancheck.specs.LineHeld.{Ready, ready}
 use Rattle.plancheck.specs.Check.{marksAt, clauseVerdict}
 use Rattle.plancheck.specs.Marked.{placed, unborne, shown}
 use Rattle.plancheck.specs.Turns.{Going, going-start, going-end, going-16, going-on}
@@ -143,7 +143,7 @@ first-found-requires c κs =
     let read = c .before .before .before .before .before .before .before .before .before in
     let v = read .before .before .before .loop in
     let j = line-read read .judge in
-    (v .inv .4, (j .ordered, omega (arith, j .ordered .room, j .size, j .some), small-held _ _ _ j))
+    (v .inv .4, (j .ordered, omega (arith, j .ordered .room, j .size, j .some), j .small))
 
 add-n : tie.Need-add-n Inv-loop μ-loop
 add-n c =
