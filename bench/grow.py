@@ -1,6 +1,6 @@
 #!/usr/bin/env python3
 """Writes accepted inputs to the folder given as argument: ones that grow in one dimension each, from a full load down, ones with and
-without narrow places, and ones that lead deep into a clause. Run from the repository's root."""
+without narrow places, and sheets for the floor and plan of c. Run from the repository's root."""
 import pathlib
 import shutil
 import sys
@@ -87,23 +87,55 @@ def write_narrow(folder, narrow, place):
     (folder / "rules").write_text("[m0,0]\n")
 
 
-# For the most stack: 30 negations of a chain of & with 49 operands, which is 79 nodes deep. A chain is no level of nesting, so the 32 levels of the
-# reader do not bound how deep judging goes.
-CHAIN = "!" * 30 + "(" + "&".join(["true"] * 49) + ")"
-CHAINS = {"chain": CHAIN, "chain_inside": f"[{CHAIN},0]"}
+# For the most stack: 30 negations of a chain of & with 48 operands, the first a count, which is 79 nodes deep. A chain is no level of nesting, so the
+# 32 levels of the reader do not bound how deep judging goes.
+CHAIN = "!" * 30 + "([m0,0]" + "&true" * 47 + ")"
+CHAIN_INSIDE = "[" + "!" * 30 + "(" + "&".join(["true"] * 49) + "),0]"
 
 
-def write_chain(folder, clause):
-    """With the floor and plan of c."""
+def joined(counts, depth):
+    """An or of counts, nested on the right so many levels deep; the rest is a chain."""
+    if depth == 0:
+        return "|".join(counts)
+    return f"{counts[0]}|({joined(counts[1:], depth - 1)})"
+
+
+def ors(number):
+    """43 counts, which with their marks and ors are 128 nodes, nested as deep as 32 levels allow: on the right, on the left, or as negated ands. Few
+    carts are asked for, so that every or has carts enough to be judged as a whole."""
+    counts = [f"[m{(k * (number + 1)) % 32},{1 + (k % 8 == 0)}]" for k in range(42)] + ["[true,1]"]
+    if number % 3 == 0:
+        return joined(counts, 31)
+    if number % 3 == 1:
+        return "(" * 31 + counts[0] + "".join(f"|{c})" for c in counts[1:32]) + "".join(f"|{c}" for c in counts[32:])
+    negated = [f"!{c}" for c in counts[12:]]
+    return f"!({joined(negated, 28)})".replace("|", "&")
+
+
+def untils(operators):
+    """So many U over counts, the last of which is always true."""
+    return " U ".join([f"[m{k % 32},2]" for k in range(operators)] + ["[true,32]"])
+
+
+# Clauses for the floor and plan of c.
+SHEETS = {
+    "chain": [CHAIN],
+    "chain_inside": [CHAIN_INSIDE],
+    "ors": [ors(number) for number in range(32)],
+    **{f"untils_{n}": [untils(n)] * 32 for n in (1, 8, 16, 31)},
+}
+
+
+def write_sheet(folder, clauses):
     folder.mkdir(parents=True, exist_ok=True)
     for file in ("floor", "plan"):
         shutil.copy(pathlib.Path("bench/inputs/c") / file, folder / file)
-    (folder / "rules").write_text(clause + "\n")
+    (folder / "rules").write_text("".join(clause + "\n" for clause in clauses))
 
 
 def main():
-    for name, clause in CHAINS.items():
-        write_chain(pathlib.Path(sys.argv[1]) / name, clause)
+    for name, clauses in SHEETS.items():
+        write_sheet(pathlib.Path(sys.argv[1]) / name, clauses)
     for name, (narrow, place) in NARROW.items():
         write_narrow(pathlib.Path(sys.argv[1]) / name, narrow, place)
     for name, sizes in SIZES.items():

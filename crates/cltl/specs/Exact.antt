@@ -67,10 +67,15 @@ module _ (P : Rows) (proper : Proper P) where
       reached : (x : Bool × Counted) → asked P x ≤ tally (λ i. text P i x s) (P .carts) → T (count P 0 (x .0) (x .1) s)
       reached x z = none-quorum (P .h) (P .l) (P .carts) (asked P x) (λ i. text P i x) s q z
 
+  -- so without drift joining makes no difference
+  pub joining-plain : (p : Bool) (c : Clause) (s : ℕ) → s < P .h
+      → judge (P .h) (P .l) (count P 0) (joined P 0) p c s ≡ judge (P .h) (P .l) (count P 0) nothing p c s
+  joining-plain p c s q = judge-plain (P .h) (P .l) (proper .lap) (count P 0) (joined P 0) joined-none p c s q
+
   -- "Drift 0 gives the old verdicts."
   pub rules-plain : (c : Clause) (s : ℕ) → s < P .h → rules P 0 c s ≡ plainRules P 0 c s
   unfolding rules plainRules
-  rules-plain c s q = judge-plain (P .h) (P .l) (proper .lap) (count P 0) (joined P 0) joined-none true c s q
+  rules-plain c s q = joining-plain true c s q
 
   plain-exact : (c : Clause) (t : ℕ) → T (plainRules P 0 c (stepOf (P .h) (P .l) t)) ↔ InStepAt P c t
   unfolding plainRules

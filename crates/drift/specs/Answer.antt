@@ -1,11 +1,12 @@
 -- What judging a node gives, however deep its tree is looked up: the table of inner text; a clause's row, or its negation's, and its counts to join.
 use Prim.Native.Nat.{ℕ, _<_, min}
 use mathlib.Core.Path.{_≡_}
-use mathlib.Core.Bool.{Bool, true, false}
+use mathlib.Core.Bool.{Bool, true, false, cond}
 use mathlib.Core.List.{List, [], _∷_}
-use Rattle.grammar.specs.Grammar.{Counted}
+use lib.Dec.{eqb}
+use Rattle.grammar.specs.Grammar.{Counted, Clause}
 use Rattle.cltl.specs.Meaning.{Rows}
-use Rattle.cltl.specs.Rules.{leaves, judge, inner, count, slack, someText, joined}
+use Rattle.cltl.specs.Rules.{leaves, judge, inner, count, slack, someText, joint, joined}
 use Rattle.mask.specs.Mask.{Row, signed}
 use Rattle.table.specs.Table.{told}
 use Rattle.table.specs.Layout.{noneAt}
@@ -23,6 +24,13 @@ pub record InnerTable (P : Rows) (nodes : List ℕ) (k : ℕ) (t : List ℕ) (at
 -- a clause's row, with drift d
 abbrev pub ClauseRow : Rows → ℕ → List ℕ → Bool → ℕ → ℕ → Type 0
 ClauseRow P d nodes p k r = (n : ℕ) → k < n → Row (P .h) r (judge (P .h) (P .l) (count P d) (joined P d) p (clauseTree nodes n k))
+
+-- The counts that are joined. Without drift none are: what is true of an or by joining is then true of a side.
+abbrev pub joinable : ℕ → Bool → Clause → List (Bool × Counted)
+joinable d p c = cond (eqb d 0) [] (leaves p c)
+
+abbrev pub joinedOf : Rows → ℕ → Bool → Clause → ℕ → Bool
+joinedOf P d p c s = joint P d (joinable d p c) s
 
 -- whether there are counts
 abbrev pub hasCounts : List (Bool × Counted) → Bool
@@ -44,6 +52,9 @@ pub record Alone (marks h row : ℕ) (r : Judged) : Type 0 where
   pub no-slack : r .slack ≡ 0
 
 -- a part of a clause: its row, and its counts
+abbrev pub PartRow : Rows → ℕ → List ℕ → Bool → ℕ → ℕ → Type 0
+PartRow P d nodes p k r = (n : ℕ) → k < n → Row (P .h) r (judge (P .h) (P .l) (count P d) (joinedOf P d) p (clauseTree nodes n k))
+
 pub record ClauseJudged (P : Rows) (d : ℕ) (nodes : List ℕ) (p : Bool) (k : ℕ) (t : List ℕ) (r : Judged) : Type 0 where
-  pub rows : ClauseRow P d nodes p k (r .row)
-  pub counts : (n : ℕ) → k < n → Gathered P (leaves p (clauseTree nodes n k)) t r
+  pub rows : PartRow P d nodes p k (r .row)
+  pub counts : (n : ℕ) → k < n → Gathered P (joinable d p (clauseTree nodes n k)) t r

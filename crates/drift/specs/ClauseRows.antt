@@ -5,7 +5,7 @@ use mathlib.Core.Bool.{Bool, true, false, not, cond, _||_, or-false}
 use mathlib.Core.List.{List, [], _∷_}
 use mathlib.Core.Logic.{⊎-elim}
 use native.Mathlib.Omega.{arith}
-use lib.Dec.{eqb, ltb}
+use lib.Dec.{T, eqb, ltb, eqb·suc-zero}
 use lib.ListN.{length}
 use borrow.Author.Tests.{ne-eqb}
 use Rattle.grammar.specs.Grammar.{Form, top, leaf, neg, Counted, counted, Clause}
@@ -14,15 +14,18 @@ use Rattle.cltl.specs.Threshold.{threshold, quota}
 use Rattle.cltl.specs.Meaning.{Rows, Proper}
 use Rattle.cltl.specs.Rules.{both, leaves, judge, inner, quorum, asked, text, count, slack, someText, joint, joined}
 use Rattle.cltl.specs.Basics.{lt-or-le}
+use Rattle.cltl.specs.Operators.{judge-plain}
+use Rattle.cltl.specs.Exact.{joining-plain}
 use Rattle.mask.specs.Mask.{on, Row, signed}
 use Rattle.table.specs.Table.{told}
 use Rattle.table.specs.Layout.{Constants}
 use Rattle.drift.specs.declared.Judged.{Judged}
 use Rattle.drift.specs.Tree.{kindAt, firstAt, secondAt, thirdAt, one, two, oneOf, twoOf, tree, Ordered, innerTree, clauseTree}
 use Rattle.drift.specs.Operator.{under, isOr, orOf, oneRule, twoRule}
-use Rattle.drift.specs.Answer.{InnerTable, ClauseRow, Alone, Gathered, ClauseJudged}
+use Rattle.drift.specs.Answer.{InnerTable, ClauseRow, PartRow, joinable, joinedOf, Alone, Gathered, ClauseJudged}
 use Rattle.drift.specs.Kinds.{kind-count}
 use Rattle.drift.specs.OperatorTruth.{TruthIs, two-cong}
+use Rattle.drift.specs.OperatorRows.{row-of}
 use Rattle.drift.specs.NodeTruth.{under-other, one-low, two-low, at-top, at-mark, at-count, at-one, at-two}
 use Rattle.drift.specs.InnerTables.{inner-signed}
 use Rattle.drift.specs.Trees.{looked-up, top-tree, one-tree, two-tree}
@@ -72,6 +75,39 @@ one-leaves kind n p a = rw (ne-eqb kind 2 n) (go (eqb kind 3) (eqb kind 4))
     go false true = refl
     go false false = refl
 
+---- The same of those that are joined.
+module _ (d : ℕ) where
+  -- without drift there are none
+  with-drift : (Q : List (Bool × Counted) → Type 0) (xs : List (Bool × Counted)) → Q [] → Q xs → Q (cond (eqb d 0) [] xs)
+  with-drift Q xs a b = go (eqb d 0)
+    where
+      go : (z : Bool) → Q (cond z [] xs)
+      go true = a
+      go false = b
+
+  or-joinable : (o : Op₂) (p : Bool) (a b : Clause) → joinable d p (orOf o a b) ≡ cond (isOr o p) (both (joinable d p a) (joinable d p b)) []
+  or-joinable o p a b = go (eqb d 0) (isOr o p) (or-leaves o p a b)
+    where
+      go : (z q : Bool) → leaves p (orOf o a b) ≡ cond q (both (leaves p a) (leaves p b)) []
+          → cond z [] (leaves p (orOf o a b)) ≡ cond q (both (cond z [] (leaves p a)) (cond z [] (leaves p b))) []
+      go true true e = refl
+      go true false e = refl
+      go false q e = e
+
+  two-joinable : (kind : ℕ) → 6 ≤ kind → kind < 10 → (p : Bool) (a b : Clause)
+      → joinable d p (two (twoOf kind) a b) ≡ cond (ltb kind 8) (cond (isOr (twoOf kind) p) (both (joinable d p a) (joinable d p b)) []) []
+  two-joinable kind q q′ p a b = go (eqb d 0) (ltb kind 8) (isOr (twoOf kind) p) (two-leaves kind q q′ p a b)
+    where
+      go : (z u v : Bool) → leaves p (two (twoOf kind) a b) ≡ cond u (cond v (both (leaves p a) (leaves p b)) []) []
+          → cond z [] (leaves p (two (twoOf kind) a b)) ≡ cond u (cond v (both (cond z [] (leaves p a)) (cond z [] (leaves p b))) []) []
+      go true true true e = refl
+      go true true false e = refl
+      go true false v e = refl
+      go false u v e = e
+
+  no-joinable : (p : Bool) (c : Clause) → leaves p c ≡ [] → joinable d p c ≡ []
+  no-joinable p c e = with-drift (λ xs. xs ≡ []) (leaves p c) refl e
+
 ---- What is told of a node, by the tests on its kind.
 module _ (P : Rows) (d : ℕ) (nodes : List ℕ) (proper : Proper P) (p : Bool) (k kind x : ℕ) (ek : kind ≡ kindAt nodes k) (ex : x ≡ firstAt nodes k)
     (t : List ℕ) (r : Judged) where
@@ -85,8 +121,8 @@ module _ (P : Rows) (d : ℕ) (nodes : List ℕ) (proper : Proper P) (p : Bool) 
   counts i m percent = leaf (counted (innerTree nodes (length nodes) i) m percent)
 
   -- by the tree of the node, however deep the look
-  gathered : (xs : ℕ → List (Bool × Counted)) → ((n : ℕ) → k ≤ n → leaves p (clauseTree nodes (suc n) k) ≡ xs n) → ((n : ℕ) → k ≤ n → Gathered P (xs n) t r)
-      → (n : ℕ) → k < n → Gathered P (leaves p (clauseTree nodes n k)) t r
+  gathered : (xs : ℕ → List (Bool × Counted)) → ((n : ℕ) → k ≤ n → joinable d p (clauseTree nodes (suc n) k) ≡ xs n) → ((n : ℕ) → k ≤ n → Gathered P (xs n) t r)
+      → (n : ℕ) → k < n → Gathered P (joinable d p (clauseTree nodes n k)) t r
   gathered xs e f zero q = absurd (omega arith)
   gathered xs e f (suc n) q = subst (λ ys. Gathered P ys t r) (sym (e n (omega arith))) (f n (omega arith))
 
@@ -94,14 +130,14 @@ module _ (P : Rows) (d : ℕ) (nodes : List ℕ) (proper : Proper P) (p : Bool) 
   unfolding clauseTree judge leaves
   top-judged q g f = record {
     rows = λ n z. record { low = g .low; at = ⊎-elim top-at mark-at (lt-or-le kind 1) n z };
-    counts = gathered (λ n. []) (λ n z. ap (leaves p) (top-tree nodes n k (omega arith))) (λ n z. f);
+    counts = gathered (λ n. []) (λ n z. no-joinable d p (clauseTree nodes (suc n) k) (ap (leaves p) (top-tree nodes n k (omega arith)))) (λ n z. f);
   }
     where
-      top-at : kind < 1 → TruthIs (P .h) (P .l) (proper .lap) nodes rule (joined P d) none counts p k (on (r .row))
-      top-at u = at-top (P .h) (P .l) (proper .lap) nodes rule (joined P d) none counts p k (on (r .row)) kind x ek ex (omega arith) (g .at)
+      top-at : kind < 1 → TruthIs (P .h) (P .l) (proper .lap) nodes rule (joinedOf P d) none counts p k (on (r .row))
+      top-at u = at-top (P .h) (P .l) (proper .lap) nodes rule (joinedOf P d) none counts p k (on (r .row)) kind x ek ex (omega arith) (g .at)
 
-      mark-at : 1 ≤ kind → TruthIs (P .h) (P .l) (proper .lap) nodes rule (joined P d) none counts p k (on (r .row))
-      mark-at u = at-mark (P .h) (P .l) (proper .lap) nodes rule (joined P d) none counts p k (on (r .row)) kind x ek ex (omega arith) (g .at)
+      mark-at : 1 ≤ kind → TruthIs (P .h) (P .l) (proper .lap) nodes rule (joinedOf P d) none counts p k (on (r .row))
+      mark-at u = at-mark (P .h) (P .l) (proper .lap) nodes rule (joinedOf P d) none counts p k (on (r .row)) kind x ek ex (omega arith) (g .at)
 
   module _ (m : ℕ) (em : m ≡ secondAt nodes k + 256 * thirdAt nodes k) (q : 10 ≤ kind) where
     abbrev this : Counted
@@ -112,15 +148,15 @@ module _ (P : Rows) (d : ℕ) (nodes : List ℕ) (proper : Proper P) (p : Bool) 
         looked-up nodes n k (countN (firstAt nodes k) (secondAt nodes k + 256 * thirdAt nodes k) (eqb (kindAt nodes k) 11)) (kind-count (kindAt nodes k) _ _ _ (omega arith))
         ∙ ap₂ (λ (i j : ℕ). counts i j (eqb (kindAt nodes k) 11)) (sym ex) (sym em) ∙ ap (λ (o : ℕ). counts x m (eqb o 11)) (sym ek)
 
-    pub count-judged : Row (P .h) (r .row) (quorum (P .h) (P .l) (P .carts) d (asked P (p, this)) (λ i. text P i (p, this))) → Gathered P ((p, this) ∷ []) t r
+    pub count-judged : Row (P .h) (r .row) (quorum (P .h) (P .l) (P .carts) d (asked P (p, this)) (λ i. text P i (p, this))) → Gathered P (cond (eqb d 0) [] ((p, this) ∷ [])) t r
         → ClauseJudged P d nodes p k t r
     unfolding clauseTree judge count leaves
     count-judged g f = record {
       rows = λ n z. record {
         low = g .low;
-        at = at-count (P .h) (P .l) (proper .lap) nodes rule (joined P d) none counts p k (on (r .row)) kind x ek ex m em q (g .at) n z;
+        at = at-count (P .h) (P .l) (proper .lap) nodes rule (joinedOf P d) none counts p k (on (r .row)) kind x ek ex m em q (g .at) n z;
       };
-      counts = gathered (λ n. (p, this) ∷ []) (λ n z. ap (leaves p) (count-tree n)) (λ n z. f);
+      counts = gathered (λ n. cond (eqb d 0) [] ((p, this) ∷ [])) (λ n z. ap (joinable d p) (count-tree n)) (λ n z. f);
     }
 
   module _ (o : Ordered nodes (k + 1)) where
@@ -137,49 +173,49 @@ module _ (P : Rows) (d : ℕ) (nodes : List ℕ) (proper : Proper P) (p : Bool) 
           record {
             rows = λ n z. record {
               low = f .rows (suc x) (omega arith) .low;
-              at = at-one (P .h) (P .l) (proper .lap) nodes rule (joined P d) none counts p k (on (r .row)) kind x ek ex (on (r .row)) o q q′
+              at = at-one (P .h) (P .l) (proper .lap) nodes rule (joinedOf P d) none counts p k (on (r .row)) kind x ek ex (on (r .row)) o q q′
                   (λ n z s u. rw is (f .rows n z .at s u)) (λ s u. rw is) n z;
             };
-            counts = gathered (λ n. leaves (not p) (clauseTree nodes n x))
+            counts = gathered (λ n. joinable d (not p) (clauseTree nodes n x))
                 (λ n z.
-                ap (leaves p) (one-tree nodes n k (omega arith) (omega arith) ∙ ap₂ (λ (o : Op₁) (i : ℕ). one o (clauseTree nodes n i)) (ap oneOf (sym ek) ∙ is) (sym ex)))
+                ap (joinable d p) (one-tree nodes n k (omega arith) (omega arith) ∙ ap₂ (λ (o : Op₁) (i : ℕ). one o (clauseTree nodes n i)) (ap oneOf (sym ek) ∙ is) (sym ex)))
                 (λ n z. f .counts n (omega arith));
           }
 
-      pub one-judged : (a : ℕ) → (kind ≡ 2 → ⊥) → ClauseRow P d nodes p x a → Row (P .h) (r .row) (oneRule (P .h) (P .l) p (oneOf kind) (on a)) → Gathered P [] t r
+      pub one-judged : (a : ℕ) → (kind ≡ 2 → ⊥) → PartRow P d nodes p x a → Row (P .h) (r .row) (oneRule (P .h) (P .l) p (oneOf kind) (on a)) → Gathered P [] t r
           → ClauseJudged P d nodes p k t r
       unfolding clauseTree
       one-judged a n f g f′ = record {
         rows = λ m z. record {
           low = g .low;
-          at = at-one (P .h) (P .l) (proper .lap) nodes rule (joined P d) none counts p k (on (r .row)) kind x ek ex (on a) o q q′
-              (λ m z. subst (λ (b : Bool). ClauseRow P d nodes b x a) (sym (under-other kind p n)) f m z .at) (g .at) m z;
+          at = at-one (P .h) (P .l) (proper .lap) nodes rule (joinedOf P d) none counts p k (on (r .row)) kind x ek ex (on a) o q q′
+              (λ m z. subst (λ (b : Bool). PartRow P d nodes b x a) (sym (under-other kind p n)) f m z .at) (g .at) m z;
         };
         counts = gathered (λ m. [])
-            (λ m z. ap (leaves p) (one-tree nodes m k (omega arith) (omega arith)) ∙ one-leaves (kindAt nodes k) (λ e. n (ek ∙ e)) p _) (λ m z. f′);
+            (λ m z. no-joinable d p (clauseTree nodes (suc m) k) (ap (leaves p) (one-tree nodes m k (omega arith) (omega arith)) ∙ one-leaves (kindAt nodes k) (λ e. n (ek ∙ e)) p _)) (λ m z. f′);
       }
 
     module _ (y : ℕ) (ey : y ≡ secondAt nodes k) (q : 6 ≤ kind) (q′ : kind < 10) where
       -- the counts of both operands, if it is an or or asks for one
       abbrev zs : ℕ → List (Bool × Counted)
-      zs n = cond (isOr (twoOf kind) p) (both (leaves p (clauseTree nodes n x)) (leaves p (clauseTree nodes n y))) []
+      zs n = cond (isOr (twoOf kind) p) (both (joinable d p (clauseTree nodes n x)) (joinable d p (clauseTree nodes n y))) []
 
-      pub two-judged : (a b : ℕ) → ClauseRow P d nodes p x a → ClauseRow P d nodes p y b
+      pub two-judged : (a b : ℕ) → PartRow P d nodes p x a → PartRow P d nodes p y b
           → ((n : ℕ) → x < n → y < n
           → Row (P .h) (r .row) (twoRule (P .h) (P .l) p (twoOf kind) (joint P d (zs n)) (on a) (on b)) × Gathered P (cond (ltb kind 8) (zs n) []) t r)
           → ClauseJudged P d nodes p k t r
-      unfolding clauseTree joined
+      unfolding clauseTree
       two-judged a b ra rb g =
           let low = two-low nodes k o (omega arith) (omega arith) in
           record {
             rows = λ n u. record {
               low = g k (omega arith) (omega arith) .0 .low;
-              at = at-two (P .h) (P .l) (proper .lap) nodes rule (joined P d) none counts p k (on (r .row)) kind x ek ex (on a) o (on b) y ey q q′
+              at = at-two (P .h) (P .l) (proper .lap) nodes rule (joinedOf P d) none counts p k (on (r .row)) kind x ek ex (on a) o (on b) y ey q q′
                   (λ n u. ra n u .at) (λ n u. rb n u .at) (λ n u u′ s v. g n u u′ .0 .at s v
-                  ∙ two-cong (P .h) (P .l) (proper .lap) p (twoOf kind) _ _ _ _ _ _ (λ s _. ap (λ zs. joint P d zs s) (sym (or-leaves (twoOf kind) p _ _))) (λ s _. refl)
+                  ∙ two-cong (P .h) (P .l) (proper .lap) p (twoOf kind) _ _ _ _ _ _ (λ s _. ap (λ zs. joint P d zs s) (sym (or-joinable d (twoOf kind) p _ _))) (λ s _. refl)
                   (λ s _. refl) s v) n u;
             };
-            counts = gathered (λ n. cond (ltb kind 8) (zs n) []) (λ n u. ap (leaves p) (tree-is n) ∙ two-leaves kind q q′ p _ _)
+            counts = gathered (λ n. cond (ltb kind 8) (zs n) []) (λ n u. ap (joinable d p) (tree-is n) ∙ two-joinable d kind q q′ p _ _)
                 (λ n u. g n (omega arith) (omega arith) .1);
           }
         where
@@ -188,3 +224,17 @@ module _ (P : Rows) (d : ℕ) (nodes : List ℕ) (proper : Proper P) (p : Bool) 
               two-tree nodes n k (omega arith) (omega arith)
               ∙ ap₂ (λ (o i : ℕ). two (twoOf o) (clauseTree nodes n i) (clauseTree nodes n (secondAt nodes k))) (sym ek) (sym ex)
               ∙ ap (λ (i : ℕ). two (twoOf kind) (clauseTree nodes n x) (clauseTree nodes n i)) (sym ey)
+
+-- a part's row is a clause's: without drift joining makes no difference
+pub part-row : (P : Rows) → Proper P → (d : ℕ) (nodes : List ℕ) (p : Bool) (k r : ℕ) → PartRow P d nodes p k r → ClauseRow P d nodes p k r
+unfolding joint joined
+part-row P proper zero nodes p k r f n z =
+    row-of (P .h) r _ _ (λ s q. judge-plain (P .h) (P .l) (proper .lap) (count P 0) (joinedOf P 0) (λ p c s q e. absurd (none p c s e)) p (clauseTree nodes n k) s q
+    ∙ sym (joining-plain P proper p (clauseTree nodes n k) s q)) (f n z)
+  where
+    none : (p : Bool) (c : Clause) (s : ℕ) → T (joinedOf P 0 p c s) → ⊥
+    none p c s e = e
+part-row P proper (suc d) nodes p k r f n z =
+    subst
+    (λ (b : Bool). Row (P .h) r (judge (P .h) (P .l) (count P (suc d)) (λ p c s. joint P (suc d) (cond b [] (leaves p c)) s) p (clauseTree nodes n k)))
+    (eqb·suc-zero d) (f n z)

@@ -7,7 +7,7 @@ use native.Mathlib.Omega.{arith}
 use lib.Dec.{T, ltb, leb→le, le→leb}
 use Rattle.grammar.specs.Grammar.{Counted}
 use Rattle.cltl.specs.Meaning.{Rows, Proper}
-use Rattle.cltl.specs.Rules.{window, throughout, both, leaves, asked, text, slack, someText, joint}
+use Rattle.cltl.specs.Rules.{window, throughout, both, asked, text, slack, someText, joint}
 use Rattle.cltl.specs.Basics.{bool-ext}
 use Rattle.cltl.specs.Tally.{tally-le}
 use Rattle.cltl.specs.Agree.{throughout-agrees}
@@ -17,7 +17,7 @@ use Rattle.table.specs.Layout.{noneAt, Constants}
 use Rattle.table.specs.Keeping.{kept-told}
 use Rattle.drift.specs.declared.Judged.{Judged}
 use Rattle.drift.specs.Tree.{clauseTree}
-use Rattle.drift.specs.Answer.{hasCounts, Alone, Gathered, ClauseRow, ClauseJudged}
+use Rattle.drift.specs.Answer.{hasCounts, Alone, Gathered, joinable, PartRow, ClauseJudged}
 use Rattle.drift.specs.OperatorRows.{row-of}
 
 abbrev Counts : Type 0
@@ -186,9 +186,9 @@ module _ (P : Rows) (few : P .carts ≤ 32) where
   -- what was told of both operands, in the order in which they stand
   pub in-place : (d : ℕ) (nodes : List ℕ) (p swapped : Bool) (i j x y : ℕ) (before after : List ℕ) (first second : Judged) {n : ℕ} → i ≡ cond swapped y x
       → j ≡ cond swapped x y → Kept n before after → first .at + P .h ≤ n → ClauseJudged P d nodes p i before first → ClauseJudged P d nodes p j after second
-      → ClauseRow P d nodes p x (cond swapped (second .row) (first .row)) × ClauseRow P d nodes p y (cond swapped (first .row) (second .row))
-      × ((m : ℕ) → x < m → Gathered P (leaves p (clauseTree nodes m x)) after (cond swapped second first))
-      × ((m : ℕ) → y < m → Gathered P (leaves p (clauseTree nodes m y)) after (cond swapped first second))
+      → PartRow P d nodes p x (cond swapped (second .row) (first .row)) × PartRow P d nodes p y (cond swapped (first .row) (second .row))
+      × ((m : ℕ) → x < m → Gathered P (joinable d p (clauseTree nodes m x)) after (cond swapped second first))
+      × ((m : ℕ) → y < m → Gathered P (joinable d p (clauseTree nodes m y)) after (cond swapped first second))
   in-place d nodes p true i j x y before after first second ei ej kept q f g = (
     rw ej at (g .rows),
     rw ei at (f .rows),

@@ -24,7 +24,7 @@ ghost use Rattle.drift.specs.Places.{pairsEnd, Placed};
 ghost use Rattle.drift.specs.Lent.{Lent, ClauseNodes};
 ghost use Rattle.drift.specs.Answer.{rowsOn, ClauseRow, ClauseJudged};
 
-// A count, or its negation, its text judged in the pairs of places from an offset on.
+// A count, or its negation, its text judged in the pairs of places from an offset on. Without drift it is joined to none.
 fn leaf_judged(
     nodes: &[u8],
     needs: &[u8],
@@ -47,8 +47,12 @@ fn leaf_judged(
     let percent = kind_at(nodes, k) == 11;
     let m = quota(p, threshold(number_at(nodes, k), percent, g.carts), g.carts);
     let from = inner_table(nodes, needs, t, g, at, first_at(nodes, k));
+    let row = quorum::count_row(t, from, p, m, g.carts, g.h, g.l, g.d, w, bits);
+    if g.d == 0 {
+        return alone(row, g);
+    }
     Judged {
-        row: quorum::count_row(t, from, p, m, g.carts, g.h, g.l, g.d, w, bits),
+        row,
         joins: true,
         at: from,
         sign: p,

@@ -1,5 +1,6 @@
 // Counts over all carts, at every step at once.
 use crate::Ground;
+use endian::wide;
 ghost use mathlib.Core.Path.{_≡_};
 ghost use Prim.Native.Nat.{_+_, _-_, _<_, _≤_, min};
 ghost use lib.Dec.{ltb};
@@ -34,17 +35,17 @@ pub fn quota(p: bool, m: usize, size: usize) -> usize
 }
 
 // What a count adds to the slack of an or: no or has more carts than 32.
-pub fn slack_of(m: usize) -> usize
+pub fn slack_of(m: usize) -> u8
     ensures { λ r. ⌜ r ≡ min 32 (m - 1) ⌝ }
 {
     if m == 0 {
         return 0;
     }
-    if 32 < m { 32 } else { m - 1 }
+    if 32 < m { 32 } else { (m - 1) as u8 }
 }
 
 // The slack of two sides.
-pub fn added(a: usize, b: usize) -> usize
+pub fn added(a: u8, b: u8) -> u8
     requires { ⌜ (a ≤ 32) × (b ≤ 32) ⌝ }
     ensures { λ r. ⌜ r ≡ min 32 (a + b) ⌝ }
 {
@@ -55,7 +56,7 @@ pub fn added(a: usize, b: usize) -> usize
 pub fn together(
     t: &[u32],
     at: usize,
-    slack: usize,
+    slack: u8,
     w: &mut [u32; 88],
     bits: &[u32; 32],
     g: Ground,
@@ -65,8 +66,9 @@ pub fn together(
     ensures { λ _. ⌜ length (now (w .exit)) ≡ 88 ⌝ }
     ensures { λ r. ⌜ Row (g .h) r (λ s. ltb slack (throughout (g .h) (g .l) (g .carts) (g .d) (told (now (t .entry)) at) s)) ⌝ }
 {
-    if g.carts <= slack {
+    let few = wide(slack);
+    if g.carts <= few {
         return 0;
     }
-    quorum::joint_row(t, at, true, slack + 1, g.carts, g.h, g.l, g.d, w, bits)
+    quorum::joint_row(t, at, true, few + 1, g.carts, g.h, g.l, g.d, w, bits)
 }

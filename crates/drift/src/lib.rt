@@ -38,5 +38,5 @@ pub struct Judged {
     pub joins: bool,
     pub at: usize,
     pub sign: bool,
-    pub slack: usize,
+    pub slack: u8,
 }

@@ -7,12 +7,11 @@ use native.Mathlib.Nat.{le-refl}
 use lib.ListN.{getD}
 use Rattle.cltl.specs.Basics.{lt-or-le}
 use Rattle.cltl.specs.Meaning.{Proper}
-use Rattle.cltl.specs.Rules.{leaves}
 use Rattle.table.specs.Keeping.{none-ends, kept-all, kept-then, kept-shown, kept-constants, shown-itself}
 use Rattle.drift.specs.declared.Judged.{Judged}
 use Rattle.drift.specs.Tree.{kindAt, firstAt, secondAt, oneOf, clauseTree}
 use Rattle.drift.specs.Operator.{under}
-use Rattle.drift.specs.Answer.{rowsOn, ClauseRow, ClauseJudged, Gathered}
+use Rattle.drift.specs.Answer.{rowsOn, joinable}
 use Rattle.drift.specs.NodeTruth.{under-other, first-low}
 use Rattle.drift.specs.Order.{one-need}
 use Rattle.drift.specs.Places.{Placed}
@@ -326,8 +325,8 @@ clause-judged-returns-4 t c =
           (first .clause-judged2 .result) (second .clause-judged3 .result) (turn .first-is) (turn .second-is) (two .0 .0) ends left right in
           two-judged P (g .d) (a .nodes .now) proper (a .p) (a .k) _ _ (kind .ensures) refl _ _ (nodes .ordered) _ refl
           (omega (arith, order .before .if3 .left)) (omega (arith, order .before .before .before .if1 .left)) _ _ (operands .0) (operands .1)
-          (λ n u v. made .1 bears (leaves (a .p) (clauseTree (a .nodes .now) n (firstAt (a .nodes .now) (a .k))))
-          (leaves (a .p) (clauseTree (a .nodes .now) n (secondAt (a .nodes .now) (a .k)))) (operands .2 n u) (operands .3 n v)),
+          (λ n u v. made .1 bears (joinable (g .d) (a .p) (clauseTree (a .nodes .now) n (firstAt (a .nodes .now) (a .k))))
+          (joinable (g .d) (a .p) (clauseTree (a .nodes .now) n (secondAt (a .nodes .now) (a .k)))) (operands .2 n u) (operands .3 n v)),
     )
 
 pub +clause-judged-spec : {M : Type 1} → statement M

@@ -2,6 +2,8 @@ use Prim.Native.Nat.{_+_}
 use native.Mathlib.Omega.{arith}
 use native.Mathlib.Nat.{le-refl}
 use Rattle.drift.specs.Placing.{at-most, six-end}
+use Rattle.drift.specs.Answer.{rowsOn}
+use Rattle.drift.specs.ClauseRows.{part-row}
 use Rattle.drift.proofs.clauses.clause_row.Statement.{statement}
 use Rattle.drift.proofs.clauses.clause_row.Tie as tie
 
@@ -23,7 +25,15 @@ same-length : tie.Need-same-length
 same-length c = c .before .before .clause-judged .ensures .0 .0 .size
 
 returns : tie.Need-returns
-returns c = let judged = c .before .before .clause-judged .ensures in ((judged .0 .0, judged .0 .1), λ bears shown. judged .1 bears shown .rows)
+returns c =
+    let s = c .before .before .before .before .before .before .before .before .before .before in
+    let g = s .args .g in
+    let r = s .pre .0 .range in
+    let judged = c .before .before .clause-judged .ensures in (
+      (judged .0 .0, judged .0 .1),
+      λ bears shown. part-row (rowsOn (g .carts) (g .h) (g .l) bears) (record { some = r .some; lap = r .lap }) (g .d) (s .args .nodes .now) (s .args .p) (s .args .k) _
+          (judged .1 bears shown .rows),
+    )
 
 pub clause-row-spec : {M : Type 1} → statement M
 clause-row-spec =

@@ -1,17 +1,29 @@
-use Prim.Native.Nat.{ℕ, _+_, _*_, _≤_, _<_}
+use Prim.Native.Nat.{ℕ, _+_, _-_, _*_, _≤_, _<_, min}
 use mathlib.Core.Path.{_≡_, refl, sym, ap, subst, _∙_}
+use mathlib.Core.Bool.{Bool, cond}
+use mathlib.Core.List.{[], _∷_}
+use mathlib.Core.Logic.{inl}
+use lib.Dec.{eqb}
 use lib.ListN.{getD, length}
+use borrow.Author.Tests.{eq-eqb, ne-eqb}
+use Rattle.grammar.specs.Grammar.{Counted, counted}
 use Rattle.cltl.specs.Threshold.{quota}
-use Rattle.cltl.specs.Meaning.{Rows, Proper}
+use Rattle.cltl.specs.Meaning.{Proper}
+use Rattle.cltl.specs.Rules.{asked, text as text-of}
+use Rattle.mask.specs.Mask.{signed}
+use Rattle.table.specs.Table.{told}
+use Rattle.table.specs.Layout.{Shown}
+use Rattle.table.specs.Keeping.{none-ends, kept-all, kept-then, kept-constants}
+use Rattle.drift.specs.declared.Judged.{Judged}
 use Rattle.drift.specs.Tree.{innerTree}
-use Rattle.drift.specs.Answer.{rowsOn}
+use Rattle.drift.specs.Answer.{rowsOn, Gathered, ClauseJudged}
 use Rattle.drift.specs.NodeTruth.{count-low}
 use Rattle.drift.specs.Needing.{up-to}
 use Rattle.drift.specs.Order.{count-need}
 use Rattle.drift.specs.Placing.{fewer-pairs}
 use Rattle.drift.specs.InnerTables.{inner-signed, count-signed}
 use Rattle.drift.specs.ClauseRows.{count-judged}
-use Rattle.drift.specs.Gathering.{count-gathered}
+use Rattle.drift.specs.Gathering.{alone-gathered, count-gathered}
 use native.Mathlib.Omega.{arith}
 use borrow.Author.Needs.{needs}
 use Rattle.drift.proofs.clauses.leaf_judged.Statement.{statement}
@@ -65,36 +77,98 @@ count-row-requires c κs =
     let r = s .pre .0 .range in
     ((r .lap, r .steps, r .drift, r .few), (c .before .before .before .before .inner-table .ensures .0 .2, (s .pre .0 .windows, s .pre .0 .bits)))
 
-slack-of-requires : tie.Need-slack-of-requires
-slack-of-requires c κs = search needs
+-- the count that node k stands for
+abbrev this : tie.After-count-row → Bool × Counted
+this c =
+    let text = c .before .before .before .before .before in
+    let a = text .before .before .before .before .before .before .before .before .before .before .args in (
+      a .p,
+      counted (innerTree (a .nodes .now) (length (a .nodes .now)) (text .before .first-at .result))
+          (text .before .before .before .before .before .number-at .result) (eqb (text .before .before .before .before .before .before .kind-at .result) 11),
+    )
 
-same-length : tie.Need-same-length
-same-length c = c .before .before .before .before .before .before .inner-table .ensures .0 .0 .size
+threshold-is : (c : tie.After-count-row) →
+    let text = c .before .before .before .before .before in
+    let a = text .before .before .before .before .before .before .before .before .before .before .args in
+    (bears : ℕ → ℕ → ℕ → Bool) → text .before .before .before .quota .result ≡ asked (rowsOn (a .g .carts) (a .g .h) (a .g .l) bears) (this c)
+threshold-is c bears =
+    let text = c .before .before .before .before .before in
+    let a = text .before .before .before .before .before .before .before .before .before .before .args in
+    text .before .before .before .quota .ensures ∙ ap (λ (n : ℕ). quota (a .p) n (a .g .carts)) (text .before .before .before .before .threshold .ensures)
 
-returns : tie.Need-returns
-returns c =
-    let text = c .before .before .before .before .before .before in
+-- its row is the count's, with what there is to join
+judged : (c : tie.After-count-row) →
+    let text = c .before .before .before .before .before in
+    let a = text .before .before .before .before .before .before .before .before .before .before .args in
+    let g = a .g in
+    let after = text .inner-table .last .1 .1 .0 in
+    (bears : ℕ → ℕ → ℕ → Bool) → let P = rowsOn (g .carts) (g .h) (g .l) bears in
+    Shown (g .marks) (g .carts) (g .h) bears (a .t .now) → (r : Judged) → r .row ≡ c .count-row .result
+    → (((i s : ℕ) → i < g .carts → s < g .h → signed (a .p) (told after (text .inner-table .result) i s) ≡ text-of P i (this c) s)
+    → Gathered P (cond (eqb (g .d) 0) [] (this c ∷ [])) after r) → ClauseJudged P (g .d) (a .nodes .now) (a .p) (a .k) after r
+judged c bears shown r e f =
+    let text = c .before .before .before .before .before in
     let s = text .before .before .before .before .before .before .before .before .before .before in
     let a = s .args in
     let g = a .g in
-    let r = s .pre .0 .range in
-    let made = text .inner-table .ensures in
-    let count = c .before .count-row .ensures in
-    let number = text .before .before .before .before .before .number-at in
+    let range = s .pre .0 .range in
+    let P = rowsOn (g .carts) (g .h) (g .l) bears in
+    let proper : Proper P = record { some = range .some; lap = range .lap } in
+    let x = text .before .first-at in
     let kind = text .before .before .before .before .before .before .kind-at in
-    let m = text .before .before .before .quota .ensures ∙ ap (λ (n : ℕ). quota (a .p) n (g .carts)) (text .before .before .before .before .threshold .ensures) in (
-      (made .0 .0, count .0, made .0 .1, made .0 .2),
+    let low : x .result < length (a .nodes .now) = omega (arith, text-below (text .before), s .pre .1 .0 .0 .ordered .room) in
+    let inner = text .inner-table .ensures .1 bears shown in
+    count-judged P (g .d) (a .nodes .now) proper (a .p) (a .k) _ _ (kind .ensures) (x .ensures) _ r _ (text .before .before .before .before .before .number-at .ensures .0)
+    (omega (arith, kind .ensures, s .pre .1 .0 .1))
+    (rw (e, sym (threshold-is c bears)) (count-signed P proper (a .nodes .now) _ (x .result) _ (g .d) _ (a .p) _ low inner (c .count-row .ensures .1)))
+    (f (λ i j q u. inner-signed P proper (a .nodes .now) _ (x .result) _ inner (a .p) (length (a .nodes .now)) low i q j u))
+
+alone-requires : tie.Need-alone-requires
+alone-requires c κs =
+    c .before .before .before .before .before .before .before .before .before .before .before .before .before .before .before .before .before .pre .0 .range
+
+same-length : tie.Need-same-length
+same-length c = c .before .before .before .before .before .before .before .before .inner-table .ensures .0 .0 .size
+
+-- without drift nothing is joined
+returns : tie.Need-returns
+returns c =
+    let row = c .before .before .before in
+    let text = row .before .before .before .before .before in
+    let s = text .before .before .before .before .before .before .before .before .before .before in
+    let g = s .args .g in
+    let made = text .inner-table .ensures .0 in
+    let alone = c .alone .ensures in
+    let ends = none-ends (g .marks) (g .h) in
+    let kept = kept-then _ (s .args .at) (s .args .t .now) (s .args .t .now) _ (s .pre .1 .1 .0) (kept-all _ (s .args .t .now)) (made .0) in
+    let constants = kept-constants (g .marks) (g .h) (s .args .t .now) _ kept (s .pre .0 .constants) in (
+      (made .0, row .count-row .ensures .0, inl (omega (arith, alone .at-none, ends)), omega (arith, alone .at-none, ends, constants .room)),
       λ bears shown.
           let P = rowsOn (g .carts) (g .h) (g .l) bears in
-          let proper : Proper P = record { some = r .some; lap = r .lap } in
-          let x = text .before .first-at in
-          let low : x .result < length (a .nodes .now) = omega (arith, text-below (text .before), s .pre .1 .0 .0 .ordered .room) in
-          let inner = made .1 bears shown in
-          count-judged P (g .d) (a .nodes .now) proper (a .p) (a .k) _ _ (kind .ensures) (x .ensures) _ _ _ (number .ensures .0)
-          (omega (arith, kind .ensures, s .pre .1 .0 .1))
-          (rw (sym m) (count-signed P proper (a .nodes .now) _ (x .result) _ (g .d) _ (a .p) _ low inner (count .1)))
-          (count-gathered P (r .few) _ _ _ refl (c .slack-of .ensures ∙ rw m)
-          (λ i j q u. inner-signed P proper (a .nodes .now) _ (x .result) _ inner (a .p) (length (a .nodes .now)) low i q j u)),
+          judged row bears shown (c .alone .result) (alone .row-is)
+          (λ _. rw (eq-eqb (g .d) 0 (c .before .if1 .taken)) (alone-gathered P (s .pre .0 .range .few) (g .marks) _ _ _ constants alone)),
+    )
+
+slack-of-requires : tie.Need-slack-of-requires
+slack-of-requires c κs = search needs
+
+same-length-2 : tie.Need-same-length-2
+same-length-2 c = c .before .before .before .before .before .before .before .before .inner-table .ensures .0 .0 .size
+
+returns-2 : tie.Need-returns-2
+returns-2 c =
+    let row = c .before .before .before in
+    let text = row .before .before .before .before .before in
+    let s = text .before .before .before .before .before .before .before .before .before .before in
+    let g = s .args .g in
+    let made = text .inner-table .ensures .0 in (
+      (made .0, row .count-row .ensures .0, made .1, made .2),
+      λ bears shown.
+          let P = rowsOn (g .carts) (g .h) (g .l) bears in
+          judged row bears shown _ refl
+          (λ told.
+          rw (ne-eqb (g .d) 0 (c .before .if1 .left))
+          (count-gathered P (s .pre .0 .range .few) (this row) _ _ refl (c .slack-of .ensures ∙ ap (λ (m : ℕ). min 32 (m - 1)) (threshold-is row bears)) told)),
     )
 
 pub leaf-judged-spec : {M : Type 1} → statement M
@@ -108,6 +182,9 @@ leaf-judged-spec =
     first-at-requires
     inner-table-requires
     count-row-requires
-    slack-of-requires
+    alone-requires
     same-length
-    returns)
+    returns
+    slack-of-requires
+    same-length-2
+    returns-2)
