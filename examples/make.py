@@ -90,6 +90,21 @@ EXAMPLES = {
             "[G F m1,3]",  # every cart comes to a bay again and again
         ),
     ),
+    # Example 3 of source document 002: of three carts one stays at table m1, one goes from there to table m2, one stays at m2. With a drift of 1
+    # nobody can say at which of the two the second cart is, but one table has two carts at every moment.
+    "either-table": (
+        floor(
+            places=[{1}, {2}],
+            lanes=[(0, 1, EVERY)],
+            carts=[(0, 0), (0, 0), (0, 1)],
+        ),
+        plan(2, 1, 1, [[0, 0], [0, 1], [1, 1]]),
+        rules(
+            "[m1,2] | [m2,2]",  # at the start one of the two tables has two carts,
+            "G ([m1,2] | [m2,2])",  # and always
+            "[m1,2] U [m2,2]",  # two are at m1 until two are at m2: no moment is between the two
+        ),
+    ),
 }
 
 for name, files in EXAMPLES.items():

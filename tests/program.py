@@ -38,10 +38,18 @@ LONGEST_PLAN = bytes([6, 0, 4, 0, 64, 0, 63, 0, 16, 0]) + b"".join(bytes([64, 0,
 # 60% of four carts are two; from 63% on they are three, and so many never come together within the drift.
 WORKSHOP, WORKSHOP_PLAN, WORKSHOP_RULES = (read("workshop", name) for name in ("floor", "plan", "rules"))
 
+# One of two tables has two carts at every moment, though with drift 1 neither has them surely; drift is byte 8 of the plan.
+TABLES, TABLES_PLAN, TABLES_RULES = (read("either-table", name) for name in ("floor", "plan", "rules"))
+
 CASES = [
     ("workshop", [WORKSHOP, WORKSHOP_PLAN, WORKSHOP_RULES], "accepted"),
     ("workshop, 62% at the tables", [WORKSHOP, WORKSHOP_PLAN, WORKSHOP_RULES.replace(b"60%", b"62%")], "accepted"),
     ("workshop, 63% at the tables", [WORKSHOP, WORKSHOP_PLAN, WORKSHOP_RULES.replace(b"60%", b"63%")], "refused rules 17 3 0"),
+    ("either table", [TABLES, TABLES_PLAN, TABLES_RULES], "accepted"),
+    ("either table, drift 0", [TABLES, TABLES_PLAN[:8] + b"\0" + TABLES_PLAN[9:], TABLES_RULES], "accepted"),
+    ("either table, two at the one and three at the other", [TABLES, TABLES_PLAN, b"[m1,2] | [m2,3]\n"], "refused rules 17 0 0"),
+    ("either table, a hopeless count beside the first two", [TABLES, TABLES_PLAN, b"([m1,2] | [m2,2]) | [m3,3]\n"], "accepted"),
+    ("either table, a hopeless count beside the second", [TABLES, TABLES_PLAN, b"[m1,2] | ([m2,2] | [m3,3])\n"], "refused rules 17 0 0"),
     ("two carts", [FLOOR, PLAN, RULES], "accepted"),
     ("a clause that fails at step 2", [FLOOR, PLAN, b"G [m0,1]\n"], "refused rules 17 0 2"),
     ("no lanes", [FLOOR[:16] + FLOOR[30:], PLAN, RULES], "refused plan 11 0 0"),
