@@ -68,8 +68,10 @@ struct cartplan_verdict cartplan_check_moves(const uint8_t *floor, size_t floor_
  * refusals of cartplan_read_rules; then, about the rules: with a drift above 0, 16 (clause, 0) for the lowest clause with X
  * outside a count; then 17 (clause, step) for the lowest clause that is not true, the step being the lowest at which its body
  * fails if its outermost operator is G, else 0. A percentage is of the floor's carts, to the nearest cart, a half going up; less
- * than half a cart is none, and such a count is always true. With drift an or of counts is also true where more carts than the sum
- * of (threshold - 1) satisfy some of its texts at each counter within the drift, and a U b asks for that or until b is true. */
+ * than half a cart is none, and such a count is always true. With drift, once negations are driven
+ * inward, an or whose sides, through nested ors, are all counts is also true at step s if more carts than the sum of
+ * (threshold - 1) satisfy, at each of counters s to s + d, one of its inner texts, not always the same one; and a U b asks, where
+ * b is not yet true, for a or b by this rule. */
 struct cartplan_verdict cartplan_check(const uint8_t *floor, size_t floor_len,
                                        const uint8_t *plan, size_t plan_len,
                                        const uint8_t *rules, size_t rules_len);

@@ -526,8 +526,7 @@ CHECKS = [
     ("a negated G, in step", FLOOR, PLAN, sheet("!G [m0,1]"), "accepted"),
     ("a negated G, within the drift", FLOOR, drifting(1), sheet("!G [m0,1]"), "refused rules 17 0 0"),
     ("a count or its negation, in step", FLOOR, PLAN, sheet("X ([m1,1] | ![m1,1])"), "accepted"),
-    ("neither a count nor its negation, within the drift", FLOOR, drifting(1), sheet("[m1,1] | ![m1,1]"),
-     "refused rules 17 0 0"),
+    ("a count or its negation, within the drift", FLOOR, drifting(1), sheet("[m1,1] | ![m1,1]"), "accepted"),
     ("negation reaches the inner text", FLOOR, pair(2, 0, 16, 0, 0), sheet("![F !m0,1]"), "accepted"),
     # The window of the drift.
     ("window over steps 0 and 1", FLOOR, pair(4, 0, 1, 0, 0, 1, 1), sheet("[m0,2]"), "accepted"),
@@ -1241,7 +1240,7 @@ COUNTS = [
     counted("a large text that is false and a small one", [f"F ([{NONE_16},1] & [true,2])"], "17 0 0"),
     counted("a small one and a large text that is false", [f"F ([true,2] & [{NONE_16},1])"], "17 0 0"),
     counted("one large text until another", [f"[{MOST_16},2] U [!{MOST_16},1]", f"G ([{MOST_16},2] | [!{MOST_16},1])"]),
-    counted("one large text until another, d 16", [f"G ([{MOST_16},2] | [!{MOST_16},1])"], "17 0 44", 16),
+    counted("one large text until another, d 16", [f"G ([{MOST_16},2] | [!{MOST_16},1])", f"G ([{MOST_16},2] | [!{MOST_16},2])"], "17 1 44", 16),
     counted("the same text twice, one negated", [f"G ([{MOST_16},2] & ![!{MOST_16},1])"], "17 0 60"),
     counted("two clauses of large texts", [f"G [{ALL_16},2]", f"G ![{NONE_16},1]", f"G [{MOST_16},1]"], "17 2 61"),
 ]
@@ -1444,6 +1443,86 @@ STEPS = [
     ("two steps, a lap of one", FLOOR, pair(2, 1, 16, 0, 1), sheet("[m0,1]", "F [m1,2]", "[m0,2]"), "refused rules 17 2 0"),
 ]
 
+
+def tables(name, rows, l, d, clauses, verdict):
+    """A check of these clauses on places with m1, with m2 and without a mark, lanes between any two, and a cart for each row."""
+    lanes = b"".join(lane(start, end) for start in range(3) for end in range(3) if start != end)
+    floor = place(1 << 1) + place(1 << 2) + place() + lanes + b"".join(cart(0, steps[0]) for steps in rows)
+    plan = head(len(rows[0]), l, d) + b"".join(row(*steps) for steps in rows)
+    return "either: " + name, floor, plan, sheet(*clauses), verdict if verdict == "accepted" else "refused rules " + verdict
+
+
+# Document 002's example 3: one cart always on m1, one on m1 once and then on m2, one always on m2. With drift 1, at step 0, one cart is on m1
+# throughout the window, one on m2, and all three are on one or the other.
+EXAMPLE_3 = [(0, 0), (0, 1), (1, 1)]
+# The second cart goes on to the place without a mark, or comes through it.
+GONE_AT_LAST = [(0, 0, 0), (0, 1, 2), (1, 1, 1)]
+GONE_BETWEEN = [(0, 0, 0), (0, 2, 1), (1, 1, 1)]
+
+# Cart n is on places n and n + 1 in turn, each with a mark of its own: no cart is on one mark throughout a window, all are on the 32 together.
+RING_32 = [[(n + step % 2) % 32 for step in range(64)] for n in range(32)]
+RING_FLOOR = b"".join(place(1 << n) for n in range(32)) + b"".join(lane(n, (n + 1) % 32) + lane((n + 1) % 32, n) for n in range(32))
+RING = RING_FLOOR + b"".join(cart(0, n) for n in range(32)), head(64, 0, 16) + b"".join(row(*steps) for steps in RING_32)
+
+
+def ring_counts(first):
+    """A count for each mark: the first asks for so many carts, each other for two."""
+    return ["[m0,%d]" % first] + ["[m%d,2]" % k for k in range(1, 32)]
+
+
+def nested(counts):
+    """An or of counts that groups to the right."""
+    return counts[0] if len(counts) == 1 else "%s | (%s)" % (counts[0], nested(counts[1:]))
+
+
+# Document 02, 4): either table will do. As CHECKS; a refused clause stands last, so that those before it are accepted.
+EITHER = [
+    # Example 3: an or however it is written, and what stands beside it.
+    tables("example 3", EXAMPLE_3, 1, 1, [
+        "[m1,2] | [m2,2]", "[m2,2] | [m1,2]", "G ([m1,2] | [m2,2])", "!(![m1,2] & ![m2,2])", "!([!m1,2] & [!m2,2])", "!!([m1,2] | [m2,2])",
+        "[m1,2] | [m2,2] | [m3,3]", "[m3,3] | ([m1,2] | [m2,2])", "!true | ([m1,2] | [m2,2])", "[m1,50%] | [m2,67%]", "[m3,0] | [m3,4]",
+        "![m3,4] | [m3,4]", "[m1,2] | ![m1,2]", "F ([m1,2] | [m2,2]) & G [true,3]"], "accepted"),
+    tables("example 3, d 16, and a count alone", EXAMPLE_3, 1, 16, ["G ([m1,2] | [m2,2])", "[m1,2] U [m2,2]", "[m1,2]"], "17 2 0"),
+    tables("example 3 in step, and three of each", EXAMPLE_3, 0, 0, [
+        "G ([m1,2] | [m2,2])", "[m1,2] U [m2,2]", "!(![m1,2] R ![m2,2])", "[m1,2] R ([m1,2] | [m2,2])", "[m1,3] | [m2,2]"], "17 4 0"),
+    # More carts than the sum of thresholds less one: three than two, not than three.
+    tables("three carts, a sum of two and of three", EXAMPLE_3, 1, 1, [
+        "[m1,2] | ([m2,2] | [m3,1])", "[m1,2] | !(![m2,2] & ![m3,1])", "[m1,2] | ([m2,2] | [m3,2])"], "17 2 0"),
+    tables("three carts, a sum of two and of three in two counts", EXAMPLE_3, 1, 1, ["[m1,2] | [m2,2]", "[m1,2] | [m2,3]"], "17 1 0"),
+    tables("no cart asked for, and more than there are", EXAMPLE_3, 1, 1, ["[m3,0] | [m3,999]", "![m3,0] | [m1,2]"], "17 1 0"),
+    ("either: 32 carts on two marks in turn", CROWD, crowd(16, *range(32)),
+     sheet("[m0,17] | ![m0,17]", "G ([m0,16] | [m1,17])", "G ([m0,17] | [m1,16])", "[m0,17] | [m1,17]"), "refused rules 17 3 0"),
+    ("either: 32 counts for 32 carts", *RING,
+     sheet(" | ".join(ring_counts(1)), nested(ring_counts(1)), "G (%s)" % " | ".join(ring_counts(1)), " | ".join(ring_counts(2))),
+     "refused rules 17 3 0"),
+    # Each nested or is joined by itself, and no others are.
+    tables("a hopeless count on the right of both, on that of the second", EXAMPLE_3, 1, 1, [
+        "([m1,2] | [m2,2]) | [m3,3]", "[m1,2] | ([m2,2] | [m3,3])"], "17 1 0"),
+    tables("a hopeless count between both", EXAMPLE_3, 1, 1, ["[m1,2] | [m3,3] | [m2,2]"], "17 0 0"),
+    tables("a hopeless count, as negated ands", EXAMPLE_3, 1, 1, [
+        "!(![m1,2] & ![m2,2] & ![m3,3])", "!(![m1,2] & (![m2,2] & ![m3,3]))"], "17 1 0"),
+    # Counts alone.
+    tables("true is no count", EXAMPLE_3, 1, 1, ["!true | ([m1,2] | [m2,2])", "!true | [m1,2] | [m2,2]"], "17 1 0"),
+    tables("a G is no count", EXAMPLE_3, 1, 1, ["[m1,2] | [m2,2] | G [m3,1]", "[m1,2] | G [m3,1] | [m2,2]"], "17 1 0"),
+    tables("an and is no count", EXAMPLE_3, 1, 1, ["[m1,2] & true | [m2,2]"], "17 0 0"),
+    tables("a negated or is an and", EXAMPLE_3, 1, 1, ["!(![m1,2] & ![m2,2])", "!([m1,2] | [m2,2])"], "17 1 0"),
+    # The window: an inner text for each counter, the last one included, and no case of all carts at s.
+    tables("no mark behind the window, and the step of a G", GONE_AT_LAST, 2, 1, ["[m1,2] | [m2,2]", "G ([m1,2] | [m2,2])"], "17 1 1"),
+    tables("no mark at the window's end", GONE_AT_LAST, 2, 2, ["[m1,2] | [m2,2]"], "17 0 0"),
+    tables("no mark within the window", GONE_BETWEEN, 2, 2, ["F ([m1,2] | [m2,2])", "[m1,2] | [m2,2]"], "17 1 0"),
+    tables("all carts at s, in one count and in two", [(0, 2), (1, 2)], 1, 1, ["[m1 | m2,1]", "[m1,1] | [m2,1]"], "17 1 0"),
+    # U asks for either side while its right side has not come; that still has to come by itself. R is as it was.
+    tables("U and a negated R, R and a negated U", EXAMPLE_3, 1, 1, [
+        "[m1,2] U [m2,2]", "!(![m1,2] R ![m2,2])", "G ([m1,2] U [m2,2])", "([m1,2] | [m3,1]) U [m2,2]", "([m1,2] | [m2,2]) U [m2,2]",
+        "[m3,3] U [m1,2] U [m2,2]", "[m2,2] R ([m1,2] | [m2,2])", "!(![m1,2] U ![m2,2])"], "17 7 0"),
+    tables("U whose right side never comes by itself", EXAMPLE_3, 0, 1, ["G ([m1,2] | [m2,2])", "[m1,2] U [m2,2]"], "17 1 0"),
+    tables("U with an and", EXAMPLE_3, 1, 1, ["[m1,2] U [m2,2]", "([m1,2] & true) U [m2,2]"], "17 1 0"),
+    tables("U before another U", EXAMPLE_3, 1, 1, ["[m1,2] U ([m3,1] U [m2,2])"], "17 0 0"),
+    tables("U with a hopeless count", EXAMPLE_3, 1, 1, ["[m1,2] U [m2,2] | [m3,3]", "[m1,2] U ([m2,2] | [m3,3])"], "17 1 0"),
+    # 16 before them all.
+    tables("X outside a count", EXAMPLE_3, 1, 1, ["[m1,2] | [m2,2]", "[m3,3]", "X [m1,2] | [m2,2]"], "16 2 0"),
+]
+
 # The numbers that each file's refusals have. No task writes a floor, so 18 is about the plan alone.
 NUMBERS = {"floor": [*range(1, 8)], "plan": [*range(1, 6), *range(7, 12), 18, 19, 20], "rules": [7, *range(12, 18)]}
 
@@ -1500,7 +1579,7 @@ def data_sets():
         yield check_set(*case)
     for case in LINKS:
         yield edit_set(*case)
-    for cases in (LINKED_CHECKS, BORNE, STEPS, BLOCKS, [*by_need()], SIX_PAIRS, [*two_operands()], CHAINS, COUNTS, LIMITS):
+    for cases in (LINKED_CHECKS, BORNE, STEPS, BLOCKS, [*by_need()], SIX_PAIRS, [*two_operands()], CHAINS, COUNTS, LIMITS, EITHER):
         for case in cases:
             yield check_set(*case)
 

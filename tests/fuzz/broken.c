@@ -121,6 +121,72 @@ static unsigned carts_for(unsigned share, int negated)
     return nearest(share, negated);
 }
 
+/* Faults of ors and untils: a pattern for a clause's outermost operator and its sides, or none. */
+static const char *pattern_for(const struct sides *sides)
+{
+    int plain = sides->prefixes == 0, negated = sides->prefixes == 1 && sides->prefix == '!';
+    if (fault("or_not_joined") && plain && sides->op == '|') return "(!true | (a)) | (b)";
+    if (fault("or_by_left_side") && plain && sides->op == '|') return "a";
+    if (fault("negated_and_apart") && negated && sides->op == '&') return "((a) & true) & (b)";
+    if (fault("until_asks_left") && plain && sides->op == 'U') return "((a) & true) U (b)";
+    if (fault("until_never_asks") && plain && sides->op == 'U') return "b";
+    if (fault("release_not_until") && negated && sides->op == 'R') return "((a) | !true) R (b)";
+    if (fault("release_asks") && plain && sides->op == 'R') return "(a) R ((a) | (b))";
+    return NULL;
+}
+
+/* Further faults of ors: the last or of a chain before the others; what is no count left out of an or that it stands in. */
+static size_t regrouped(BYTES(clause), const struct sides *outer, uint8_t *out)
+{
+    struct sides inner;
+    size_t len = outer->at, to;
+    if (outer->op != '|' || outer->begin != 0 || !sides_of(clause, len, &inner) || inner.op != '|' || inner.prefixes != 0) return 0;
+    if (fault("or_to_the_right") && inner.begin == 0)
+        to = rewritten(clause, len, &inner, "a | (b", out);
+    else if (fault("mixed_or_joined") && inner.begin != 0)
+        to = rewritten(clause, inner.end, &inner, "a | (b", out);
+    else
+        return 0;
+    memcpy(out + to, clause + outer->at, clause_len - outer->at);
+    to += clause_len - outer->at;
+    out[to++] = ')';
+    if (inner.begin != 0) out[to++] = ')';
+    return to;
+}
+
+/* Faults of the sum: one cart less asked for by the last count, or a window one counter short. Only an or is let through by them. */
+static verdict sum_of(verdict v, BYTES(floor), BYTES(plan), BYTES(rules))
+{
+    static uint8_t sheet[16384], other[65536];
+    size_t last = rules_len - 1;
+    memcpy(sheet, rules, rules_len);
+    memcpy(other, plan, plan_len);
+    while (last > 0 && (sheet[last] < '1' || sheet[last] > '9')) last--;
+    if (fault("joined_at_least")) sheet[last]--;
+    if (fault("joined_window_short")) other[8]--;
+    verdict lower = __real_cartplan_check(floor, floor_len, other, plan_len, sheet, rules_len);
+    return lower.number == 0 ? lower : v;
+}
+
+/* The check of a sheet of one clause that has sides, with one of these faults. */
+static verdict either_of(BYTES(floor), BYTES(plan), BYTES(rules))
+{
+    static uint8_t sheet[2 * 16384 + 64];
+    struct sides sides;
+    verdict v = __real_cartplan_check(floor, floor_len, plan, plan_len, rules, rules_len);
+    if ((v.number != 0 && v.number != 17) || memchr(rules, '\n', rules_len) != rules + rules_len - 1) return v;
+    if (!sides_of(rules, rules_len - 1, &sides)) return v;
+    if (plan[8] > 0 && sides.op == '|') v = sum_of(v, floor, floor_len, plan, plan_len, rules, rules_len);
+    const char *pattern = pattern_for(&sides);
+    size_t len = pattern != NULL ? rewritten(rules, rules_len - 1, &sides, pattern, sheet) : regrouped(rules, rules_len - 1, &sides, sheet);
+    if (fault("step_not_joined") && v.number == 17 && sides.prefix == 'G' && sides.op == '|')
+        len = rewritten(rules, rules_len - 1, &sides, "(!true | (a)) | (b)", sheet);
+    if (len == 0) return v;
+    sheet[len++] = '\n';
+    verdict other = __real_cartplan_check(floor, floor_len, plan, plan_len, sheet, len);
+    return other.number == 0 || other.number == 17 ? other : v;
+}
+
 /* The check, with numbers of carts in place of the percentages of a sheet that can be read. */
 static verdict shares_of(BYTES(floor), BYTES(plan), BYTES(rules))
 {
@@ -128,7 +194,7 @@ static verdict shares_of(BYTES(floor), BYTES(plan), BYTES(rules))
     if (__real_cartplan_read_rules(rules, rules_len).number != 0)
         return __real_cartplan_check(floor, floor_len, plan, plan_len, rules, rules_len);
     size_t len = with_numbers(rules, rules_len, fleet_of(plan, plan_len), carts_for, plain);
-    return __real_cartplan_check(floor, floor_len, plan, plan_len, plain, len);
+    return either_of(floor, floor_len, plan, plan_len, plain, len);
 }
 
 verdict __wrap_cartplan_check(BYTES(floor), BYTES(plan), BYTES(rules))

@@ -257,12 +257,77 @@ static void demand_nearest(verdict v)
     demand(same(v, cartplan_check(LENT(FLOOR), LENT(PLAN), plain, len)), "percentages are the nearest numbers of carts");
 }
 
+/* Ways to write an operator with its sides a and b that say the same. */
+static const struct {
+    uint8_t op;
+    const char *pattern;
+} equal[] = {
+    {'|', "(b) | (a)"},      {'|', "!(!(a) & !(b))"},    {'|', "!true | ((a) | (b))"},
+    {'&', "(b) & (a)"},      {'&', "!(!(a) | !(b))"},    {'R', "!(!(a) U !(b))"},
+    {'U', "!(!(a) R !(b))"}, {'U', "((a) | (b)) U (b)"}, {'U', "(b) | ((a) U (b))"},
+};
+
+/* What is said of a clause written otherwise, alone in its sheet. */
+static verdict said(const uint8_t *line, size_t len, const struct sides *sides, const char *pattern)
+{
+    static uint8_t sheet[2 * LONGEST_SHEET + 64];
+    size_t to = rewritten(line, len, sides, pattern, sheet);
+    sheet[to++] = '\n';
+    return cartplan_check(LENT(FLOOR), LENT(PLAN), sheet, to);
+}
+
+/* Whether the clause is as long and as deep as it may be. */
+static int no_room(verdict v)
+{
+    return v.number == 12 || v.number == 14;
+}
+
+/* Sides that are not all counts are not joined: such an or is true exactly if one of them is. */
+static void demand_apart(const uint8_t *line, size_t len, const struct sides *sides)
+{
+    verdict whole = said(line, len, sides, "(!true | (a)) | (b)");
+    verdict left = said(line, len, sides, "a"), right = said(line, len, sides, "b");
+    if (no_room(whole)) return;
+    demand((whole.number == 0) == (left.number == 0 || right.number == 0), "a mixed or is true exactly if a side is");
+}
+
+/* A clause is judged by itself, and alike however its outermost operator with two sides is written. */
+static void demand_equal(const uint8_t *line, size_t len, verdict v)
+{
+    struct sides sides;
+    if (!sides_of(line, len, &sides)) return;
+    v.first = 0;
+    demand(same(v, cartplan_check(LENT(FLOOR), LENT(PLAN), line, len + 1)), "a clause is judged by itself");
+    for (size_t i = 0; i < sizeof equal / sizeof *equal; i++) {
+        if (equal[i].op != sides.op) continue;
+        verdict other = said(line, len, &sides, equal[i].pattern);
+        if (!no_room(other)) demand(same(v, other), equal[i].pattern);
+    }
+    if (sides.op == '|' && sides.prefixes == 0 && sides.begin == 0) demand_apart(line, len, &sides);
+}
+
+/* The first line of a judged sheet that has sides, or the line of the clause that isn't kept. */
+static void demand_clauses(verdict v)
+{
+    const uint8_t *line = lent[RULES].at, *end;
+    struct sides sides;
+    if (v.number != 0 && v.number != 17) return;
+    for (uint32_t number = 0; line < lent[RULES].at + lent[RULES].len; line = end + 1, number++) {
+        end = memchr(line, '\n', lent[RULES].len);
+        size_t len = (size_t)(end - line);
+        if (v.number == 0 ? !sides_of(line, len, &sides) : number != v.first) continue;
+        demand_equal(line, len, v);
+        return;
+    }
+}
+
 /* An accepted plan is accepted with each smaller drift, its head's bytes 8 and 9. */
 static void after_check(const struct operation *op, verdict v)
 {
     uint8_t *drift = lent[PLAN].at + 8;
     demand_conflict(v);
     demand_nearest(v);
+    demand_clauses(v);
     if (v.number == 16 || v.number == 17) {
         struct cartplan_span part = cartplan_clause(LENT(RULES), (const uint8_t *)&v, sizeof v);
         demand(part.length > 0, "a clause that isn't kept is there");

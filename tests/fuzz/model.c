@@ -1,5 +1,5 @@
 /* An accepted floor's numbers, and the conflicts of a plan in narrow places: two carts in one at a moment (a vertex conflict), or
- * exchanged between two in one tick (a swap conflict). A sheet's percentages as numbers of carts. */
+ * exchanged between two in one tick (a swap conflict). A sheet's percentages as numbers of carts. A clause's outermost operator. */
 #include "model.h"
 
 #include <stdio.h>
@@ -123,4 +123,59 @@ size_t with_numbers(const uint8_t *rules, size_t rules_len, unsigned fleet, roun
         append(out, &len, rules + at, end - at);
     }
     return len;
+}
+
+/* Where the outermost operator with two sides stands between two bytes: the last | outside parentheses and brackets, or the last &, or the
+ * first U or R. `end` if there is none. */
+static size_t outermost(const uint8_t *clause, size_t begin, size_t end)
+{
+    size_t last_or = end, last_and = end, until = end;
+    int depth = 0;
+    for (size_t at = begin; at < end; at++) {
+        uint8_t byte = clause[at];
+        depth += (byte == '(' || byte == '[') - (byte == ')' || byte == ']');
+        if (depth != 0) continue;
+        if (byte == '|') last_or = at;
+        if (byte == '&') last_and = at;
+        if ((byte == 'U' || byte == 'R') && until == end) until = at;
+    }
+    return last_or != end ? last_or : last_and != end ? last_and : until;
+}
+
+int sides_of(const uint8_t *clause, size_t len, struct sides *sides)
+{
+    size_t begin = 0, end = len, at = outermost(clause, 0, len);
+    sides->prefixes = 0;
+    sides->prefix = 0;
+    for (; at == end && begin < end && strchr(" !FGX", clause[begin]); begin++) {
+        if (clause[begin] == ' ') continue;
+        if (sides->prefixes++ == 0) sides->prefix = clause[begin];
+    }
+    if (at == end && begin < end && clause[begin] == '(') {
+        begin++;
+        while (clause[--end] != ')') continue;
+        at = outermost(clause, begin, end);
+    }
+    if (at == end) return 0;
+    sides->begin = begin;
+    sides->at = at;
+    sides->end = end;
+    sides->op = clause[at];
+    return 1;
+}
+
+size_t rewritten(const uint8_t *clause, size_t len, const struct sides *sides, const char *pattern, uint8_t *out)
+{
+    size_t to = 0;
+    append(out, &to, clause, sides->begin);
+    for (; *pattern != 0; pattern++) {
+        if (*pattern == 'a')
+            append(out, &to, clause + sides->begin, sides->at - sides->begin);
+        else if (*pattern == 'b')
+            append(out, &to, clause + sides->at + 1, sides->end - sides->at - 1);
+        else
+            out[to++] = (uint8_t)*pattern;
+    }
+    append(out, &to, clause + sides->end, len - sides->end);
+    return to;
 }

@@ -30,4 +30,18 @@ rounding nearest;
 /* A readable sheet with numbers of carts, rounded so, in place of its percentages; its length. */
 size_t with_numbers(const uint8_t *rules, size_t rules_len, unsigned fleet, rounding *rounded, uint8_t *out);
 
+/* A clause that is an operator with two sides, by itself or in parentheses behind prefix operators. The left side begins, the
+ * operator stands and the right side ends at these bytes; prefix is the first of the operators before, or 0. */
+struct sides {
+    size_t begin, at, end;
+    unsigned prefixes;
+    uint8_t prefix, op;
+};
+
+/* Whether a readable clause, without its line end, is such a one. */
+int sides_of(const uint8_t *clause, size_t len, struct sides *sides);
+
+/* The clause with a pattern in place of the operator and its sides, which are a and b in it; its length. */
+size_t rewritten(const uint8_t *clause, size_t len, const struct sides *sides, const char *pattern, uint8_t *out);
+
 #endif

@@ -191,9 +191,51 @@ def share_seeds():
     }
 
 
+def tables(rows, l, d):
+    """Places with m1, with m2 and without a mark, lanes between any two, and a cart for each row."""
+    places = b"".join(record(1, [marks, 0, 0, 0]) for marks in (2, 4, 0))
+    lanes = b"".join(record(2, [start, end, 255]) for start in range(3) for end in range(3) if start != end)
+    floor = places + lanes + b"".join(record(3, [0, row[0]]) for row in rows)
+    return floor, record(4, little(len(rows[0]), l, d)) + b"".join(record(5, row) for row in rows)
+
+
+def either_seeds():
+    """Ors of counts: example 3 of document 002, as an or, a negated and, an until and a negated release; a count more, in front, behind
+    and between; sums at the number of carts; something else among the counts; a mark that is left; a step of a G; 32 carts."""
+    three, gone = [[0, 0], [0, 1], [1, 1]], [[0, 0, 0], [0, 1, 2], [1, 1, 1]]
+    clauses = {
+        "or": "[m1,2] | [m2,2]",
+        "or_always": "G ([m1,2] | [m2,2])",
+        "negated_and": "!(![m1,2] & ![m2,2])",
+        "negated_or": "!([m1,2] | [m2,2])",
+        "and": "[!m1,2] & [!m2,2]",
+        "until": "[m1,2] U [m2,2]",
+        "negated_release": "!(![m1,2] R ![m2,2])",
+        "release": "[m1,2] R [m2,2]",
+        "negated_until": "!(![m1,2] U ![m2,2])",
+        "more_behind": "[m1,2] | [m2,2] | [m3,3]",
+        "more_between": "[m1,2] | [m3,3] | [m2,2]",
+        "more_in_front": "[m3,3] | ([m1,2] | [m2,2])",
+        "sum_of_three": "G ([m1,2] | [m2,3])",
+        "mixed": "!true | [m1,2] | [m2,2]",
+        "three_counts": "[m1,2] | ([m2,2] | [m3,1])",
+        "shares": "[m1,50%] | ![!m2,67%]",
+    }
+    seeds = {f"either_{name}": seed("check", [], *tables(three, 1, 1), f"{clause}\n".encode()) for name, clause in clauses.items()}
+    either = b"[m1,2] | [m2,2]\nG ([m1,2] | [m2,2])\n"
+    return seeds | {
+        "either_round_a_lap": seed("check", [], *tables(three, 0, 16), b"G ([m1,2] | [m2,2])\n[m1,2] U [m2,2]\n"),
+        "either_in_step": seed("check", [], *tables(three, 0, 0), either + b"[m1,3] | [m2,2]\n"),
+        "either_gone": seed("check", [], *tables(gone, 2, 1), either),
+        "either_gone_too_soon": seed("check", [], *tables(gone, 2, 2), either),
+        "either_all_carts": seed("check", [], *tables([[0, 2], [1, 2]], 1, 1), b"[m1 | m2,1]\n[m1,1] | [m2,1]\n"),
+        "either_of_32": seed("check", [], *fleet(32, 32, 16), b"G ([m0,17] | ![m0,17])\n[m0,17] | [m1,17]\n"),
+    }
+
+
 def main():
     out = pathlib.Path(sys.argv[1] if len(sys.argv) > 1 else "tests/fuzz/corpus")
-    seeds = special_seeds() | narrow_seeds() | share_seeds()
+    seeds = special_seeds() | narrow_seeds() | share_seeds() | either_seeds()
     edits = ["check", "move_on", "replace_row", "write_floor", "write_plan", "clause"]
     for name, files, operations in [
         ("two-carts", folder("examples/two-carts"), OPERATIONS),

@@ -8,11 +8,12 @@ use crate::narrow;
 use crate::random::Random;
 use crate::sheet;
 use crate::sheets::{self, Wish};
+use crate::tables;
 use crate::world::{Size, World};
 
-/// How often each number is aimed at, in 1,000; 18 stands for damaged bytes, and 19 is no number of the check.
+/// How often each number is aimed at, in 1,000; 18 stands for damaged bytes, and 19 for ors of counts. These are no numbers of the check.
 const AIMS: [usize; 21] = [
-    230, 6, 20, 20, 20, 25, 25, 20, 20, 20, 25, 60, 10, 60, 55, 40, 50, 130, 54, 0, 110,
+    180, 6, 20, 20, 20, 25, 25, 20, 20, 20, 25, 60, 10, 60, 55, 40, 50, 100, 54, 80, 110,
 ];
 
 pub fn triple(random: &mut Random) -> Triple {
@@ -22,6 +23,7 @@ pub fn triple(random: &mut Random) -> Triple {
         17 => with_clauses(random, Wish::Broken, narrow::Wish::Clear),
         1..=11 => with_fault(random, aim),
         12..=16 => with_sheet(random, aim),
+        19 => joined(random),
         20 => conflicting(random),
         _ => damaged(random),
     };
@@ -46,6 +48,18 @@ pub fn conflicting(random: &mut Random) -> Triple {
     let size = size[random.weighted(&[700, 230, 60, 10])];
     let world = World::random(random, size, narrow::Wish::Met);
     with_rules(&world, any_sheet(random, 5))
+}
+
+/// A triple with ors of counts that are just enough if they are joined, or just not, at drift 1 or more.
+fn joined(random: &mut Random) -> Triple {
+    let size = size(random);
+    let world = tables::any(random, size);
+    let collection = world.collection();
+    let mut clauses = Clauses::new(random, &world, &collection);
+    clauses.sizes = [11, 11, 30, 100];
+    let count = clauses.random.pick(&[1, 1, 2, 3]);
+    let rules = sheets::about_ors(&mut clauses, count);
+    with_rules(&world, rules)
 }
 
 fn size(random: &mut Random) -> Size {

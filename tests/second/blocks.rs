@@ -18,7 +18,7 @@ use crate::world::World;
 const BLOCKS: [usize; 3] = [500, 1000, 2944];
 
 /// The most pairs that a text needs.
-const MOST_PAIRS: usize = 6;
+pub const MOST_PAIRS: usize = 6;
 
 /// The most nodes of a text: its count is one more.
 const MOST: usize = sheet::MOST_NODES - 1;
@@ -51,7 +51,7 @@ const LEAST: usize = 10;
 
 /// To which side a text leans: there stands the operand that needs more.
 #[derive(Clone, Copy, PartialEq)]
-enum Lean {
+pub enum Lean {
     Left,
     Right,
     /// Both need the same.
@@ -59,7 +59,7 @@ enum Lean {
     Random,
 }
 
-const LEANS: [Lean; 4] = [Lean::Left, Lean::Right, Lean::Neither, Lean::Random];
+pub const LEANS: [Lean; 4] = [Lean::Left, Lean::Right, Lean::Neither, Lean::Random];
 
 #[derive(Default)]
 pub struct Blocks {
@@ -126,7 +126,9 @@ impl Blocks {
     ) -> Result<(), String> {
         let seed = need as u64;
         let mut random = Random::new(seed, case);
-        let world = with_marks(&mut random, h, marks);
+        let drift = random.range(0, 16);
+        let d = random.pick(&[0, 0, 16, drift]);
+        let world = with_marks(&mut random, h, marks, d);
         let rules = rules(&mut random, &world, need, lean);
         let (floor, plan) = Records::of(&world).files();
         let triple = Triple { floor, plan, rules };
@@ -173,7 +175,7 @@ impl Blocks {
 }
 
 /// How many pairs the text at a node needs: a leaf none, an operator one, and one more where both operands need the same.
-fn need(clause: &Clause, node: usize) -> usize {
+pub fn need(clause: &Clause, node: usize) -> usize {
     let Node { op, left, right } = clause.nodes[node];
     match op.operands() {
         0 => 0,
@@ -225,11 +227,9 @@ fn chain(clause: &Clause, node: usize) -> (usize, usize) {
 }
 
 /// A world of so many steps whose highest mark is known; the clauses speak of it, of the one above and of others.
-fn with_marks(random: &mut Random, h: usize, marks: usize) -> World {
+pub fn with_marks(random: &mut Random, h: usize, marks: usize, d: usize) -> World {
     let carts = random.range(1, 32);
     let carts = random.pick(&[1, 2, 32, carts]);
-    let drift = random.range(0, 16);
-    let d = random.pick(&[0, 0, 16, drift]);
     let places = random.range(1, 8);
     let mut world = World::build(random, [carts, h, d, places], narrow::Wish::Clear);
     let borne = ((1u64 << marks) - 1) as u32;
@@ -292,7 +292,7 @@ fn with_text(clauses: &mut Clauses, need: usize, lean: Lean) -> Clause {
 }
 
 /// The fewest nodes of a text that needs so many pairs: an operator with one operand over each leaf.
-fn fewest(need: usize) -> usize {
+pub fn fewest(need: usize) -> usize {
     match need {
         0 => 1,
         _ => 3 * (1 << (need - 1)) - 1,
@@ -300,7 +300,13 @@ fn fewest(need: usize) -> usize {
 }
 
 /// A text that needs so many pairs, of at most so many nodes. Leaning to neither side it is a full tree over marks, where there are nodes enough.
-fn text(clauses: &mut Clauses, clause: &mut Clause, need: usize, most: usize, lean: Lean) -> usize {
+pub fn text(
+    clauses: &mut Clauses,
+    clause: &mut Clause,
+    need: usize,
+    most: usize,
+    lean: Lean,
+) -> usize {
     if need == 0 {
         return clauses.inner(clause, 1);
     }
@@ -313,7 +319,18 @@ fn text(clauses: &mut Clauses, clause: &mut Clause, need: usize, most: usize, le
         let op = clauses.random.pick(&UNARY);
         return clause.push(op, operand, 0);
     }
-    // Two that need one less, or one that needs as much and one that needs less.
+    two_operands(clauses, clause, need, most, lean)
+}
+
+/// A text whose operator has two operands: two that need one less, or one that needs as much and one that needs less.
+fn two_operands(
+    clauses: &mut Clauses,
+    clause: &mut Clause,
+    need: usize,
+    most: usize,
+    lean: Lean,
+) -> usize {
+    let spare = most - fewest(need);
     let even = lean == Lean::Neither || spare < 2 || clauses.random.chance(20);
     let (first, second) = if even {
         (need - 1, need - 1)
@@ -344,7 +361,7 @@ fn text(clauses: &mut Clauses, clause: &mut Clause, need: usize, most: usize, le
 }
 
 /// A clause as short as it can be written, within the limits on levels.
-fn line(clauses: &mut Clauses, make: impl Fn(&mut Clauses) -> Clause) -> Vec<u8> {
+pub fn line(clauses: &mut Clauses, make: impl Fn(&mut Clauses) -> Clause) -> Vec<u8> {
     loop {
         let clause = make(clauses);
         let mut printer = Printer::new(clauses.random);

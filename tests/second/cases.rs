@@ -2,6 +2,7 @@
 
 use crate::check;
 use crate::floor::Floor;
+use crate::joined_cases;
 use crate::library;
 use crate::narrow_cases;
 use crate::plan::Plan;
@@ -217,6 +218,18 @@ fn narrow() -> Result<usize, String> {
     Ok(count)
 }
 
+/// Clauses about joined counts: both verdicts, and the runs.
+fn joined() -> Result<usize, String> {
+    let mut count = 0;
+    for case in joined_cases::all() {
+        let (floor, plan, rules, verdict, _) = &case;
+        compare(floor, plan, rules, *verdict)?;
+        joined_cases::found_on_runs(&case)?;
+        count += 1;
+    }
+    Ok(count)
+}
+
 /// The number of cases; the first case that comes out otherwise is told.
 pub fn run() -> Result<usize, String> {
     let mut count = 0;
@@ -233,5 +246,5 @@ pub fn run() -> Result<usize, String> {
         compare(&floor, &plan, b"true\n", verdict)?;
         count += 1;
     }
-    Ok(count + narrow()?)
+    Ok(count + narrow()? + joined()?)
 }

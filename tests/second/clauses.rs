@@ -11,6 +11,9 @@ pub struct Clauses<'a> {
     pub marks: &'a [u32],
     /// Whether X may stand outside a count.
     pub next_outside: bool,
+    /// How often a part is an or of counts or an until between such ors, in percent, and the most nodes of one where it is asked for.
+    pub joined: usize,
+    pub sizes: [usize; 4],
     /// The least number of nodes of a clause.
     pub least: usize,
 }
@@ -25,6 +28,8 @@ impl<'a> Clauses<'a> {
             collection,
             marks: &world.marks,
             next_outside: false,
+            joined: 15,
+            sizes: [11; 4],
             least: 1,
         }
     }
@@ -51,6 +56,13 @@ impl<'a> Clauses<'a> {
 
     /// A part outside counts of so many nodes.
     pub fn outer(&mut self, clause: &mut Clause, nodes: usize) -> usize {
+        if nodes >= 5 && self.random.chance(self.joined) {
+            return match self.random.below(10) {
+                0 if nodes >= 8 => self.mixed(clause, nodes),
+                0..=6 => self.either(clause, nodes),
+                _ => self.until_of_counts(clause, nodes),
+            };
+        }
         let count = match nodes {
             1 => return clause.push(Op::True, 0, 0),
             2 => 95,

@@ -11,6 +11,7 @@ use crate::cases;
 use crate::check;
 use crate::damage::Triple;
 use crate::library;
+use crate::or_blocks;
 use crate::random::Random;
 use crate::tally::Tally;
 use crate::thresholds;
@@ -23,6 +24,8 @@ pub fn gate(cases: u64, seed: u64) -> bool {
         .and_then(|_| thresholds::run())
         .map(|thresholds| thresholds.print())
         .and_then(|_| blocks::run())
+        .map(|blocks| blocks.print())
+        .and_then(|_| or_blocks::run())
         .map(|blocks| blocks.print());
     if let Err(text) = told {
         println!("second: {text}");
@@ -67,7 +70,7 @@ fn compare(triple: &Triple, tally: &mut Tally) -> Result<(), String> {
         tally.smaller += smaller_drifts(triple)?;
     }
     match verdict.number {
-        0 | 17 => tally.note_percentages(triple, verdict),
+        0 | 17 => tally.note_clauses(triple, verdict),
         20 => tally.note_conflict(triple),
         _ => {}
     }

@@ -1,7 +1,8 @@
-//! Clauses judged by the encodings of document 002: z and y variables over the steps, loops by z_loop.
+//! Clauses judged by the encodings of document 002: z, r and y variables over the steps, loops by z_loop.
 //!
-//! Where document 01 narrows them: every or outside counts is equation 26, every until outside counts
-//! is equation 11 over y, and the window of equation 22 includes step s + d.
+//! Where documents 01 and 02 narrow them: the window of equation 22 includes step s + d; an or is equation 25 if all it is
+//! made of, through nested ors, are counts, and each of these nested ors is one itself; an or of anything else is equation 26
+//! and is not rewritten.
 
 use crate::floor::Floor;
 use crate::formula::{Clause, Node, Op};
@@ -27,18 +28,33 @@ pub struct Collection {
 pub enum Pnf {
     Constant(bool),
     Count(Count),
-    And(Box<[Pnf; 2]>),
-    Or(Box<[Pnf; 2]>),
+    /// These three with the operator as written, which says nothing of them.
+    And(Op, Box<[Pnf; 2]>),
+    Or(Op, Box<[Pnf; 2]>),
+    Until(Op, Box<[Pnf; 2]>),
     Next(Box<Pnf>),
-    Until(Box<[Pnf; 2]>),
     Release(Box<[Pnf; 2]>),
 }
 
-/// `[inner,m]`, or `[!inner,m]` if negated.
+/// A temporal counting proposition: z of its inner formula for each cart, and how many carts it asks for.
 pub struct Count {
-    pub inner: usize,
-    pub negated: bool,
+    pub z: Vec<Row>,
     pub m: usize,
+}
+
+impl Pnf {
+    /// The tcps of equation 25, if the formula is one or an or of nothing else.
+    pub fn counts(&self) -> Option<Vec<&Count>> {
+        match self {
+            Pnf::Count(count) => Some(vec![count]),
+            Pnf::Or(_, both) => {
+                let [mut counts, more] = [both[0].counts()?, both[1].counts()?];
+                counts.extend(more);
+                Some(counts)
+            }
+            _ => None,
+        }
+    }
 }
 
 impl Collection {
@@ -56,6 +72,10 @@ impl Collection {
         }
     }
 
+    pub fn drift(&self) -> usize {
+        self.d
+    }
+
     pub fn carts(&self) -> usize {
         self.traces.len()
     }
@@ -64,7 +84,7 @@ impl Collection {
         self.h
     }
 
-    fn row(&self, value: impl Fn(usize) -> bool) -> Row {
+    pub fn row(&self, value: impl Fn(usize) -> bool) -> Row {
         let mut row = [false; 64];
         for t in 0..self.h {
             row[t] = value(t);
@@ -100,16 +120,16 @@ impl Collection {
         self.row(|t| !x[t])
     }
 
-    fn and(&self, a: &Row, b: &Row) -> Row {
+    pub fn and(&self, a: &Row, b: &Row) -> Row {
         self.row(|t| a[t] && b[t])
     }
 
-    fn or(&self, a: &Row, b: &Row) -> Row {
+    pub fn or(&self, a: &Row, b: &Row) -> Row {
         self.row(|t| a[t] || b[t])
     }
 
     /// Equation 10.
-    fn next(&self, x: &Row) -> Row {
+    pub fn next(&self, x: &Row) -> Row {
         self.row(|t| {
             if t + 1 < self.h {
                 x[t + 1]
@@ -120,7 +140,7 @@ impl Collection {
     }
 
     /// Equation 11.
-    fn until(&self, a: &Row, b: &Row) -> Row {
+    pub fn until(&self, a: &Row, b: &Row) -> Row {
         let last = self.h - 1;
         let mut auxiliary = [false; 64];
         auxiliary[last] = b[last];
@@ -140,8 +160,24 @@ impl Collection {
         self.until(&self.row(|_| true), a)
     }
 
+    /// Equation 27: `either` is y of "a or b".
+    fn robust_until(&self, either: &Row, b: &Row) -> Row {
+        let last = self.h - 1;
+        let mut auxiliary = [false; 64];
+        auxiliary[last] = b[last];
+        for t in (0..last).rev() {
+            auxiliary[t] = either[t] && (b[t] || auxiliary[t + 1]);
+        }
+        let mut y = [false; 64];
+        y[last] = either[last] && (b[last] || self.looped(&auxiliary));
+        for t in (0..last).rev() {
+            y[t] = either[t] && (b[t] || y[t + 1]);
+        }
+        y
+    }
+
     /// Equation 28.
-    fn release(&self, a: &Row, b: &Row) -> Row {
+    pub fn release(&self, a: &Row, b: &Row) -> Row {
         let last = self.h - 1;
         let mut auxiliary = [false; 64];
         auxiliary[last] = b[last];
@@ -158,32 +194,42 @@ impl Collection {
 
     /// r: equation 22.
     pub fn r(&self, z: &Row) -> Row {
-        self.row(|t| (0..=self.d).all(|k| z[self.step[t + k]]))
+        self.r_within(z, self.d)
+    }
+
+    pub fn r_within(&self, z: &Row, d: usize) -> Row {
+        self.row(|t| (0..=d).all(|k| z[self.step[t + k]]))
     }
 
     /// y of a clause in positive normal form.
-    pub fn y(&self, clause: &Clause, pnf: &Pnf) -> Row {
+    pub fn y(&self, pnf: &Pnf) -> Row {
+        let two = |both: &[Pnf; 2]| both.each_ref().map(|part| self.y(part));
         match pnf {
             Pnf::Constant(value) => self.row(|_| *value),
-            Pnf::Count(count) => self.count(clause, count),
-            Pnf::And(both) => self.and(&self.y(clause, &both[0]), &self.y(clause, &both[1])),
-            Pnf::Or(both) => self.or(&self.y(clause, &both[0]), &self.y(clause, &both[1])),
-            Pnf::Next(one) => self.next(&self.y(clause, one)),
-            Pnf::Until(both) => self.until(&self.y(clause, &both[0]), &self.y(clause, &both[1])),
+            Pnf::Count(count) => self.count(count),
+            Pnf::And(_, both) => {
+                let [a, b] = two(both);
+                self.and(&a, &b)
+            }
+            Pnf::Or(_, both) => self.either(both, &two(both)),
+            Pnf::Next(one) => self.next(&self.y(one)),
+            Pnf::Until(_, both) => {
+                let y = two(both);
+                self.robust_until(&self.either(both, &y), &y[1])
+            }
             Pnf::Release(both) => {
-                self.release(&self.y(clause, &both[0]), &self.y(clause, &both[1]))
+                let [a, b] = two(both);
+                self.release(&a, &b)
             }
         }
     }
 
     /// Equations 23 and 24.
-    fn count(&self, clause: &Clause, count: &Count) -> Row {
+    pub fn count(&self, count: &Count) -> Row {
         let mut sum_r = [0; 64];
         let mut sum_z = [0; 64];
-        for n in 0..self.carts() {
-            let z = self.z(clause, count.inner, n);
-            let z = if count.negated { self.not(&z) } else { z };
-            let r = self.r(&z);
+        for z in &count.z {
+            let r = self.r(z);
             for t in 0..self.h {
                 sum_z[t] += z[t] as usize;
                 sum_r[t] += r[t] as usize;
@@ -191,6 +237,30 @@ impl Collection {
         }
         let all = self.carts();
         self.row(|t| sum_r[t] >= count.m || count.m == 1 && sum_z[t] == all)
+    }
+
+    /// Equation 25 or 26 for "a or b", from y of the two.
+    fn either(&self, both: &[Pnf; 2], [a, b]: &[Row; 2]) -> Row {
+        let alone = self.or(a, b);
+        let [Some(mut counts), Some(more)] = both.each_ref().map(Pnf::counts) else {
+            return alone;
+        };
+        counts.extend(more);
+        self.or(&alone, &self.joined(&counts))
+    }
+
+    /// The sum of equation 25.
+    pub fn joined(&self, counts: &[&Count]) -> Row {
+        let bound: isize = counts.iter().map(|count| count.m as isize - 1).sum();
+        let mut sum_r = [0; 64];
+        for n in 0..self.carts() {
+            let z = self.row(|t| counts.iter().any(|count| count.z[n][t]));
+            let r = self.r(&z);
+            for t in 0..self.h {
+                sum_r[t] += r[t] as isize;
+            }
+        }
+        self.row(|t| sum_r[t] > bound)
     }
 
     /// Remark 2: negations driven inward down to the counts, where N + 1 - m takes over.
@@ -204,11 +274,11 @@ impl Collection {
             (Op::Count(_), _) => Pnf::Count(self.counted(clause, node, negate)),
             (Op::Not, _) => self.pnf(clause, left, !negate),
             (Op::Next, _) => Pnf::Next(Box::new(one(left))),
-            (Op::And, false) | (Op::Or, true) => Pnf::And(both()),
-            (Op::Or, false) | (Op::And, true) => Pnf::Or(both()),
-            (Op::Until, false) | (Op::Release, true) => Pnf::Until(both()),
+            (Op::And, false) | (Op::Or, true) => Pnf::And(op, both()),
+            (Op::Or, false) | (Op::And, true) => Pnf::Or(op, both()),
+            (Op::Until, false) | (Op::Release, true) => Pnf::Until(op, both()),
             (Op::Release, false) | (Op::Until, true) => Pnf::Release(both()),
-            (Op::Finally, false) | (Op::Globally, true) => Pnf::Until(lone(true)),
+            (Op::Finally, false) | (Op::Globally, true) => Pnf::Until(op, lone(true)),
             (Op::Globally, false) | (Op::Finally, true) => Pnf::Release(lone(false)),
             (Op::Mark(_), _) => unreachable!("a mark outside a count"),
         }
@@ -219,10 +289,17 @@ impl Collection {
         let Op::Count(threshold) = op else {
             unreachable!("no count")
         };
+        let of_cart = |n: usize| {
+            let z = self.z(clause, left, n);
+            if negated {
+                self.not(&z)
+            } else {
+                z
+            }
+        };
         let m = threshold.of(self.carts());
         Count {
-            inner: left,
-            negated,
+            z: (0..self.carts()).map(of_cart).collect(),
             m: if negated {
                 (self.carts() + 1).saturating_sub(m)
             } else {
@@ -233,7 +310,7 @@ impl Collection {
 
     /// y of a formula outside counts.
     pub fn judge(&self, clause: &Clause, node: usize) -> Row {
-        self.y(clause, &self.pnf(clause, node, false))
+        self.y(&self.pnf(clause, node, false))
     }
 
     /// None if the clause is true at step 0, else the step of its refusal.

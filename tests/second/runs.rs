@@ -7,6 +7,7 @@ use crate::compare::{both, tell, Within};
 use crate::damage::Triple;
 use crate::floor::Floor;
 use crate::formula::{Clause, Op};
+use crate::joined::{self, Joined};
 use crate::plan::Plan;
 use crate::random::Random;
 use crate::run::Run;
@@ -64,19 +65,21 @@ pub struct Tally {
     pub shown: usize,
     pub clear: usize,
     pub conflicts: usize,
+    pub joined: Joined,
 }
 
 pub type Outcome = Result<(), String>;
 
 type Part = fn(&mut Random, &mut Tally) -> (Triple, Outcome);
 
-const PARTS: [Part; 6] = [
+const PARTS: [Part; 7] = [
     on_runs,
     met_on_runs,
     in_step,
     small::searched,
     small::globally_one_count,
     small::conflicts,
+    joined::searched,
 ];
 
 /// All parts for so many cases; false once a difference was told.
@@ -95,7 +98,12 @@ pub fn run(cases: u64, seed: u64) -> bool {
         }
     }
     tally.print();
+    tally.joined.print();
     println!("{:.0} seconds", begun.elapsed().as_secs_f64());
+    if !tally.joined.enough(cases) {
+        println!("second: too few clauses that only joined counts let through, or that misreadings change");
+        return false;
+    }
     println!("{cases} cases of runs, 0 differences");
     true
 }

@@ -32,6 +32,19 @@ pub fn sheet(clauses: &mut Clauses, count: usize, wish: Wish) -> Vec<u8> {
     sheet
 }
 
+/// A sheet of so many clauses about ors of counts.
+pub fn about_ors(clauses: &mut Clauses, count: usize) -> Vec<u8> {
+    let mut sheet = Vec::new();
+    while sheet.is_empty() || sheet.iter().filter(|byte| **byte == 10).count() < count {
+        let clause = clauses.about_ors();
+        let line = Printer::new(clauses.random).line(&clause);
+        if within_limits(&line, &clause) {
+            sheet.extend(line);
+        }
+    }
+    sheet
+}
+
 /// How many clauses a sheet gets.
 pub fn count(clauses: &mut Clauses) -> usize {
     let (low, high) = [(1, 1), (2, 4), (5, 12), (13, 32)][clauses.random.weighted(&[50, 39, 9, 2])];

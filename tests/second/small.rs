@@ -23,7 +23,7 @@ fn small_world(random: &mut Random, wish: Wish) -> World {
     World::build(random, [carts, h, d, places], wish)
 }
 
-fn triple_of(random: &mut Random, world: &World, clause: &Clause) -> Triple {
+pub fn triple_of(random: &mut Random, world: &World, clause: &Clause) -> Triple {
     let rules = Printer::new(random).line(clause);
     let (floor, plan) = Records::of(world).files();
     Triple { floor, plan, rules }

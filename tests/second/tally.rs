@@ -3,7 +3,9 @@
 use crate::conflicts::Conflicts;
 use crate::damage::Triple;
 use crate::floor::Floor;
+use crate::logic::Collection;
 use crate::plan::Plan;
+use crate::readings::{self, Reading};
 use crate::rounding;
 use crate::runs::Read;
 use crate::sheet;
@@ -12,6 +14,12 @@ use crate::verdict::{Refusal, Verdict};
 /// The least number of times that every verdict has to be met in a run of 300,000 cases or more, and each way into a conflict or to
 /// round a percentage.
 const LEAST: usize = 500;
+
+/// The same for each way to read an or or an until; small plans meet them more often (`joined`).
+const LEAST_READINGS: usize = 10;
+
+/// The most carts times steps of a plan for which all readings are tried.
+const LARGE: usize = 320;
 
 /// What writing and replacing alone give.
 const NOT_GIVEN: [usize; 2] = [18, 19];
@@ -47,6 +55,8 @@ pub struct Tally {
     limits: [usize; 10],
     ways: [usize; 6],
     roundings: [usize; rounding::WAYS.len()],
+    readings: [usize; readings::WAYS.len()],
+    large: usize,
 }
 
 impl Tally {
@@ -102,34 +112,66 @@ impl Tally {
         }
     }
 
-    /// Counts what the percentages of a triple tell apart whose clauses were judged.
-    pub fn note_percentages(&mut self, triple: &Triple, verdict: Verdict) {
-        if !triple.rules.contains(&b'%') {
-            return;
-        }
+    /// Counts what a triple tells apart whose clauses were judged.
+    pub fn note_clauses(&mut self, triple: &Triple, verdict: Verdict) {
         let Verdict { first, second, .. } = verdict;
         let judged = match verdict.number {
             17 => Err(Refusal(17, first as usize, second as usize)),
             _ => Ok(()),
         };
-        let ways = rounding::ways(&Read::of(triple), judged);
-        for (count, way) in self.roundings.iter_mut().zip(ways) {
-            *count += way;
+        let read = Read::of(triple);
+        if triple.rules.contains(&b'%') {
+            let ways = rounding::ways(&read, judged);
+            for (count, way) in self.roundings.iter_mut().zip(ways) {
+                *count += way;
+            }
+        }
+        self.note_readings(&read, judged);
+    }
+
+    /// Counts the readings that would change what is said of the clauses; of large plans that of the old rules alone, for its time.
+    fn note_readings(&mut self, read: &Read, judged: Result<(), Refusal>) {
+        let looked_at = match judged {
+            Ok(()) => read.clauses.len(),
+            Err(Refusal(_, clause, _)) => clause + 1,
+        };
+        let clauses = &read.clauses[..looked_at];
+        let collection = Collection::new(&read.floor, &read.plan);
+        if read.plan.h * read.plan.rows.len() > LARGE {
+            let old = |clause| readings::broken_at(&collection, clause, Reading::Apart);
+            let changed = |clause| old(clause) != collection.broken_at(clause);
+            self.large += clauses.iter().any(changed) as usize;
+            return;
+        }
+        let ways = readings::ways(&collection, clauses);
+        for (count, way) in self.readings.iter_mut().zip(ways) {
+            *count += way as usize;
         }
     }
 
-    /// The ways into a conflict and of rounding, by name.
-    fn named_ways(&self) -> impl Iterator<Item = (&str, usize)> {
-        let names = WAYS.iter().chain(&rounding::WAYS);
+    /// The ways into a conflict, of rounding and of reading ors and untils, by name.
+    fn named_ways(&self) -> impl Iterator<Item = (String, usize)> + '_ {
+        let names = WAYS
+            .iter()
+            .chain(&rounding::WAYS)
+            .map(|name| name.to_string());
+        let readings = readings::WAYS.iter();
+        let readings = readings.map(|(_, name)| format!("verdicts changed by {name}"));
+        let large = "the same by the first of these on large plans".to_string();
         let counts = self.ways.iter().chain(&self.roundings);
-        names.copied().zip(counts.copied())
+        let counts = counts.chain(&self.readings).chain([&self.large]);
+        names.chain(readings).chain([large]).zip(counts.copied())
     }
 
     fn too_rare(&self) -> bool {
         let mut numbers = self.numbers.iter().enumerate();
         let rare =
             |(number, count): (usize, &usize)| *count < LEAST && !NOT_GIVEN.contains(&number);
-        numbers.any(rare) || self.named_ways().any(|(_, count)| count < LEAST)
+        let mut ways = self.ways.iter().chain(&self.roundings);
+        numbers.any(rare)
+            || ways.any(|count| *count < LEAST)
+            || self.large < LEAST
+            || self.readings.iter().any(|count| *count < LEAST_READINGS)
     }
 
     /// Prints the counts; false if a long run met a verdict too rarely.
@@ -151,7 +193,7 @@ impl Tally {
             println!("{name}: {count}");
         }
         if cases >= 300_000 && self.too_rare() {
-            println!("second: a verdict or one of the ways above was met less than {LEAST} times");
+            println!("second: a verdict or one of the ways above was met too rarely");
             return false;
         }
         println!("{cases} cases, 0 differences");

@@ -164,7 +164,7 @@ fn random_rows(random: &mut Random, carts: usize, h: usize, places: usize) -> Ve
     (0..carts).map(&mut row).collect()
 }
 
-fn walk(random: &mut Random, h: usize, places: usize, stay: usize) -> Vec<u8> {
+pub fn walk(random: &mut Random, h: usize, places: usize, stay: usize) -> Vec<u8> {
     let mut at = random.below(places);
     let mut row = Vec::with_capacity(h);
     for _ in 0..h {

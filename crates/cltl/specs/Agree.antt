@@ -10,7 +10,7 @@ use Rattle.cltl.specs.Step.{lowest}
 use Rattle.cltl.specs.Quorum.{window-cong}
 use Rattle.cltl.specs.Tally.{every-agrees}
 
-tally-agrees : (f g : ℕ → Bool) (n : ℕ) → ((i : ℕ) → i < n → f i ≡ g i) → tally f n ≡ tally g n
+pub tally-agrees : (f g : ℕ → Bool) (n : ℕ) → ((i : ℕ) → i < n → f i ≡ g i) → tally f n ≡ tally g n
 unfolding tally
 tally-agrees f g zero e = refl
 tally-agrees f g (suc n) e = rw (e n (le-refl (suc n)), tally-agrees f g n (λ i p. e i (omega arith)))

@@ -5,7 +5,7 @@ use mathlib.Core.Bool.{Bool, true, false, not, cond, _&&_}
 use mathlib.Core.Logic.{_⊎_, inl, inr, ⊎-elim}
 use native.Mathlib.Omega.{arith}
 use native.Mathlib.Nat.{eq-or-lt-of-le, le-refl}
-use lib.Dec.{T, leb, eqb, eqb→eq, T-not}
+use lib.Dec.{T, eqb, eqb→eq, T-not}
 use lib.Ieee.Fits.{eq→eqb}
 use Rattle.grammar.specs.Grammar.{Inner, Counted, counted}
 use Rattle.row.specs.Lasso.{stepOf}
@@ -13,11 +13,11 @@ use Rattle.row.specs.Round.{step-low, step-below}
 use Rattle.cltl.specs.Threshold.{threshold, quota}
 use Rattle.cltl.specs.Meaning.{Rows, Proper, AtLeast, Run, Satisfies, Counts}
 use Rattle.cltl.specs.Rules.{tally, every, window, throughout, quorum, inner, count}
-use Rattle.cltl.specs.Basics.{lt-or-le, T-or-not, and-i, or-r}
+use Rattle.cltl.specs.Basics.{lt-or-le, T-or-not}
 use Rattle.cltl.specs.Broken.{Val, Broken}
 use Rattle.cltl.specs.Inner.{inner-sound, inner-opp}
 use Rattle.cltl.specs.Quorum.{throughout-quorum, all-quorum}
-use Rattle.cltl.specs.Tally.{every-at, every-of, tally-mono, tally-not, tally-least, tally-most, at-least-map}
+use Rattle.cltl.specs.Tally.{every-at, tally-mono, tally-not, tally-least, tally-most, at-least-map}
 use Rattle.cltl.specs.Standing.{Standing, highest, gather, gathered}
 
 -- a number below n that passes the test, or none does

@@ -1,16 +1,16 @@
 -- Ors of counts: what one of their counts makes true, and the pigeonhole.
-use Prim.Native.Nat.{ℕ, zero, suc, _+_, _-_, _≤_, _<_}
-use mathlib.Core.Path.{_≡_, refl, sym, subst}
-use mathlib.Core.Bool.{Bool, true, false, not, cond, _||_}
+use Prim.Native.Nat.{ℕ, _+_, _-_, _≤_, _<_}
+use mathlib.Core.Bool.{Bool, true, false, not}
 use mathlib.Core.List.{List, [], _∷_, _++_}
 use mathlib.Core.Logic.{_⊎_, inl, inr, ⊎-elim}
 use native.Mathlib.Omega.{arith}
 use lib.Dec.{T, leb→le}
-use Rattle.grammar.specs.Grammar.{Form, top, leaf, neg, and, or, next, until, release, ev, gl, Counted}
+use Rattle.grammar.specs.Grammar.{Form, leaf, neg, and, or, Counted}
 use Rattle.cltl.specs.Meaning.{Rows, Holds}
 use Rattle.cltl.specs.Broken.{Val}
 use Rattle.cltl.specs.Rules.{tally, throughout, both, leaves, judge, asked, text, slack, someText, joint}
 use Rattle.cltl.specs.Basics.{lt-or-le, or-l, or-r}
+use Rattle.cltl.specs.Tally.{tally-or, tally-none}
 
 -- one of a list has Q
 abbrev pub Some : {X : Type 0} → (X → Type 0) → List X → Type 0
@@ -38,7 +38,9 @@ module _ {L : Type 0} (Leaf : L → ℕ → Type 0) (t : ℕ) where
   leaf-holds p (leaf x) z = ⊎-elim (λ u. u) (λ u. absurd u) z
   leaf-holds true (neg a) z = leaf-holds false a z
   leaf-holds false (neg a) z = λ n. n (leaf-holds true a z)
-  leaf-holds false (and a b) z = λ y. ⊎-elim (λ u. leaf-holds false a u (y .0)) (λ u. leaf-holds false b u (y .1)) (some-both LeafHolds (leaves false a) (leaves false b) z)
+  leaf-holds false (and a b) z =
+      λ y.
+      ⊎-elim (λ u. leaf-holds false a u (y .0)) (λ u. leaf-holds false b u (y .1)) (some-both LeafHolds (leaves false a) (leaves false b) z)
   leaf-holds true (or a b) z = ⊎-elim (λ u. inl (leaf-holds true a u)) (λ u. inr (leaf-holds true b u)) (some-both LeafHolds (leaves true a) (leaves true b) z)
 
   -- one side of it: only a | b and !(a & b) have counts
@@ -67,22 +69,6 @@ module _ (h l : ℕ) {L : Type 0} (rule : Bool → L → ℕ → Bool) (also : B
       (⊎-elim (λ u. or-l (judge h l rule also true a s) _ (leaf-ruled true a u)) (λ u. or-r (judge h l rule also true a s) _ (leaf-ruled true b u)) (some-both LeafRuled (leaves true a) (leaves true b) z))
 
 ---- The pigeonhole.
-tally-or : (f g : ℕ → Bool) (n : ℕ) → tally (λ i. f i || g i) n ≤ tally f n + tally g n
-unfolding tally
-tally-or f g zero = omega arith
-tally-or f g (suc n) = go (f n) (g n) _ (tally f n) (tally g n) (tally-or f g n)
-  where
-    go : (a b : Bool) (x y z : ℕ) → x ≤ y + z → cond (a || b) (suc x) x ≤ cond a (suc y) y + cond b (suc z) z
-    go true true x y z q = omega arith
-    go true false x y z q = omega arith
-    go false true x y z q = omega arith
-    go false false x y z q = q
-
-tally-none : (n : ℕ) → tally (λ i. false) n ≡ 0
-unfolding tally
-tally-none zero = refl
-tally-none (suc n) = tally-none n
-
 module _ (P : Rows) where
   -- "if more than the sum of (threshold − 1) carts satisfy some text each, some text has its threshold", each cart at a step of its own
   pub pigeonhole : (at : ℕ → ℕ) (n : ℕ) (xs : List (Bool × Counted)) → slack P xs < tally (λ i. someText P xs i (at i)) n
@@ -90,7 +76,7 @@ module _ (P : Rows) where
   unfolding slack someText
   pigeonhole at n [] q = let e = tally-none n in absurd (omega arith)
   pigeonhole at n (x ∷ xs) q =
-      let both = tally-or (λ i. text P i x (at i)) (λ i. someText P xs i (at i)) n in
+      let most = tally-or (λ i. text P i x (at i)) (λ i. someText P xs i (at i)) n in
       ⊎-elim (λ z. inr (pigeonhole at n xs (omega arith))) (λ z. inl z) (lt-or-le (tally (λ i. text P i x (at i)) n) (asked P x))
 
   -- what the joined rule says: there are counts, and more carts than their slack satisfy their or throughout

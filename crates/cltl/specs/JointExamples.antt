@@ -39,7 +39,7 @@ kept d c = rules (tables 2 1) d c 0
 abbrev before : ℕ → Clause → Bool
 before d c = plainRules (tables 2 1) d c 0
 
--- how many counts a clause has, if they are joined
+-- how many counts of a clause, or of its negation, there are to join
 abbrev counts : Bool → Clause → ℕ
 counts p c = length (leaves p c)
 
@@ -67,6 +67,13 @@ pub worked :
     -- !(a & b) asks for [!m1,2] or [!m2,2]: a cart has at most one of the marks, so all three satisfy the or
     × (kept 1 (neg (and a b)) ≡ true)
     × (before 1 (neg (and a b)) ≡ false)
+    -- of a negated count the text and the threshold are the negation's: [m1,2] or [!m2,2], of which the second cart has neither at once; [!m1,3] or
+    -- [!m2,2]; and with a third step without marks, where all have both negations
+    × (kept 1 (or a (neg b)) ≡ false)
+    × (kept 1 (neg (and (atLeast 1 1) b)) ≡ false)
+    × (rules (tables 3 2) 2 (neg (and a b)) 0 ≡ true)
+    -- a share is a threshold like any other
+    × (kept 1 (or (leaf (counted (leaf 1) 67 true)) b) ≡ true)
     -- a written or under one negation is an and
     × (kept 1 (neg (or a b)) ≡ false)
     × (kept 1 (and a b) ≡ false)
@@ -74,6 +81,7 @@ pub worked :
     × (kept 1 (or (or a b) hopeless) ≡ true)
     × (kept 1 (or a (or b hopeless)) ≡ false)
     × (kept 1 (or (or a hopeless) b) ≡ false)
+    × (kept 1 (or (or hopeless a) b) ≡ false)
     -- "are all counts": `true`, its negation, and what has another operator are none
     × (kept 1 (or (neg top) (or a b)) ≡ true)
     × (kept 1 (or (or (neg top) a) b) ≡ false)
@@ -85,6 +93,10 @@ pub worked :
     × (counts false (and a b) ≡ 2)
     × (counts true (or a top) ≡ 0)
     × (counts true (or a (gl b)) ≡ 0)
+    × (counts true (or a (ev b)) ≡ 0)
+    × (counts true (or a (next b)) ≡ 0)
+    × (counts true (or a (until b b)) ≡ 0)
+    × (counts true (or a (release b b)) ≡ 0)
     -- a threshold of 0 is reached by itself
     × (kept 1 (or (atLeast 3 0) (atLeast 3 4)) ≡ true)
     -- all carts at the step itself are no part of it: two carts on m1 or m2 at step 0, and then on neither
@@ -94,10 +106,13 @@ pub worked :
     × (before 1 (until a b) ≡ false)
     × (kept 1 (until a b) ≡ true)
     × (kept 1 (neg (release (neg a) (neg b))) ≡ true)
+    × (kept 1 (until (or a (atLeast 3 1)) b) ≡ true)
     -- b is still to be reached: where the lap is both steps, "a or b" is always true, and b never
     × (rules (tables 2 0) 1 (gl (or a b)) 0 ≡ true)
     × (rules (tables 2 0) 1 (until a b) 0 ≡ false)
-    -- R asks for a as before: b at every step up to where a is, and a is nowhere
+    -- R asks for its left side as before: its right side at every step up to where the left is, and here the left is nowhere
+    × (rules (tables 3 2) 1 (release (atLeast 3 1) (or a b)) 0 ≡ false)
+    × (rules (tables 3 2) 1 (neg (until (neg (atLeast 3 1)) (neg (or a b)))) 0 ≡ false)
     × (kept 1 (release a (or a b)) ≡ true)
     × (rules (tables 3 2) 1 (release a (or a b)) 0 ≡ false)
     × (kept 1 (neg (until (neg a) (neg b))) ≡ false)
@@ -110,6 +125,18 @@ pub worked :
     × (rules (tables 3 2) 2 (or a b) 0 ≡ false)
 unfolding computing
 worked = (
+  refl,
+  refl,
+  refl,
+  refl,
+  refl,
+  refl,
+  refl,
+  refl,
+  refl,
+  refl,
+  refl,
+  refl,
   refl,
   refl,
   refl,

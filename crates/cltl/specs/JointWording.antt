@@ -1,17 +1,17 @@
 -- What the words on joined counts need a proof for.
 use Prim.Native.Nat.{ℕ, suc, _+_, _≤_, _<_}
-use mathlib.Core.Path.{_≡_, refl}
+use mathlib.Core.Path.{_≡_, refl, ap, _∙_}
 use mathlib.Core.Bool.{Bool, true, false, _&&_, _||_}
 use mathlib.Core.List.{List, [], _∷_}
 use mathlib.Core.Logic.{_⊎_, inl, inr, ⊎-elim, _↔_}
 use native.Mathlib.Omega.{arith}
 use lib.Dec.{T, le→leb}
 use lib.ListN.{length}
-use Rattle.grammar.specs.Grammar.{Counted, counted, Clause}
+use Rattle.grammar.specs.Grammar.{or, Counted, counted, Clause}
 use Rattle.row.specs.Lasso.{stepOf}
 use Rattle.cltl.specs.Meaning.{Rows, Proper, AtLeast, Satisfies}
 use Rattle.cltl.specs.Broken.{Val}
-use Rattle.cltl.specs.Rules.{throughout, leaves, judge, asked, text, count, slack, someText, joint, joined, rules, plainRules, nothing}
+use Rattle.cltl.specs.Rules.{throughout, both, leaves, asked, text, count, slack, someText, joint, joined, rules, plainRules, nothing}
 use Rattle.cltl.specs.Basics.{or-l, or-r, or-cases, lt-or-le}
 use Rattle.cltl.specs.Inner.{inner-sound, inner-complete}
 use Rattle.cltl.specs.Operators.{judge-mono}
@@ -27,8 +27,8 @@ ask-or true a false rest = refl
 ask-or false true false rest = refl
 ask-or false false false rest = refl
 
-pub asks : (also a b : Bool) → T (also || a) → T (also || (a || b))
-asks also a b x = ⊎-elim (λ z. or-l also (a || b) z) (λ z. or-r also (a || b) (or-l a b z)) (or-cases also a x)
+pub ask-is-or : (also a b : Bool) → T (also || a) → T (also || (a || b))
+ask-is-or also a b x = ⊎-elim (λ z. or-l also (a || b) z) (λ z. or-r also (a || b) (or-l a b z)) (or-cases also a x)
 
 module _ (P : Rows) where
   -- cart i satisfies the text of a count, or of its negation, at counter v
@@ -53,6 +53,15 @@ module _ (P : Rows) where
   asks-no-cart d c s z =
       leaf-ruled (P .h) (P .l) (count P d) (joined P d) s true c
       (some-map _ _ (λ x e. throughout-quorum (P .h) (P .l) (P .carts) (asked P x) (λ i. text P i x) d s (omega arith)) (leaves true c) z)
+
+  -- an or with a side that has no counts joins none
+  pub mixed-none : (d s : ℕ) (a b : Clause) → (leaves true a ≡ []) ⊎ (leaves true b ≡ []) → joined P d true (or a b) s ≡ false
+  unfolding joined joint leaves
+  mixed-none d s a b none = ap (λ xs. joint P d xs s) (⊎-elim (λ e. ap (λ xs. both xs (leaves true b)) e) (λ e. ap (both (leaves true a)) e ∙ right (leaves true a)) none)
+    where
+      right : (xs : List (Bool × Counted)) → both xs [] ≡ []
+      right [] = refl
+      right (x ∷ xs) = refl
 
   -- what is kept by document 01 alone is kept
   pub plain-kept : (d : ℕ) (c : Clause) (s : ℕ) → T (plainRules P d c s) → T (rules P d c s)

@@ -175,4 +175,5 @@ module _ (h l : ℕ) (ok : l < h) {L : Type 0} (rule : Bool → L → ℕ → Bo
       ⊎-elim (λ x. x) (λ x. absurd (exact-sound false c t (rw (dual h l ok rule opp true c (stepOf h l t) (step-below h l ok t)) x) v))
       (T-or-not (judge h l rule nothing true c (stepOf h l t)))
   exact-complete false c t v =
-      rw (dual h l ok rule opp true c (stepOf h l t) (step-below h l ok t)) (not-T (judge h l rule nothing true c (stepOf h l t)) (λ x. v (exact-sound true c t x)))
+      rw (dual h l ok rule opp true c (stepOf h l t) (step-below h l ok t))
+      (not-T (judge h l rule nothing true c (stepOf h l t)) (λ x. v (exact-sound true c t x)))

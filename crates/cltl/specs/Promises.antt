@@ -1,8 +1,8 @@
 -- What is claimed of cLTL+, for any rows with a cart and a lap, any clauses and drifts.
 use Prim.Native.Nat.{ℕ, suc, _+_, _*_, _-_, _≤_, _<_}
-use mathlib.Core.Path.{_≡_, refl, subst, _∙_}
+use mathlib.Core.Path.{_≡_, refl, ap, subst, _∙_}
 use mathlib.Core.Bool.{Bool, true, false, _&&_, _||_}
-use mathlib.Core.List.{List}
+use mathlib.Core.List.{List, [], _∷_}
 use mathlib.Core.Logic.{_⊎_, _↔_}
 use native.Mathlib.Omega.{arith}
 use lib.Dec.{T}
@@ -13,12 +13,12 @@ use Rattle.row.specs.Lasso.{nextStep, stepOf}
 use Rattle.row.specs.Round.{step-low}
 use Rattle.cltl.specs.Threshold.{threshold, Nearest, quota}
 use Rattle.cltl.specs.Meaning.{Rows, Proper, Until, AtLeast, Run, Satisfies, Counts, TrueOf, InStepAt, TrueInStep}
-use Rattle.cltl.specs.Rules.{judge, leaves, inner, asked, count, slack, joint, joined, rules, plainRules, hasNext}
+use Rattle.cltl.specs.Rules.{judge, leaves, inner, asked, count, slack, someText, joint, joined, rules, plainRules, hasNext}
 use Rattle.cltl.specs.Lap.{fix-law, reach, forever}
 use Rattle.cltl.specs.Wording.{nearest, none-below-half, count-holds, asks-none}
 use Rattle.cltl.specs.Pace.{until-map}
 use Rattle.cltl.specs.Joint.{Some}
-use Rattle.cltl.specs.JointWording.{Text, total, asks, ask-or, slack-total, asks-no-cart, plain-kept, joint-holds}
+use Rattle.cltl.specs.JointWording.{Text, total, ask-is-or, ask-or, slack-total, asks-no-cart, mixed-none, plain-kept, joint-holds}
 use Rattle.cltl.specs.Inner.{inner-sound, inner-complete}
 use Rattle.cltl.specs.Sound.{rules-sound}
 use Rattle.cltl.specs.Monotone.{rules-mono}
@@ -79,21 +79,38 @@ module _ (P : Rows) (d s : ℕ) where
   unfolding rules judge leaves joint joined
   plain-rules a b = (refl, refl, refl)
 
-  -- ".. an or if either is", and by document 02 "also" as its counts are joined
+  -- ".. an or if either is"; and "also" by the joined rule, where its sides, through nested ors, are all counts
   pub or-rule : (a b : Clause) → Here (or a b) ≡ (joint P d (leaves true (or a b)) s || (Here a || Here b))
   unfolding rules judge joined
   or-rule a b = refl
 
-  -- whatever is kept without joining is kept
-  pub no-less : (c : Clause) → T (plainRules P d c s) → T (Here c)
-  no-less c x = plain-kept P d c s x
+  -- an or with a side that has no counts to join is true only if a side is
+  pub mixed-or : (a b : Clause) → (leaves true a ≡ []) ⊎ (leaves true b ≡ []) → Here (or a b) ≡ (Here a || Here b)
+  unfolding rules judge joined
+  mixed-or a b none = ap (λ (z : Bool). z || (Here a || Here b)) (mixed-none P d s a b none)
 
-  -- a threshold of 0, from which no 1 can be subtracted: then the or is true already, and else the sum is that of the thresholds less one for each count
-  pub no-threshold : (c : Clause) → Some (λ x. asked P x ≡ 0) (leaves true c) → T (Here c)
-  no-threshold c z = asks-no-cart P d c s z
+  -- a negated count in an or is joined as what it becomes
+  pub negated-joined : (a : Inner) (k : ℕ) (percent : Bool) (xs : List (Bool × Counted)) → joint P d ((false, counted a k percent) ∷ xs) s
+      ≡ joint P d ((true, counted (neg a) (suc (P .carts) - threshold k percent (P .carts)) false) ∷ xs) s
+  unfolding joint slack someText quota threshold inner judge
+  negated-joined a k true xs = refl
+  negated-joined a k false xs = refl
 
-  pub sum-less : (xs : List (Bool × Counted)) → Some (λ x. asked P x ≡ 0) xs ⊎ (slack P xs + length xs ≡ total P xs)
-  sum-less xs = slack-total P xs
+  -- by document 01 alone an or is true if either side is, and whatever is kept so is kept
+  pub plain-or : (a b : Clause) → plainRules P d (or a b) s ≡ (plainRules P d a s || plainRules P d b s)
+  unfolding plainRules judge
+  plain-or a b = refl
+
+  pub plain-kept-too : (c : Clause) → T (plainRules P d c s) → T (Here c)
+  plain-kept-too c x = plain-kept P d c s x
+
+  -- A threshold of 0 has no 1 to subtract: an or with such a count is true already. Without one the sum of (threshold − 1) is the sum of the thresholds
+  -- less the number of counts.
+  pub zero-threshold : (c : Clause) → Some (λ x. asked P x ≡ 0) (leaves true c) → T (Here c)
+  zero-threshold c z = asks-no-cart P d c s z
+
+  pub sum-of-thresholds : (xs : List (Bool × Counted)) → Some (λ x. asked P x ≡ 0) xs ⊎ (slack P xs + length xs ≡ total P xs)
+  sum-of-thresholds xs = slack-total P xs
 
   -- "With d = 0, X outside counts looks one step on." With d above 0 it is refused before (16).
   pub next-rule : (a : Clause) → Here (next a) ≡ rules P d a after
@@ -132,8 +149,13 @@ module _ (P : Rows) (d s : ℕ) where
       pub until-reached : T (Here (until a b)) → Until (On (or a b)) (On b) s
       unfolding rules judge
       until-reached x =
-          until-map s (λ w y. asks (joined P d true (or a b) (stepOf (P .h) (P .l) w)) (rules P d a (stepOf (P .h) (P .l) w)) _ y) (λ w y. y)
+          until-map s (λ w y. ask-is-or (joined P d true (or a b) (stepOf (P .h) (P .l) w)) (rules P d a (stepOf (P .h) (P .l) w)) _ y) (λ w y. y)
           (reach (P .h) (P .l) (proper .lap) (λ v. joined P d true (or a b) v || rules P d a v) (λ v. rules P d b v) s (rw (step-low (P .h) (P .l) s low) x))
+
+      -- by document 01 alone: a itself
+      pub plain-until : plainRules P d (until a b) s ≡ (plainRules P d b s || (plainRules P d a s && plainRules P d (until a b) after))
+      unfolding plainRules judge
+      plain-until = fix-law (P .h) (P .l) (proper .lap) true _ _ s low
 
       -- "a R b: b here, and either a here or a R b at the step after, with no need that a ever comes": b for ever is enough
       pub release-rule : Here (release a b) ≡ (Here b && (Here a || rules P d (release a b) after))

@@ -48,7 +48,8 @@ module _ (h l : ℕ) where
   unfoldable pub quorum : (carts d m : ℕ) → (ℕ → ℕ → Bool) → ℕ → Bool
   quorum carts d m f s = leb m (throughout carts d f s) || (eqb m 1 && every (λ i. f i s) carts)
 
-  -- The operators, over any rule for the leaves and any rule by which an or "is also true". The flag says which are ors: a | b, and !(a & b).
+  -- The operators, over any rule for the leaves and any rule by which an or "is also true". The flag says which are ors: a | b, and !(a & b);
+  -- the rule is to say no of any other node.
   -- "a U b then asks, where b isn't yet true, for "a or b" by this rule instead of a": for a, or for what else makes the or true.
   module _ {L : Type 0} (rule : Bool → L → ℕ → Bool) (also : Bool → Form L → ℕ → Bool) where
     unfoldable pub judge : Bool → Form L → ℕ → Bool
@@ -117,7 +118,7 @@ module _ (P : Rows) where
   someText (x ∷ xs) i s = text i x s || someText xs i s
 
   -- "An or whose sides, through nested ors, are all counts is also true if more carts than the sum of (threshold − 1) satisfy the or of the inner
-  -- texts at all of counters s to s + d."
+  -- texts at all of counters s to s + d." So each or of them, also one inside another.
   unfoldable pub joint : ℕ → List (Bool × Counted) → ℕ → Bool
   joint d [] s = false
   joint d (x ∷ xs) s = ltb (slack (x ∷ xs)) (throughout (P .h) (P .l) (P .carts) d (someText (x ∷ xs)) s)

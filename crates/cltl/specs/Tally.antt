@@ -1,7 +1,7 @@
 -- Counting below a number, by a test and as a statement; the least of some numbers.
 use Prim.Native.Nat.{ℕ, zero, suc, _+_, _≤_, _<_, min}
 use mathlib.Core.Path.{_≡_, refl, sym, ap, subst}
-use mathlib.Core.Bool.{Bool, true, false, not, cond, true≢false, false≢true}
+use mathlib.Core.Bool.{Bool, true, false, not, cond, _||_, true≢false, false≢true}
 use mathlib.Core.Logic.{_⊎_, inl, inr, ⊎-elim}
 use native.Mathlib.Omega.{arith}
 use native.Mathlib.Nat.{eq-or-lt-of-le, le-refl}
@@ -134,3 +134,19 @@ tally-not f g h (suc n) = go (f n) (g n) (h n) (tally-not f g h n)
     go true false q e = omega arith
     go false true q e = omega arith
     go false false q e = absurd (false≢true q)
+
+pub tally-or : (f g : ℕ → Bool) (n : ℕ) → tally (λ i. f i || g i) n ≤ tally f n + tally g n
+unfolding tally
+tally-or f g zero = omega arith
+tally-or f g (suc n) = go (f n) (g n) _ (tally f n) (tally g n) (tally-or f g n)
+  where
+    go : (a b : Bool) (x y z : ℕ) → x ≤ y + z → cond (a || b) (suc x) x ≤ cond a (suc y) y + cond b (suc z) z
+    go true true x y z q = omega arith
+    go true false x y z q = omega arith
+    go false true x y z q = omega arith
+    go false false x y z q = q
+
+pub tally-none : (n : ℕ) → tally (λ i. false) n ≡ 0
+unfolding tally
+tally-none zero = refl
+tally-none (suc n) = tally-none n

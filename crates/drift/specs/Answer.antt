@@ -29,8 +29,9 @@ ClauseRow P d nodes p k r = (n : ℕ) → k < n → Row (P .h) r (judge (P .h) (
 abbrev pub joinable : ℕ → Bool → Clause → List (Bool × Counted)
 joinable d p c = cond (eqb d 0) [] (leaves p c)
 
-abbrev pub joinedOf : Rows → ℕ → Bool → Clause → ℕ → Bool
-joinedOf P d p c s = joint P d (joinable d p c) s
+-- the joined rule, left out without drift
+abbrev pub joinedWithDrift : Rows → ℕ → Bool → Clause → ℕ → Bool
+joinedWithDrift P d p c s = joint P d (joinable d p c) s
 
 -- whether there are counts
 abbrev pub hasCounts : List (Bool × Counted) → Bool
@@ -39,7 +40,7 @@ hasCounts (x ∷ xs) = true
 
 -- what was told of the counts of an or: the or of their texts by a table, or its negation, and the sum of (threshold − 1), 32 at most
 pub record Gathered (P : Rows) (xs : List (Bool × Counted)) (t : List ℕ) (r : Judged) : Type 0 where
-  pub some : r .joins ≡ hasCounts xs
+  pub joins-is : r .joins ≡ hasCounts xs
   pub sum : r .slack ≡ min 32 (slack P xs)
   pub each : (i s : ℕ) → i < P .carts → s < P .h → signed (r .sign) (told t (r .at) i s) ≡ someText P xs i s
 
@@ -53,7 +54,7 @@ pub record Alone (marks h row : ℕ) (r : Judged) : Type 0 where
 
 -- a part of a clause: its row, and its counts
 abbrev pub PartRow : Rows → ℕ → List ℕ → Bool → ℕ → ℕ → Type 0
-PartRow P d nodes p k r = (n : ℕ) → k < n → Row (P .h) r (judge (P .h) (P .l) (count P d) (joinedOf P d) p (clauseTree nodes n k))
+PartRow P d nodes p k r = (n : ℕ) → k < n → Row (P .h) r (judge (P .h) (P .l) (count P d) (joinedWithDrift P d) p (clauseTree nodes n k))
 
 pub record ClauseJudged (P : Rows) (d : ℕ) (nodes : List ℕ) (p : Bool) (k : ℕ) (t : List ℕ) (r : Judged) : Type 0 where
   pub rows : PartRow P d nodes p k (r .row)

@@ -1,33 +1,29 @@
 -- A part of a clause, node by node: its row, and its counts.
-use Prim.Native.Nat.{ℕ, zero, suc, _+_, _*_, _≤_, _<_, min}
+use Prim.Native.Nat.{ℕ, zero, suc, _+_, _*_, _≤_, _<_}
 use mathlib.Core.Path.{_≡_, refl, sym, ap, ap₂, subst, _∙_}
-use mathlib.Core.Bool.{Bool, true, false, not, cond, _||_, or-false}
+use mathlib.Core.Bool.{Bool, true, false, not, cond}
 use mathlib.Core.List.{List, [], _∷_}
 use mathlib.Core.Logic.{⊎-elim}
 use native.Mathlib.Omega.{arith}
 use lib.Dec.{T, eqb, ltb, eqb·suc-zero}
 use lib.ListN.{length}
 use borrow.Author.Tests.{ne-eqb}
-use Rattle.grammar.specs.Grammar.{Form, top, leaf, neg, Counted, counted, Clause}
+use Rattle.grammar.specs.Grammar.{Form, top, leaf, Counted, counted, Clause}
 use Rattle.grammar.specs.Nodes.{countN, Op₁, neg₁, next₁, ev₁, gl₁, Op₂, and₂, or₂, until₂, release₂}
-use Rattle.cltl.specs.Threshold.{threshold, quota}
 use Rattle.cltl.specs.Meaning.{Rows, Proper}
-use Rattle.cltl.specs.Rules.{both, leaves, judge, inner, quorum, asked, text, count, slack, someText, joint, joined}
+use Rattle.cltl.specs.Rules.{both, leaves, judge, quorum, asked, text, count, joint, joined}
 use Rattle.cltl.specs.Basics.{lt-or-le}
 use Rattle.cltl.specs.Operators.{judge-plain}
 use Rattle.cltl.specs.Exact.{joining-plain}
-use Rattle.mask.specs.Mask.{on, Row, signed}
-use Rattle.table.specs.Table.{told}
-use Rattle.table.specs.Layout.{Constants}
+use Rattle.mask.specs.Mask.{on, Row}
 use Rattle.drift.specs.declared.Judged.{Judged}
-use Rattle.drift.specs.Tree.{kindAt, firstAt, secondAt, thirdAt, one, two, oneOf, twoOf, tree, Ordered, innerTree, clauseTree}
-use Rattle.drift.specs.Operator.{under, isOr, orOf, oneRule, twoRule}
-use Rattle.drift.specs.Answer.{InnerTable, ClauseRow, PartRow, joinable, joinedOf, Alone, Gathered, ClauseJudged}
+use Rattle.drift.specs.Tree.{kindAt, firstAt, secondAt, thirdAt, one, two, oneOf, twoOf, Ordered, innerTree, clauseTree}
+use Rattle.drift.specs.Operator.{isOr, orOf, oneRule, twoRule}
+use Rattle.drift.specs.Answer.{ClauseRow, PartRow, joinable, joinedWithDrift, Gathered, ClauseJudged}
 use Rattle.drift.specs.Kinds.{kind-count}
 use Rattle.drift.specs.OperatorTruth.{TruthIs, two-cong}
 use Rattle.drift.specs.OperatorRows.{row-of}
 use Rattle.drift.specs.NodeTruth.{under-other, one-low, two-low, at-top, at-mark, at-count, at-one, at-two}
-use Rattle.drift.specs.InnerTables.{inner-signed}
 use Rattle.drift.specs.Trees.{looked-up, top-tree, one-tree, two-tree}
 
 ---- The counts of an operator's text.
@@ -133,11 +129,11 @@ module _ (P : Rows) (d : ℕ) (nodes : List ℕ) (proper : Proper P) (p : Bool) 
     counts = gathered (λ n. []) (λ n z. no-joinable d p (clauseTree nodes (suc n) k) (ap (leaves p) (top-tree nodes n k (omega arith)))) (λ n z. f);
   }
     where
-      top-at : kind < 1 → TruthIs (P .h) (P .l) (proper .lap) nodes rule (joinedOf P d) none counts p k (on (r .row))
-      top-at u = at-top (P .h) (P .l) (proper .lap) nodes rule (joinedOf P d) none counts p k (on (r .row)) kind x ek ex (omega arith) (g .at)
+      top-at : kind < 1 → TruthIs (P .h) (P .l) (proper .lap) nodes rule (joinedWithDrift P d) none counts p k (on (r .row))
+      top-at u = at-top (P .h) (P .l) (proper .lap) nodes rule (joinedWithDrift P d) none counts p k (on (r .row)) kind x ek ex (omega arith) (g .at)
 
-      mark-at : 1 ≤ kind → TruthIs (P .h) (P .l) (proper .lap) nodes rule (joinedOf P d) none counts p k (on (r .row))
-      mark-at u = at-mark (P .h) (P .l) (proper .lap) nodes rule (joinedOf P d) none counts p k (on (r .row)) kind x ek ex (omega arith) (g .at)
+      mark-at : 1 ≤ kind → TruthIs (P .h) (P .l) (proper .lap) nodes rule (joinedWithDrift P d) none counts p k (on (r .row))
+      mark-at u = at-mark (P .h) (P .l) (proper .lap) nodes rule (joinedWithDrift P d) none counts p k (on (r .row)) kind x ek ex (omega arith) (g .at)
 
   module _ (m : ℕ) (em : m ≡ secondAt nodes k + 256 * thirdAt nodes k) (q : 10 ≤ kind) where
     abbrev this : Counted
@@ -145,7 +141,8 @@ module _ (P : Rows) (d : ℕ) (nodes : List ℕ) (proper : Proper P) (p : Bool) 
 
     count-tree : (n : ℕ) → clauseTree nodes (suc n) k ≡ leaf this
     count-tree n =
-        looked-up nodes n k (countN (firstAt nodes k) (secondAt nodes k + 256 * thirdAt nodes k) (eqb (kindAt nodes k) 11)) (kind-count (kindAt nodes k) _ _ _ (omega arith))
+        looked-up nodes n k (countN (firstAt nodes k) (secondAt nodes k + 256 * thirdAt nodes k) (eqb (kindAt nodes k) 11))
+        (kind-count (kindAt nodes k) _ _ _ (omega arith))
         ∙ ap₂ (λ (i j : ℕ). counts i j (eqb (kindAt nodes k) 11)) (sym ex) (sym em) ∙ ap (λ (o : ℕ). counts x m (eqb o 11)) (sym ek)
 
     pub count-judged : Row (P .h) (r .row) (quorum (P .h) (P .l) (P .carts) d (asked P (p, this)) (λ i. text P i (p, this))) → Gathered P (cond (eqb d 0) [] ((p, this) ∷ [])) t r
@@ -154,7 +151,7 @@ module _ (P : Rows) (d : ℕ) (nodes : List ℕ) (proper : Proper P) (p : Bool) 
     count-judged g f = record {
       rows = λ n z. record {
         low = g .low;
-        at = at-count (P .h) (P .l) (proper .lap) nodes rule (joinedOf P d) none counts p k (on (r .row)) kind x ek ex m em q (g .at) n z;
+        at = at-count (P .h) (P .l) (proper .lap) nodes rule (joinedWithDrift P d) none counts p k (on (r .row)) kind x ek ex m em q (g .at) n z;
       };
       counts = gathered (λ n. cond (eqb d 0) [] ((p, this) ∷ [])) (λ n z. ap (joinable d p) (count-tree n)) (λ n z. f);
     }
@@ -173,7 +170,7 @@ module _ (P : Rows) (d : ℕ) (nodes : List ℕ) (proper : Proper P) (p : Bool) 
           record {
             rows = λ n z. record {
               low = f .rows (suc x) (omega arith) .low;
-              at = at-one (P .h) (P .l) (proper .lap) nodes rule (joinedOf P d) none counts p k (on (r .row)) kind x ek ex (on (r .row)) o q q′
+              at = at-one (P .h) (P .l) (proper .lap) nodes rule (joinedWithDrift P d) none counts p k (on (r .row)) kind x ek ex (on (r .row)) o q q′
                   (λ n z s u. rw is (f .rows n z .at s u)) (λ s u. rw is) n z;
             };
             counts = gathered (λ n. joinable d (not p) (clauseTree nodes n x))
@@ -188,7 +185,7 @@ module _ (P : Rows) (d : ℕ) (nodes : List ℕ) (proper : Proper P) (p : Bool) 
       one-judged a n f g f′ = record {
         rows = λ m z. record {
           low = g .low;
-          at = at-one (P .h) (P .l) (proper .lap) nodes rule (joinedOf P d) none counts p k (on (r .row)) kind x ek ex (on a) o q q′
+          at = at-one (P .h) (P .l) (proper .lap) nodes rule (joinedWithDrift P d) none counts p k (on (r .row)) kind x ek ex (on a) o q q′
               (λ m z. subst (λ (b : Bool). PartRow P d nodes b x a) (sym (under-other kind p n)) f m z .at) (g .at) m z;
         };
         counts = gathered (λ m. [])
@@ -210,9 +207,10 @@ module _ (P : Rows) (d : ℕ) (nodes : List ℕ) (proper : Proper P) (p : Bool) 
           record {
             rows = λ n u. record {
               low = g k (omega arith) (omega arith) .0 .low;
-              at = at-two (P .h) (P .l) (proper .lap) nodes rule (joinedOf P d) none counts p k (on (r .row)) kind x ek ex (on a) o (on b) y ey q q′
+              at = at-two (P .h) (P .l) (proper .lap) nodes rule (joinedWithDrift P d) none counts p k (on (r .row)) kind x ek ex (on a) o (on b) y ey q q′
                   (λ n u. ra n u .at) (λ n u. rb n u .at) (λ n u u′ s v. g n u u′ .0 .at s v
-                  ∙ two-cong (P .h) (P .l) (proper .lap) p (twoOf kind) _ _ _ _ _ _ (λ s _. ap (λ zs. joint P d zs s) (sym (or-joinable d (twoOf kind) p _ _))) (λ s _. refl)
+                  ∙ two-cong (P .h) (P .l) (proper .lap) p (twoOf kind) _ _ _ _ _ _
+                  (λ s _. ap (λ zs. joint P d zs s) (sym (or-joinable d (twoOf kind) p _ _))) (λ s _. refl)
                   (λ s _. refl) s v) n u;
             };
             counts = gathered (λ n. cond (ltb kind 8) (zs n) []) (λ n u. ap (joinable d p) (tree-is n) ∙ two-joinable d kind q q′ p _ _)
@@ -229,10 +227,10 @@ module _ (P : Rows) (d : ℕ) (nodes : List ℕ) (proper : Proper P) (p : Bool) 
 pub part-row : (P : Rows) → Proper P → (d : ℕ) (nodes : List ℕ) (p : Bool) (k r : ℕ) → PartRow P d nodes p k r → ClauseRow P d nodes p k r
 unfolding joint joined
 part-row P proper zero nodes p k r f n z =
-    row-of (P .h) r _ _ (λ s q. judge-plain (P .h) (P .l) (proper .lap) (count P 0) (joinedOf P 0) (λ p c s q e. absurd (none p c s e)) p (clauseTree nodes n k) s q
+    row-of (P .h) r _ _ (λ s q. judge-plain (P .h) (P .l) (proper .lap) (count P 0) (joinedWithDrift P 0) (λ p c s q e. absurd (none p c s e)) p (clauseTree nodes n k) s q
     ∙ sym (joining-plain P proper p (clauseTree nodes n k) s q)) (f n z)
   where
-    none : (p : Bool) (c : Clause) (s : ℕ) → T (joinedOf P 0 p c s) → ⊥
+    none : (p : Bool) (c : Clause) (s : ℕ) → T (joinedWithDrift P 0 p c s) → ⊥
     none p c s e = e
 part-row P proper (suc d) nodes p k r f n z =
     subst

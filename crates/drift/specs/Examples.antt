@@ -1,12 +1,20 @@
--- Worked cases, by computation: which nodes are leaves, and where tables lie.
+-- Worked cases, by computation: which nodes are leaves, which operators are ors, and where tables lie.
 use mathlib.Core.Path.{_≡_, refl}
 use mathlib.Core.Bool.{true, false}
-use Rattle.grammar.specs.Nodes.{topN, markN, countN}
+use mathlib.Core.List.{[], _∷_}
+use Rattle.grammar.specs.Grammar.{leaf, or, counted, Clause}
+use Rattle.grammar.specs.Nodes.{topN, markN, countN, and₂, or₂, until₂, release₂}
+use Rattle.cltl.specs.Rules.{leaves}
 use Rattle.drift.specs.Tree.{isLeaf}
+use Rattle.drift.specs.Operator.{isOr}
+use Rattle.drift.specs.Answer.{joinable}
 use Rattle.drift.specs.Places.{constantAt, leafAt, pairsEnd, otherOf}
 
+abbrev either : Clause
+either = or (leaf (counted (leaf 0) 1 false)) (leaf (counted (leaf 1) 2 false))
+
 -- by their kinds: `true` and a mark, from ! to R operators, the two kinds of counts
-pub leaves :
+pub kinds :
     (isLeaf 0 ≡ true)
     × (isLeaf 1 ≡ true)
     × (isLeaf 2 ≡ false)
@@ -15,7 +23,24 @@ pub leaves :
     × (isLeaf 9 ≡ false)
     × (isLeaf 10 ≡ true)
     × (isLeaf 11 ≡ true)
-leaves = (refl, refl, refl, refl, refl, refl, refl, refl)
+kinds = (refl, refl, refl, refl, refl, refl, refl, refl)
+
+-- which operators are ors or ask for one, as they stand and under a negation
+pub ors :
+    (isOr and₂ true ≡ false)
+    × (isOr and₂ false ≡ true)
+    × (isOr or₂ true ≡ true)
+    × (isOr or₂ false ≡ false)
+    × (isOr until₂ true ≡ true)
+    × (isOr until₂ false ≡ false)
+    × (isOr release₂ true ≡ false)
+    × (isOr release₂ false ≡ true)
+    -- the counts of [m0,1] | [m1,2] are joined with drift, of its negation none are, and without drift none
+    × (joinable 1 true either ≡ ((true, counted (leaf 0) 1 false) ∷ (true, counted (leaf 1) 2 false) ∷ []))
+    × (joinable 1 false either ≡ [])
+    × (joinable 0 true either ≡ [])
+unfolding leaves
+ors = (refl, refl, refl, refl, refl, refl, refl, refl, refl, refl, refl)
 
 -- with two marks and three steps: two tables of marks, that of all, that of none, and twelve places
 pub worked :

@@ -1,10 +1,10 @@
 -- The counts of an or, gathered from its sides.
-use Prim.Native.Nat.{ℕ, zero, suc, _+_, _-_, _≤_, _<_, min}
-use mathlib.Core.Path.{_≡_, refl, sym, ap, ap₂, subst, _∙_}
-use mathlib.Core.Bool.{Bool, true, false, not, cond, _&&_, _||_, or-false, or-comm, and-comm, true≢false, false≢true}
+use Prim.Native.Nat.{ℕ, suc, _+_, _-_, _≤_, _<_, min}
+use mathlib.Core.Path.{_≡_, refl, sym, ap, ap₂, _∙_}
+use mathlib.Core.Bool.{Bool, true, false, not, cond, _&&_, _||_, or-false, or-comm, or-assoc, and-comm, true≢false, false≢true}
 use mathlib.Core.List.{List, [], _∷_, _++_}
 use native.Mathlib.Omega.{arith}
-use lib.Dec.{T, ltb, leb→le, le→leb}
+use lib.Dec.{ltb, leb→le, le→leb}
 use Rattle.grammar.specs.Grammar.{Counted}
 use Rattle.cltl.specs.Meaning.{Rows, Proper}
 use Rattle.cltl.specs.Rules.{window, throughout, both, asked, text, slack, someText, joint}
@@ -13,19 +13,19 @@ use Rattle.cltl.specs.Tally.{tally-le}
 use Rattle.cltl.specs.Agree.{throughout-agrees}
 use Rattle.mask.specs.Mask.{Row, signed}
 use Rattle.table.specs.Table.{told, Table, Kept}
-use Rattle.table.specs.Layout.{noneAt, Constants}
+use Rattle.table.specs.Layout.{Constants}
 use Rattle.table.specs.Keeping.{kept-told}
 use Rattle.drift.specs.declared.Judged.{Judged}
 use Rattle.drift.specs.Tree.{clauseTree}
 use Rattle.drift.specs.Answer.{hasCounts, Alone, Gathered, joinable, PartRow, ClauseJudged}
 use Rattle.drift.specs.OperatorRows.{row-of}
 
-abbrev Counts : Type 0
-Counts = List (Bool × Counted)
+abbrev CountList : Type 0
+CountList = List (Bool × Counted)
 
 ---- The test of two sides.
-pub not-all : (a b c : Bool) → not ((a && b) && c) ≡ true → ((a && b) && c) ≡ false
-not-all a b c e = go ((a && b) && c) e
+pub not-three : (a b c : Bool) → not ((a && b) && c) ≡ true → ((a && b) && c) ≡ false
+not-three a b c e = go ((a && b) && c) e
   where
     go : (x : Bool) → not x ≡ true → x ≡ false
     go true e = sym e
@@ -38,35 +38,31 @@ all-three true false c e = absurd (true≢false e)
 all-three false b c e = absurd (true≢false e)
 
 ---- Two lists of counts.
-has-both : (xs ys : Counts) → hasCounts (both xs ys) ≡ (hasCounts xs && hasCounts ys)
+has-both : (xs ys : CountList) → hasCounts (both xs ys) ≡ (hasCounts xs && hasCounts ys)
 has-both [] ys = refl
 has-both (x ∷ xs) [] = refl
 has-both (x ∷ xs) (y ∷ ys) = refl
 
-no-counts : (xs : Counts) → hasCounts xs ≡ false → xs ≡ []
+no-counts : (xs : CountList) → hasCounts xs ≡ false → xs ≡ []
 no-counts [] e = refl
 no-counts (x ∷ xs) e = absurd (true≢false e)
 
 module _ (P : Rows) where
-  slack-append : (xs ys : Counts) → slack P (xs ++ ys) ≡ slack P xs + slack P ys
+  slack-append : (xs ys : CountList) → slack P (xs ++ ys) ≡ slack P xs + slack P ys
   unfolding slack
   slack-append [] ys = omega arith
   slack-append (x ∷ xs) ys = let e = slack-append xs ys in omega arith
 
-  some-append : (xs ys : Counts) (i s : ℕ) → someText P (xs ++ ys) i s ≡ (someText P xs i s || someText P ys i s)
+  text-append : (xs ys : CountList) (i s : ℕ) → someText P (xs ++ ys) i s ≡ (someText P xs i s || someText P ys i s)
   unfolding someText
-  some-append [] ys i s = refl
-  some-append (x ∷ xs) ys i s = ap (λ (b : Bool). text P i x s || b) (some-append xs ys i s) ∙ assoc (text P i x s) (someText P xs i s) (someText P ys i s)
-    where
-      assoc : (a b c : Bool) → (a || (b || c)) ≡ ((a || b) || c)
-      assoc true b c = refl
-      assoc false b c = refl
+  text-append [] ys i s = refl
+  text-append (x ∷ xs) ys i s = ap (λ (b : Bool). text P i x s || b) (text-append xs ys i s) ∙ sym (or-assoc (text P i x s) (someText P xs i s) (someText P ys i s))
 
-  module _ (xs ys : Counts) (hx : hasCounts xs ≡ true) (hy : hasCounts ys ≡ true) where
+  module _ (xs ys : CountList) (hx : hasCounts xs ≡ true) (hy : hasCounts ys ≡ true) where
     both-append : both xs ys ≡ xs ++ ys
     both-append = go xs ys hx hy
       where
-        go : (xs ys : Counts) → hasCounts xs ≡ true → hasCounts ys ≡ true → both xs ys ≡ xs ++ ys
+        go : (xs ys : CountList) → hasCounts xs ≡ true → hasCounts ys ≡ true → both xs ys ≡ xs ++ ys
         go [] ys e f = absurd (false≢true e)
         go (x ∷ xs) [] e f = absurd (false≢true f)
         go (x ∷ xs) (y ∷ ys) e f = refl
@@ -74,11 +70,11 @@ module _ (P : Rows) where
     slack-both : slack P (both xs ys) ≡ slack P xs + slack P ys
     slack-both = ap (slack P) both-append ∙ slack-append xs ys
 
-    some-both : (i s : ℕ) → someText P (both xs ys) i s ≡ (someText P xs i s || someText P ys i s)
-    some-both i s = ap (λ zs. someText P zs i s) both-append ∙ some-append xs ys i s
+    text-both : (i s : ℕ) → someText P (both xs ys) i s ≡ (someText P xs i s || someText P ys i s)
+    text-both i s = ap (λ zs. someText P zs i s) both-append ∙ text-append xs ys i s
 
   -- without counts nothing is joined
-  pub joint-none : (d : ℕ) (zs : Counts) (s : ℕ) → zs ≡ [] → joint P d zs s ≡ false
+  pub joint-none : (d : ℕ) (zs : CountList) (s : ℕ) → zs ≡ [] → joint P d zs s ≡ false
   unfolding joint
   joint-none d zs s e = ap (λ ys. joint P d ys s) e
 
@@ -88,7 +84,7 @@ module _ (P : Rows) (few : P .carts ≤ 32) where
   pub alone-gathered : (marks row : ℕ) (t : List ℕ) (r : Judged) → Constants marks (P .h) t → Alone marks (P .h) row r → Gathered P [] t r
   unfolding slack someText
   alone-gathered marks row t r c a = record {
-    some = a .joins-not;
+    joins-is = a .joins-not;
     sum = a .no-slack;
     each = λ i s q u. ap₂ (λ (b : Bool) (n : ℕ). signed b (told t n i s)) (a .sign-is) (a .at-none) ∙ c .none i s (omega arith) u;
   }
@@ -97,19 +93,19 @@ module _ (P : Rows) (few : P .carts ≤ 32) where
   pub count-gathered : (x : Bool × Counted) (t : List ℕ) (r : Judged) → r .joins ≡ true → r .slack ≡ min 32 (asked P x - 1)
       → ((i s : ℕ) → i < P .carts → s < P .h → signed (r .sign) (told t (r .at) i s) ≡ text P i x s) → Gathered P (x ∷ []) t r
   unfolding slack someText
-  count-gathered x t r e f g = record { some = e; sum = omega arith; each = λ i s q u. g i s q u ∙ sym (or-false (text P i x s)) }
+  count-gathered x t r e f g = record { joins-is = e; sum = omega arith; each = λ i s q u. g i s q u ∙ sym (or-false (text P i x s)) }
 
   -- kept, it is told as before
-  pub gathered-kept : (xs : Counts) (n : ℕ) (before after : List ℕ) (r : Judged) → Kept n before after → r .at + P .h ≤ n → Gathered P xs before r
+  pub gathered-kept : (xs : CountList) (n : ℕ) (before after : List ℕ) (r : Judged) → Kept n before after → r .at + P .h ≤ n → Gathered P xs before r
       → Gathered P xs after r
   gathered-kept xs n before after r kept q g = record {
-    some = g .some;
+    joins-is = g .joins-is;
     sum = g .sum;
     each = λ i s c u. ap (signed (r .sign)) (kept-told n before after kept (r .at) (P .h) i s q u) ∙ g .each i s c u;
   }
 
   -- an or of two sides that have counts
-  module _ (xs ys : Counts) (before after : List ℕ) (first second r : Judged) where
+  module _ (xs ys : CountList) (before after : List ℕ) (first second r : Judged) where
     abbrev pub Joins : Type 0
     Joins = (first .joins ≡ true) × (second .joins ≡ true) × (r .joins ≡ true) × (r .sign ≡ true) × (r .slack ≡ min 32 (first .slack + second .slack))
 
@@ -117,12 +113,12 @@ module _ (P : Rows) (few : P .carts ≤ 32) where
     Made =
         Table (λ i s. signed (first .sign) (told before (first .at) i s) || signed (second .sign) (told before (second .at) i s)) (r .at) (P .h) before after
 
-    abbrev Both : (zs : Counts) → Type 0
+    abbrev Both : (zs : CountList) → Type 0
     Both zs = (slack P zs ≡ slack P xs + slack P ys) × ((i s : ℕ) → someText P zs i s ≡ (someText P xs i s || someText P ys i s)) × (hasCounts zs ≡ true)
 
-    by-both : (zs : Counts) → Both zs → Joins → Gathered P xs before first → Gathered P ys before second → Made → Gathered P zs after r
+    by-both : (zs : CountList) → Both zs → Joins → Gathered P xs before first → Gathered P ys before second → Made → Gathered P zs after r
     by-both zs b j f g m = record {
-      some = j .2 ∙ sym (b .2);
+      joins-is = j .2 ∙ sym (b .2);
       sum = omega (arith, b .0, j .4, f .sum, g .sum);
       each = λ i s c u.
           ap (λ (p : Bool). signed p (told after (r .at) i s)) (j .3) ∙ m .each s (omega arith) u i (omega arith)
@@ -131,36 +127,36 @@ module _ (P : Rows) (few : P .carts ≤ 32) where
 
     -- the counts of both, in either order
     in-order : hasCounts xs ≡ true → hasCounts ys ≡ true → Both (both xs ys)
-    in-order hx hy = (slack-both P xs ys hx hy, some-both P xs ys hx hy, has-both xs ys ∙ ap₂ (λ (x y : Bool). x && y) hx hy)
+    in-order hx hy = (slack-both P xs ys hx hy, text-both P xs ys hx hy, has-both xs ys ∙ ap₂ (λ (x y : Bool). x && y) hx hy)
 
     turned : hasCounts xs ≡ true → hasCounts ys ≡ true → Both (both ys xs)
     turned hx hy = (
       let e = slack-both P ys xs hy hx in omega arith,
-      λ i s. some-both P ys xs hy hx i s ∙ or-comm (someText P ys i s) (someText P xs i s),
+      λ i s. text-both P ys xs hy hx i s ∙ or-comm (someText P ys i s) (someText P xs i s),
       has-both ys xs ∙ ap₂ (λ (x y : Bool). x && y) hy hx,
     )
 
   -- whichever was judged first
-  pub or-gathered : (swapped : Bool) (xs ys : Counts) (before after : List ℕ) (first second r : Judged) → Joins xs ys before after first second r
+  pub or-gathered : (swapped : Bool) (xs ys : CountList) (before after : List ℕ) (first second r : Judged) → Joins xs ys before after first second r
       → Gathered P xs before (cond swapped second first) → Gathered P ys before (cond swapped first second) → Made xs ys before after first second r
       → Gathered P (both xs ys) after r
   or-gathered false xs ys before after first second r j f g m =
-      by-both xs ys before after first second r _ (in-order xs ys before after first second r (sym (f .some) ∙ j .0) (sym (g .some) ∙ j .1)) j f g m
+      by-both xs ys before after first second r _ (in-order xs ys before after first second r (sym (f .joins-is) ∙ j .0) (sym (g .joins-is) ∙ j .1)) j f g m
   or-gathered true xs ys before after first second r j f g m =
-      by-both ys xs before after first second r _ (turned ys xs before after first second r (sym (g .some) ∙ j .0) (sym (f .some) ∙ j .1)) j g f m
+      by-both ys xs before after first second r _ (turned ys xs before after first second r (sym (g .joins-is) ∙ j .0) (sym (f .joins-is) ∙ j .1)) j g f m
 
   -- of a side without counts there are none
-  pub none-gathered : (swapped p : Bool) (xs ys : Counts) (t : List ℕ) (first second : Judged) → Gathered P xs t (cond swapped second first)
+  pub none-gathered : (swapped p : Bool) (xs ys : CountList) (t : List ℕ) (first second : Judged) → Gathered P xs t (cond swapped second first)
       → Gathered P ys t (cond swapped first second) → ((p && first .joins) && second .joins) ≡ false → cond p (both xs ys) [] ≡ []
   none-gathered swapped false xs ys t first second f g e = refl
   none-gathered false true xs ys t first second f g e =
-      no-counts (both xs ys) (has-both xs ys ∙ ap₂ (λ (x y : Bool). x && y) (sym (f .some)) (sym (g .some)) ∙ e)
+      no-counts (both xs ys) (has-both xs ys ∙ ap₂ (λ (x y : Bool). x && y) (sym (f .joins-is)) (sym (g .joins-is)) ∙ e)
   none-gathered true true xs ys t first second f g e =
       no-counts (both xs ys)
-      (has-both xs ys ∙ ap₂ (λ (x y : Bool). x && y) (sym (f .some)) (sym (g .some)) ∙ and-comm (second .joins) (first .joins) ∙ e)
+      (has-both xs ys ∙ ap₂ (λ (x y : Bool). x && y) (sym (f .joins-is)) (sym (g .joins-is)) ∙ and-comm (second .joins) (first .joins) ∙ e)
 
   -- more carts than the slack: 32 stand for any more, since there are no more carts
-  module _ (proper : Proper P) (d : ℕ) (zs : Counts) (t : List ℕ) (r : Judged) (g : Gathered P zs t r) where
+  module _ (proper : Proper P) (d : ℕ) (zs : CountList) (t : List ℕ) (r : Judged) (g : Gathered P zs t r) where
     capped : (n m : ℕ) → n ≤ 32 → ltb (min 32 m) n ≡ ltb m n
     capped n m q =
         bool-ext _ _ (λ z. let a = leb→le (suc (min 32 m)) n z in le→leb (suc m) n (omega arith))
@@ -169,9 +165,9 @@ module _ (P : Rows) (few : P .carts ≤ 32) where
     pub joint-told : (z : ℕ) → r .joins ≡ true → r .sign ≡ true
         → Row (P .h) z (λ s. ltb (r .slack) (throughout (P .h) (P .l) (P .carts) d (told t (r .at)) s)) → Row (P .h) z (joint P d zs)
     unfolding joint
-    joint-told z e f row = row-of (P .h) z _ _ (λ s q. same s ∙ is zs (sym (g .some) ∙ e) s) row
+    joint-told z e f row = row-of (P .h) z _ _ (λ s q. same s ∙ is zs (sym (g .joins-is) ∙ e) s) row
       where
-        is : (zs : Counts) → hasCounts zs ≡ true → (s : ℕ) → ltb (slack P zs) (throughout (P .h) (P .l) (P .carts) d (someText P zs) s) ≡ joint P d zs s
+        is : (zs : CountList) → hasCounts zs ≡ true → (s : ℕ) → ltb (slack P zs) (throughout (P .h) (P .l) (P .carts) d (someText P zs) s) ≡ joint P d zs s
         is [] e s = absurd (false≢true e)
         is (x ∷ zs) e s = refl
 

@@ -58,6 +58,6 @@ pub record InTurn (block needs : List ℕ) (k : ℕ) (r : Operands) : Type 0 whe
   pub first-need : getD needs (r .first) 0 ≤ getD needs k 0
   pub second-need : getD needs (r .second) 0 < getD needs k 0
 
--- six pairs do for node k, as they do for every clause of at most 128 nodes
-abbrev pub Small : List ℕ → ℕ → Type 0
-Small block k = (needs : List ℕ) → Needs block needs (k + 1) → getD needs k 0 ≤ 6
+-- six pairs are enough for node k, as they are for every clause of at most 128 nodes
+abbrev pub SixPairsDo : List ℕ → ℕ → Type 0
+SixPairsDo block k = (needs : List ℕ) → Needs block needs (k + 1) → getD needs k 0 ≤ 6

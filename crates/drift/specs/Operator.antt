@@ -13,14 +13,14 @@ under next₁ p = p
 under ev₁ p = p
 under gl₁ p = p
 
--- that or, as its flag has it: a & b is one under a negation
+-- the or that a binary operator is or asks for, as a flag has it: under a negation a & b is one
 abbrev pub orOf : {L : Type 0} → Op₂ → Form L → Form L → Form L
 orOf and₂ a b = and a b
 orOf or₂ a b = or a b
 orOf until₂ a b = or a b
 orOf release₂ a b = and a b
 
--- whether it is one: a | b and what a U b asks for as they stand, a & b and what a R b asks for negated
+-- whether there is one under a flag: a | b and what a U b asks for as they stand, a & b and what a R b asks for negated
 abbrev pub isOr : Op₂ → Bool → Bool
 isOr and₂ p = not p
 isOr or₂ p = p

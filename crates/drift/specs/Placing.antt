@@ -18,9 +18,9 @@ use Rattle.drift.specs.Tree.{kindAt, nodeAt, oneOf, twoOf}
 use Rattle.drift.specs.Places.{constantAt, leafAt, pairsEnd, otherOf, Placed}
 
 -- what is so of two is so of either
-pub either-of : (Q : ℕ → Type 0) (p : Bool) (x y : ℕ) → Q x → Q y → (r : ℕ) → r ≡ cond p x y → Q r
-either-of Q true x y a b r e = subst Q (sym e) a
-either-of Q false x y a b r e = subst Q (sym e) b
+pub chosen-of : (Q : ℕ → Type 0) (p : Bool) (x y : ℕ) → Q x → Q y → (r : ℕ) → r ≡ cond p x y → Q r
+chosen-of Q true x y a b r e = subst Q (sym e) a
+chosen-of Q false x y a b r e = subst Q (sym e) b
 
 -- so many tables are so many words at most
 pub at-most : (g : Ground) → InRange g → (n m : ℕ) → n ≤ m → n * g .h ≤ m * 64

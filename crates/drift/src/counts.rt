@@ -1,4 +1,4 @@
-// Counts over all carts, at every step at once.
+// Thresholds of counts, the slack of an or, and the steps at which its counts are true together.
 use crate::Ground;
 use endian::wide;
 ghost use mathlib.Core.Path.{_≡_};
@@ -34,7 +34,7 @@ pub fn quota(p: bool, m: usize, size: usize) -> usize
     if m <= size { size + 1 - m } else { 0 }
 }
 
-// What a count adds to the slack of an or: no or has more carts than 32.
+// What a count adds to the slack of an or, (threshold - 1); 32 stand for any more, since there are no more carts.
 pub fn slack_of(m: usize) -> u8
     ensures { λ r. ⌜ r ≡ min 32 (m - 1) ⌝ }
 {
@@ -44,7 +44,7 @@ pub fn slack_of(m: usize) -> u8
     if 32 < m { 32 } else { (m - 1) as u8 }
 }
 
-// The slack of two sides.
+// The slack of two sides together, 32 at most.
 pub fn added(a: u8, b: u8) -> u8
     requires { ⌜ (a ≤ 32) × (b ≤ 32) ⌝ }
     ensures { λ r. ⌜ r ≡ min 32 (a + b) ⌝ }
@@ -70,5 +70,5 @@ pub fn together(
     if g.carts <= few {
         return 0;
     }
-    quorum::joint_row(t, at, true, few + 1, g.carts, g.h, g.l, g.d, w, bits)
+    quorum::joint_row(t, at, few + 1, g.carts, g.h, g.l, g.d, w, bits)
 }

@@ -52,7 +52,8 @@ pub fn one_judged(kind: u8, p: bool, a: Judged, g: Ground) -> Judged
     alone(one_row(kind, p, a.row, g.h, g.l), g)
 }
 
-fn either_row(p: bool, a: u64, b: u64) -> u64
+// One of two rows, by a flag.
+fn chosen_row(p: bool, a: u64, b: u64) -> u64
     ensures { λ r. ⌜ r ≡ cond p a b ⌝ }
 {
     if p { a } else { b }
@@ -84,8 +85,8 @@ pub fn two_judged(
         → Row (g .h) (r .row) (twoRule (g .h) (g .l) p (twoOf kind) (joint P (g .d) zs) (on (cond swapped (second .row) (first .row)))
         (on (cond swapped (first .row) (second .row)))) × Gathered P (cond (ltb kind 8) zs []) (now (t .exit)) r) ⌝ }
 {
-    let a = either_row(swapped, second.row, first.row);
-    let b = either_row(swapped, first.row, second.row);
+    let a = chosen_row(swapped, second.row, first.row);
+    let b = chosen_row(swapped, first.row, second.row);
     if !(is_or(kind, p) & first.joins & second.joins) {
         return alone(two_row(kind, p, 0, a, b, g.h, g.l), g);
     }

@@ -31,8 +31,8 @@ pub struct Operands {
     pub swapped: bool,
 }
 
-// What judging a part of a clause gives: its row; and where it is a count, or an or whose sides are all counts, the table of the or of their texts, or of its
-// negation (no sign), with where it begins, and the sum of (threshold - 1), 32 at most.
+// What judging a part of a clause gives: its row; and if it joins (with drift, a count or an or whose sides, through nested ors, are all counts) where the table
+// of the or of its texts begins, or without the sign that of the negation of this or, and the sum of (threshold - 1), 32 at most.
 pub struct Judged {
     pub row: u64,
     pub joins: bool,

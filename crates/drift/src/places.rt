@@ -14,7 +14,8 @@ ghost use Rattle.drift.specs.Operator.{exactRule, twoRule};
 ghost use Rattle.drift.specs.Ground.{InRange};
 ghost use Rattle.drift.specs.Places.{pairsEnd, otherOf, Placed};
 
-pub fn either(p: bool, a: usize, b: usize) -> usize
+// One of two places, by a flag.
+pub fn chosen(p: bool, a: usize, b: usize) -> usize
     ensures { λ r. ⌜ r ≡ cond p a b ⌝ }
 {
     if p { a } else { b }
@@ -60,13 +61,13 @@ pub fn place_two(
         r (g .h) (now (t .entry)) (now (t .exit)) ⌝ }
 {
     let to = other(at, first, g.h);
-    let a = either(swapped, second, first);
-    let b = either(swapped, first, second);
+    let a = chosen(swapped, second, first);
+    let b = chosen(swapped, first, second);
     two_table(kind, t, a, b, to, g);
     to
 }
 
-// The or of two texts (p, q), or of their negations, by their tables, which lie as for place_two.
+// The or of two texts, each itself (p, q) or its negation, by their tables, which lie as for place_two.
 pub fn place_either(
     p: bool,
     q: bool,

@@ -17,4 +17,5 @@ pub mod Lines
 pub mod LineHeld
 pub mod Turns
 pub mod Marked
+pub mod NodeNeeds
 pub mod NodesHeld

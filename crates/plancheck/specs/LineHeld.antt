@@ -13,7 +13,7 @@ use Rattle.token.specs.Block.{nodesBytes}
 use Rattle.token.specs.Parts.{PartIs}
 use Rattle.token.specs.declared.PartRead.{PartRead}
 use Rattle.drift.specs.Tree.{Ordered, clauseTree}
-use Rattle.drift.specs.Need.{Small}
+use Rattle.drift.specs.Need.{SixPairsDo}
 use Rattle.plancheck.specs.Lines.{Left, Line, next-line}
 use Rattle.plancheck.specs.NodesHeld.{held}
 
@@ -23,7 +23,7 @@ pub record Judgeable (block : List ℕ) (n : ℕ) (c : Clause) : Type 0 where
   pub ordered : Ordered block ((n - 1) + 1)
   pub size : length block ≡ 512
   pub tree : (m : ℕ) → n - 1 < m → clauseTree block m (n - 1) ≡ c
-  pub small : Small block (n - 1)
+  pub small : SixPairsDo block (n - 1)
 
 pub line-held : (s before : List ℕ) (r : PartRead) (block : List ℕ) (n : ℕ) (cs : List Clause) → (l : Line s before r block n cs) → length before ≡ 512
     → Judgeable block (r .n) (l .clause)
@@ -40,7 +40,7 @@ line-held s before r block n cs l size =
     zero k = omega arith
 
     all : {b : List ℕ} {k : ℕ} {c : Clause}
-        → (Ordered b k) × (0 < k) × (length b ≡ 512) × ((m : ℕ) → k ≤ m → clauseTree b m (k - 1) ≡ c) × Small b (k - 1) → Judgeable b k c
+        → (Ordered b k) × (0 < k) × (length b ≡ 512) × ((m : ℕ) → k ≤ m → clauseTree b m (k - 1) ≡ c) × SixPairsDo b (k - 1) → Judgeable b k c
     all {b} {k} h =
         let z : k ≡ (k - 1) + 1 = omega (arith, h .1) in
         record { some = h .1; ordered = subst (Ordered b) z (h .0); size = h .2; tree = λ m q. h .3 m (omega (arith, h .1)); small = h .4 }

@@ -234,7 +234,7 @@ pub either-table :
     -- U asks for the or, and its right side is still to be reached
     × (checked tables (three 1) (sheet "[m1,2] U [m2,2]") ≡ Accepted)
     × (checked tables (three 1) (sheet "!(![m1,2] R ![m2,2])") ≡ Accepted)
-    × (checked tables (three 1) (sheet "[m1,2] U [m3,1]") ≡ AboutRules (refused 17 0 0))
+    × (checked tables (three 1) (sheet "([m1,2] | [m2,2]) U [m3,1]") ≡ AboutRules (refused 17 0 0))
     -- the lowest step where the body fails is by the new rule: with drift 1 step 1, with drift 2 step 0
     × (checked tables (leaving 1) (sheet "true\nG ([m1,2] | [m2,2])") ≡ AboutRules (refused 17 1 1))
     × (checked tables (leaving 2) (sheet "true\nG ([m1,2] | [m2,2])") ≡ AboutRules (refused 17 1 0))

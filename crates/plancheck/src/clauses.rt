@@ -17,7 +17,7 @@ ghost use Rattle.table.specs.Table.{Kept};
 ghost use Rattle.table.specs.Layout.{pairsAt, Shown};
 ghost use Rattle.marks.specs.Bears.{Borne};
 ghost use Rattle.drift.specs.Tree.{Ordered, clauseTree};
-ghost use Rattle.drift.specs.Need.{Small};
+ghost use Rattle.drift.specs.Need.{SixPairsDo};
 ghost use Rattle.drift.specs.Places.{pairsEnd};
 ghost use Rattle.drift.specs.Lent.{Lent};
 ghost use Rattle.drift.specs.Answer.{rowsOn};
@@ -49,7 +49,7 @@ fn first_found(
     n: u32,
 ) -> Verdict
     requires { ⌜ Lent g (now t) (now w) (now bits) ⌝ }
-    requires { ⌜ Ordered (now nodes) (k + 1) × (k < 128) × Small (now nodes) k ⌝ }
+    requires { ⌜ Ordered (now nodes) (k + 1) × (k < 128) × SixPairsDo (now nodes) k ⌝ }
     ensures { λ _. ⌜ Kept (pairsAt (g .marks) (g .h)) (now (t .entry)) (now (t .exit)) × (length (now (w .exit)) ≡ 88) ⌝ }
     ensures { λ v. ⌜ ((bears : ℕ → ℕ → ℕ → Bool) → Shown (g .marks) (g .carts) (g .h) bears (now (t .entry)) → (m : ℕ) → k < m → v ≡ andThen found
         (clauseVerdict (rowsOn (g .carts) (g .h) (g .l) bears) (g .d) n (clauseTree (now (nodes .entry)) m k))) ⌝ }

@@ -14,6 +14,7 @@ use Rattle.row.specs.Lasso.{stepOf}
 use Rattle.row.specs.Round.{pick, step-low, step-below}
 use Rattle.cltl.specs.Rules.{every, window, throughout, quorum}
 use Rattle.cltl.specs.Tally.{every-agrees}
+use Rattle.cltl.specs.Agree.{throughout-agrees}
 use Rattle.mask.specs.Mask.{on, Row}
 use Rattle.mask.specs.EachBit.{on-or, on-beyond}
 use Rattle.mask.specs.Combined.{all-false}
@@ -22,7 +23,7 @@ use Rattle.quorum.specs.Words.{CartsAt, CounterAt, shared, Window, Narro
 use Rattle.quorum.specs.OwnNumber.{own}
 use Rattle.quorum.specs.Below.{below}
 use Rattle.quorum.specs.Widened.{widened}
-use Rattle.quorum.specs.Ones.{tally-agrees, counted, all-counted}
+use Rattle.quorum.specs.Ones.{counted, all-counted}
 
 -- all carts at the step itself: as many bits as there are carts
 module _ (h m carts : ℕ) (w : List ℕ) where
@@ -92,14 +93,10 @@ module _ (h carts : ℕ) (f : ℕ → ℕ → Bool) (before w : List ℕ) (text 
   carts-alone s p = step s p .low
 
   module _ (l d m : ℕ) (some : l < h) where
-    pub joint : (r : ℕ) → Row h r (λ s. leb m (throughout h l carts d (λ i s. on (getD w s 0) i) s)) → Row h r (λ s. leb m (throughout h l carts d f s))
-    unfolding window
-    joint r row = record {
+    pub of-text : (r : ℕ) → Row h r (λ s. leb m (throughout h l carts d (λ i s. on (getD w s 0) i) s)) → Row h r (λ s. leb m (throughout h l carts d f s))
+    of-text r row = record {
       low = row .low;
-      at = λ s p.
-          row .at s p
-          ∙ ap (leb m) (tally-agrees _ _ carts
-          (λ i q. every-agrees _ _ (suc d) (λ j _. step (stepOf h l (s + j)) (step-below h l some (s + j)) .at i q)));
+      at = λ s p. row .at s p ∙ ap (leb m) (throughout-agrees carts h l some d _ _ (λ i q s z. step s z .at i q) s);
     }
 
     -- enough all along, or with a threshold of 1 all at the step itself
@@ -110,6 +107,6 @@ module _ (h carts : ℕ) (f : ℕ → ℕ → Bool) (before w : List ℕ) (text 
       low = or-lt h many all (along .low) (here .low);
       at = λ s p.
           on-or many all s
-          ∙ ap₂ (λ (x y : Bool). x || y) (joint many along .at s p)
+          ∙ ap₂ (λ (x y : Bool). x || y) (of-text many along .at s p)
           (here .at s p ∙ ap (λ (b : Bool). eqb m 1 && b) (every-agrees _ _ carts (step s p .at)));
     }

@@ -30,8 +30,8 @@ text t p i s = signed p (told t 1 i s)
 abbrev counts : (d m : ℕ) → Bool → ℕ → Bool
 counts d m p s = quorum 3 1 2 d m (text table p) s
 
-abbrev joint : List ℕ → (d m : ℕ) → Bool → ℕ → Bool
-joint t d m p s = leb m (throughout 3 1 2 d (text t p) s)
+abbrev along : List ℕ → (d m : ℕ) → ℕ → Bool
+along t d m s = leb m (throughout 3 1 2 d (told t 1) s)
 
 -- the definitions that the table computes with, under one name
 computing : (d m : ℕ) → Bool → ℕ → Bool
@@ -56,23 +56,19 @@ pub worked :
     × (counts 1 0 false 1 ≡ true)
     -- both carts at step 0 alone are a count with threshold 1, and yet no cart has it along two counters
     × (quorum 3 1 2 1 1 (text once true) 0 ≡ true)
-    × (joint once 1 1 true 0 ≡ false)
-    × (joint once 0 2 true 0 ≡ true)
+    × (along once 1 1 0 ≡ false)
+    × (along once 0 2 0 ≡ true)
     -- it has to be the same cart all along
-    × (joint byTurns 1 1 true 0 ≡ false)
+    × (along byTurns 1 1 0 ≡ false)
     -- as many as the threshold are enough, one less is not
-    × (joint table 1 1 true 0 ≡ true)
-    × (joint table 1 2 true 0 ≡ false)
-    × (joint table 1 1 true 2 ≡ true)
-    × (joint table 1 2 true 2 ≡ false)
-    × (joint table 0 3 true 0 ≡ false)
-    -- the negation is that of the text and not of the count
-    × (joint table 0 1 false 1 ≡ true)
-    × (joint table 0 1 false 2 ≡ false)
-    × (joint table 1 1 false 1 ≡ false)
+    × (along table 1 1 0 ≡ true)
+    × (along table 1 2 0 ≡ false)
+    × (along table 1 1 2 ≡ true)
+    × (along table 1 2 2 ≡ false)
+    × (along table 0 3 0 ≡ false)
     -- the bits that a word and the one two further on share
     × (shared (6 ∷ 0 ∷ 3 ∷ []) 2 0 ≡ 2)
     -- and the one four further on as well
     × (sharedByThree (7 ∷ 0 ∷ 6 ∷ 0 ∷ 3 ∷ []) 2 0 ≡ 2)
 unfolding computing
-worked = (refl, refl, refl, refl, refl, refl, refl, refl, refl, refl, refl, refl, refl, refl, refl, refl, refl, refl, refl, refl, refl, refl, refl, refl)
+worked = (refl, refl, refl, refl, refl, refl, refl, refl, refl, refl, refl, refl, refl, refl, refl, refl, refl, refl, refl, refl, refl)

@@ -3,7 +3,7 @@ use Prim.Native.Nat.{ℕ, zero, suc, _+_, _-_, _/_, _^_, _≤_, _<_}
 use mathlib.Core.Path.{_≡_, refl, sym, ap, ap₂, subst, _∙_}
 use mathlib.Core.Bool.{Bool, true, false, not, cond, _&&_}
 use native.Mathlib.Omega.{arith}
-use native.Mathlib.Nat.{le-refl, pow-suc}
+use native.Mathlib.Nat.{pow-suc}
 use lib.Arith.{lt-one, bin-ind}
 use lib.Count.{ones, ones-step, ones-ones, ones-le}
 use lib.Dec.{T, leb, eqb, leb→le, le→leb, eqb→eq, eqb-refl, not-T}
@@ -13,17 +13,13 @@ use Rattle.row.specs.Round.{pick}
 use Rattle.cltl.specs.Rules.{tally, every}
 use Rattle.cltl.specs.Basics.{bool-ext}
 use Rattle.cltl.specs.Tally.{tally-le, tally-all, every-at}
+use Rattle.cltl.specs.Agree.{tally-agrees}
 use Rattle.mask.specs.Mask.{on, Row}
 use Rattle.mask.specs.EachBit.{on-shr}
 use Rattle.quorum.specs.Below.{lowest}
 
 eq→eqb : (m n : ℕ) → m ≡ n → T (eqb m n)
 eq→eqb m n e = subst (λ (k : ℕ). T (eqb m k)) e (eqb-refl m)
-
-pub tally-agrees : (f g : ℕ → Bool) (n : ℕ) → ((i : ℕ) → i < n → f i ≡ g i) → tally f n ≡ tally g n
-unfolding tally
-tally-agrees f g zero e = refl
-tally-agrees f g (suc n) e = ap₂ (λ (b : Bool) (k : ℕ). cond b (suc k) k) (e n (le-refl (suc n))) (tally-agrees f g n (λ i p. e i (omega arith)))
 
 -- the first one apart
 tally-first : (f : ℕ → Bool) (n : ℕ) → tally f (suc n) ≡ cond (f 0) 1 0 + tally (λ i. f (suc i)) n

@@ -4,7 +4,7 @@ ghost use mathlib.Core.Path.{_≡_};
 ghost use lib.Dec.{leb};
 ghost use lib.ListN.{length, getD};
 ghost use Rattle.cltl.specs.Rules.{throughout};
-ghost use Rattle.mask.specs.Mask.{on, Row, signed};
+ghost use Rattle.mask.specs.Mask.{on, Row};
 ghost use Rattle.table.specs.Table.{told};
 ghost use Rattle.quorum.specs.Words.{Bits};
 
@@ -30,12 +30,11 @@ pub(crate) fn throughout_row(
     crate::counting::at_least(w, off, m, carts, h, bits)
 }
 
-// The steps s at which at least m carts satisfy the text (p), or its negation, whose table begins at `at`, at all of counters s to s + d: count_row
-// without its case of all carts at the step itself. The words of w are scratch.
+// The steps s at which at least m carts satisfy the text whose table begins at `at`, at all of counters s to s + d: count_row without its case of all carts at
+// the step itself. The words of w are scratch.
 pub fn joint_row(
     t: &[u32],
     at: usize,
-    p: bool,
     m: usize,
     carts: usize,
     h: usize,
@@ -49,8 +48,8 @@ pub fn joint_row(
     requires { ⌜ length (now w) ≡ 88 ⌝ }
     requires { ⌜ Bits (now bits) ⌝ }
     ensures { λ _. ⌜ length (now (w .exit)) ≡ 88 ⌝ }
-    ensures { λ r. ⌜ Row h r (λ s. leb m (throughout h l carts d (λ i s. signed p (told (now (t .entry)) at i s)) s)) ⌝ }
+    ensures { λ r. ⌜ Row h r (λ s. leb m (throughout h l carts d (told (now (t .entry)) at) s)) ⌝ }
 {
-    crate::words::unroll(t, at, p, carts, h, w);
+    crate::words::unroll(t, at, true, carts, h, w);
     throughout_row(w, m, carts, h, l, d, bits)
 }

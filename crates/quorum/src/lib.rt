@@ -1,4 +1,4 @@
-// The rule for a count, on a table of truth by step and for all steps at once: a word a step, with bit i for cart i.
+// The rule for a count, and its part on windows alone, on a table of truth by step and for all steps at once: a word a step, with bit i for cart i.
 mod along;
 mod counting;
 mod windows;
@@ -15,7 +15,7 @@ ghost use Rattle.mask.specs.Mask.{on, Row, signed};
 ghost use Rattle.table.specs.Table.{told};
 ghost use Rattle.quorum.specs.Words.{Bits};
 
-// The table of the bits that count_row asks for.
+// The table of the bits that count_row and joint_row ask for.
 pub fn fill_bits(bits: &mut [u32; 32])
     requires { ⌜ length (now bits) ≡ 32 ⌝ }
     ensures { λ _. ⌜ Bits (now (bits .exit)) ⌝ }

@@ -22,7 +22,7 @@ pub(crate) fn unroll(t: &[u32], at: usize, p: bool, carts: usize, h: usize, w: &
     ensures { λ _. ⌜ Stored (CartsAt carts (λ i s. signed p (told (now (t .entry)) at i s))) 0 0 h (now (w .entry)) (now (w .exit)) ⌝ }
 {
     let full = lowest(carts);
-    let flip = table::turn(p);
+    let flip = table::flip(p);
     let mut s = 0;
     while s < h {
         w[s] = (t[at + s] ^ flip) & full;

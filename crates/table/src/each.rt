@@ -1,6 +1,6 @@
 // Tables made word by word.
+use crate::words::flip;
 use crate::words::join_word;
-use crate::words::turn;
 ghost use mathlib.Core.Bool.{not, _||_};
 ghost use Prim.Native.Nat.{_+_, _<_, _≤_};
 ghost use lib.ListN.{length};
@@ -29,11 +29,11 @@ pub fn either_table(pa: bool, pb: bool, t: &mut [u32], a: usize, b: usize, k: us
     ensures { λ _. ⌜ Table (λ i s. signed pa (told (now (t .entry)) a i s) || signed pb (told (now (t .entry)) b i s)) k h
         (now (t .entry)) (now (t .exit)) ⌝ }
 {
-    let turn_a = turn(pa);
-    let turn_b = turn(pb);
+    let flip_a = flip(pa);
+    let flip_b = flip(pb);
     let mut s = 0;
     while s < h {
-        t[k + s] = (t[a + s] ^ turn_a) | (t[b + s] ^ turn_b);
+        t[k + s] = (t[a + s] ^ flip_a) | (t[b + s] ^ flip_b);
         s += 1;
     }
 }

@@ -10,4 +10,4 @@ pub use each::next_table;
 pub use each::not_table;
 pub use ever::ever_table;
 pub use until::until_table;
-pub use words::turn;
+pub use words::flip;

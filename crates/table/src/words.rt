@@ -12,7 +12,7 @@ pub(crate) fn same_word(p: bool) -> u32
 }
 
 // What a word is turned over by: nothing for the text itself (p), every bit for its negation.
-pub fn turn(p: bool) -> u32
+pub fn flip(p: bool) -> u32
     ensures { λ r. ⌜ Word (λ i. not p) r ⌝ }
 {
     same_word(!p)

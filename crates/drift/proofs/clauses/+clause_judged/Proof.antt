@@ -1,22 +1,19 @@
-use Prim.Native.Nat.{ℕ, _+_, _*_, _≤_, _<_}
+use Prim.Native.Nat.{ℕ, _+_, _≤_, _<_}
 use native.Mathlib.Omega.{arith}
-use mathlib.Core.Path.{_≡_, refl, sym, ap, subst, _∙_}
-use mathlib.Core.Bool.{Bool, true, false, not, cond}
+use mathlib.Core.Path.{_≡_, refl, sym, subst, _∙_}
+use mathlib.Core.Bool.{not}
 use mathlib.Core.Logic.{_⊎_, inl, ⊎-elim}
 use native.Mathlib.Nat.{le-refl}
 use lib.ListN.{getD}
 use Rattle.cltl.specs.Basics.{lt-or-le}
 use Rattle.cltl.specs.Meaning.{Proper}
 use Rattle.table.specs.Keeping.{none-ends, kept-all, kept-then, kept-shown, kept-constants, shown-itself}
-use Rattle.drift.specs.declared.Judged.{Judged}
 use Rattle.drift.specs.Tree.{kindAt, firstAt, secondAt, oneOf, clauseTree}
 use Rattle.drift.specs.Operator.{under}
 use Rattle.drift.specs.Answer.{rowsOn, joinable}
 use Rattle.drift.specs.NodeTruth.{under-other, first-low}
 use Rattle.drift.specs.Order.{one-need}
-use Rattle.drift.specs.Places.{Placed}
 use Rattle.drift.specs.Placing.{pairs-end, placed-ends, fewer-pairs, pairs-behind}
-use Rattle.drift.specs.Lent.{ClauseNodes}
 use Rattle.drift.specs.Lending.{still-lent}
 use Rattle.drift.specs.Needing.{operand-nodes}
 use Rattle.drift.specs.ClauseRows.{top-judged, neg-judged, one-judged, two-judged}
@@ -107,7 +104,8 @@ clause-judged-returns-2 t c =
       (kept-all (a .at) (a .t .now), lent .windows, inl (omega (arith, alone .at-none, ends)), omega (arith, alone .at-none, ends, lent .constants .room)),
       λ bears shown.
           let P = rowsOn (g .carts) (g .h) (g .l) bears in
-          top-judged P (g .d) (a .nodes .now) (record { some = r .some; lap = r .lap }) (a .p) (a .k) _ _ (c .before .before .before .before .kind-at .ensures) refl
+          top-judged P (g .d) (a .nodes .now) (record { some = r .some; lap = r .lap }) (a .p) (a .k) _ _
+          (c .before .before .before .before .kind-at .ensures) refl
           (a .t .now) (c .alone .result) (c .before .before .if2 .taken) (rw (alone .row-is) (c .before .constant .ensures))
           (alone-gathered P (r .few) (g .marks) _ (a .t .now) _ (lent .constants) alone),
     )
@@ -187,7 +185,8 @@ clause-judged-returns-3 t c =
     let turned : under (oneOf (kind .result)) (a .p) ≡ not (a .p) = (rw e) in
     rw (c .one-judged .ensures .0 e) (
       judged .0,
-      λ bears shown. neg-judged (rowsOn (g .carts) (g .h) (g .l) bears) (g .d) (a .nodes .now) (record { some = r .some; lap = r .lap }) (a .p) (a .k) _ _ (kind .ensures)
+      λ bears shown. neg-judged (rowsOn (g .carts) (g .h) (g .l) bears) (g .d) (a .nodes .now) (record { some = r .some; lap = r .lap }) (a .p) (a .k) _ _
+      (kind .ensures)
           (x .ensures) _ _ (nodes .ordered) more less e (rw (sym turned, sym (flag .ensures)) (judged .1 bears shown)),
     ))
     (λ z.
@@ -198,7 +197,8 @@ clause-judged-returns-3 t c =
       (judged .0 .0, judged .0 .1, inl (omega (arith, alone .at-none, ends)), omega (arith, alone .at-none, ends, constants .room)),
       λ bears shown.
           let P = rowsOn (g .carts) (g .h) (g .l) bears in
-          one-judged P (g .d) (a .nodes .now) (record { some = r .some; lap = r .lap }) (a .p) (a .k) _ _ (kind .ensures) (x .ensures) _ _ (nodes .ordered) more less
+          one-judged P (g .d) (a .nodes .now) (record { some = r .some; lap = r .lap }) (a .p) (a .k) _ _ (kind .ensures) (x .ensures) _ _
+          (nodes .ordered) more less
           (first .clause-judged .result .row) n
           (rw (sym (under-other (kind .result) (a .p) n), sym (flag .ensures)) (judged .1 bears shown .rows)) (rw (alone .row-is) (made .1))
           (alone-gathered P (r .few) (g .marks) _ _ _ constants alone),
@@ -321,7 +321,8 @@ clause-judged-returns-4 t c =
           let right = two .1 bears (kept-shown (g .marks) (g .h) (a .t .now) _ kept (g .carts) bears shown) in
           let ends = placed-ends (g .marks) (g .h) (a .at) (room .0) (first .clause-judged2 .result .at) (one .0 .2) in
           let operands =
-          in-place P (r .few) (g .d) (a .nodes .now) (a .p) (order .in-turn .result .swapped) _ _ (firstAt (a .nodes .now) (a .k)) (secondAt (a .nodes .now) (a .k)) _ _
+          in-place P (r .few) (g .d) (a .nodes .now) (a .p) (order .in-turn .result .swapped) _ _ (firstAt (a .nodes .now) (a .k))
+          (secondAt (a .nodes .now) (a .k)) _ _
           (first .clause-judged2 .result) (second .clause-judged3 .result) (turn .first-is) (turn .second-is) (two .0 .0) ends left right in
           two-judged P (g .d) (a .nodes .now) proper (a .p) (a .k) _ _ (kind .ensures) refl _ _ (nodes .ordered) _ refl
           (omega (arith, order .before .if3 .left)) (omega (arith, order .before .before .before .if1 .left)) _ _ (operands .0) (operands .1)

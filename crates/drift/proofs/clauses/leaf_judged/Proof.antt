@@ -1,5 +1,5 @@
-use Prim.Native.Nat.{ℕ, _+_, _-_, _*_, _≤_, _<_, min}
-use mathlib.Core.Path.{_≡_, refl, sym, ap, subst, _∙_}
+use Prim.Native.Nat.{ℕ, _-_, _<_, min}
+use mathlib.Core.Path.{_≡_, refl, sym, ap, _∙_}
 use mathlib.Core.Bool.{Bool, cond}
 use mathlib.Core.List.{[], _∷_}
 use mathlib.Core.Logic.{inl}
@@ -118,7 +118,8 @@ judged c bears shown r e f =
     let kind = text .before .before .before .before .before .before .kind-at in
     let low : x .result < length (a .nodes .now) = omega (arith, text-below (text .before), s .pre .1 .0 .0 .ordered .room) in
     let inner = text .inner-table .ensures .1 bears shown in
-    count-judged P (g .d) (a .nodes .now) proper (a .p) (a .k) _ _ (kind .ensures) (x .ensures) _ r _ (text .before .before .before .before .before .number-at .ensures .0)
+    count-judged P (g .d) (a .nodes .now) proper (a .p) (a .k) _ _ (kind .ensures) (x .ensures) _ r _
+    (text .before .before .before .before .before .number-at .ensures .0)
     (omega (arith, kind .ensures, s .pre .1 .0 .1))
     (rw (e, sym (threshold-is c bears)) (count-signed P proper (a .nodes .now) _ (x .result) _ (g .d) _ (a .p) _ low inner (c .count-row .ensures .1)))
     (f (λ i j q u. inner-signed P proper (a .nodes .now) _ (x .result) _ inner (a .p) (length (a .nodes .now)) low i q j u))

@@ -1,13 +1,11 @@
-use Prim.Native.Nat.{ℕ, suc, _+_, _≤_}
-use mathlib.Core.Path.{_≡_, sym, ap, subst, _∙_}
-use mathlib.Core.Bool.{Bool}
+use Prim.Native.Nat.{ℕ, suc, _+_}
+use mathlib.Core.Path.{_≡_, sym, ap}
 use native.Mathlib.Omega.{arith}
 use lib.Dec.{leb}
 use borrow.Author.Needs.{needs}
 use borrow.Author.Tests.{lt-leb}
 use Rattle.cltl.specs.Rules.{window, throughout}
 use Rattle.cltl.specs.Tally.{tally-le}
-use Rattle.mask.specs.Mask.{Row}
 use Rattle.mask.specs.Combined.{all-false}
 use Rattle.table.specs.Table.{told}
 use Rattle.drift.specs.OperatorRows.{row-of}

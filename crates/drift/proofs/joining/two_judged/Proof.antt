@@ -1,10 +1,9 @@
 use Prim.Native.Nat.{ℕ, _+_, _≤_, _<_}
-use mathlib.Core.Path.{_≡_, refl, sym, ap, ap₂, subst, _∙_}
-use mathlib.Core.Bool.{Bool, true, false, not, cond, _&&_}
+use mathlib.Core.Path.{_≡_, refl, sym, ap, subst, _∙_}
+use mathlib.Core.Bool.{Bool, true, false, cond, _&&_}
 use mathlib.Core.List.{List, []}
 use mathlib.Core.Logic.{inl}
 use native.Mathlib.Omega.{arith}
-use native.Mathlib.Nat.{le-refl}
 use lib.Dec.{ltb}
 use lib.ListN.{length}
 use borrow.Author.Needs.{needs}
@@ -17,26 +16,25 @@ use Rattle.mask.specs.Mask.{on, Row}
 use Rattle.mask.specs.EachBit.{on-zero}
 use Rattle.mask.specs.Combined.{all-false}
 use Rattle.table.specs.Table.{Kept}
-use Rattle.table.specs.Layout.{noneAt, pairsAt}
 use Rattle.table.specs.Keeping.{none-ends, kept-all, kept-then, kept-constants, stored-keeps}
 use Rattle.drift.specs.declared.Judged.{Judged}
 use Rattle.drift.specs.Tree.{twoOf}
 use Rattle.drift.specs.Operator.{isOr, twoRule}
 use Rattle.drift.specs.OperatorTruth.{two-cong}
 use Rattle.drift.specs.OperatorRows.{row-of}
-use Rattle.drift.specs.Places.{otherOf, pairsEnd, Placed}
+use Rattle.drift.specs.Places.{Placed}
 use Rattle.drift.specs.Placing.{placed-ends, other-placed, other-behind}
 use Rattle.drift.specs.Lending.{still-lent}
 use Rattle.drift.specs.Answer.{rowsOn, Gathered}
-use Rattle.drift.specs.Gathering.{not-all, all-three, joint-none, alone-gathered, or-gathered, none-gathered, joint-told}
+use Rattle.drift.specs.Gathering.{not-three, all-three, joint-none, alone-gathered, or-gathered, none-gathered, joint-told}
 use Rattle.drift.proofs.joining.two_judged.Statement.{statement}
 use Rattle.drift.proofs.joining.two_judged.Tie as tie
 
-either-row-requires : tie.Need-either-row-requires
-either-row-requires c κs = search needs
+chosen-row-requires : tie.Need-chosen-row-requires
+chosen-row-requires c κs = search needs
 
-either-row-requires-2 : tie.Need-either-row-requires-2
-either-row-requires-2 c κs = search needs
+chosen-row-requires-2 : tie.Need-chosen-row-requires-2
+chosen-row-requires-2 c κs = search needs
 
 is-or-requires : tie.Need-is-or-requires
 is-or-requires c κs = search needs
@@ -55,16 +53,16 @@ two-row-requires c κs =
       r .lap,
       r .steps,
       all-false (a .g .h) .low,
-      in-place (a .swapped) _ _ _ _ (rows .0) (rows .1) (c .before .before .before .before .before .either-row .ensures),
-      in-place (a .swapped) _ _ _ _ (rows .1) (rows .0) (c .before .before .before .before .either-row2 .ensures),
+      in-place (a .swapped) _ _ _ _ (rows .0) (rows .1) (c .before .before .before .before .before .chosen-row .ensures),
+      in-place (a .swapped) _ _ _ _ (rows .1) (rows .0) (c .before .before .before .before .chosen-row2 .ensures),
     )
 
 alone-requires : tie.Need-alone-requires
 alone-requires c κs = c .before .before .before .before .before .before .before .before .pre .0 .range
 
-either-none : (b : Bool) (xs : List (Bool × Counted)) → xs ≡ [] → cond b xs [] ≡ []
-either-none true xs e = e
-either-none false xs e = refl
+only-none : (b : Bool) (xs : List (Bool × Counted)) → xs ≡ [] → cond b xs [] ≡ []
+only-none true xs e = e
+only-none false xs e = refl
 
 -- a row of the same rule, where the or is also true as f says
 rule-row : (h l : ℕ) → l < h → (p : Bool) (o : Op₂) (z a b : ℕ) (f : ℕ → Bool) (a′ b′ row r : ℕ) → a ≡ a′ → b ≡ b′ → r ≡ row
@@ -89,14 +87,16 @@ returns c =
           let is = c .before .before .before .before .before .is-or .ensures in
           let none : cond (isOr (twoOf (a .kind)) (a .p)) (both xs ys) [] ≡ [] =
           none-gathered P (r .few) (a .swapped) (isOr (twoOf (a .kind)) (a .p)) xs ys (a .t .now) (a .first) (a .second) f f′
-          (ap (λ (b : Bool). (b && a .first .joins) && a .second .joins) (sym is) ∙ not-all (c .before .before .before .before .before .is-or .result) (a .first .joins) (a .second .joins)
+          (ap (λ (b : Bool). (b && a .first .joins) && a .second .joins) (sym is) ∙ not-three (c .before .before .before .before .before .is-or .result) (a .first .joins) (a .second .joins)
           (c .before .before .if1 .taken)) in
           let other : cond (ltb (a .kind) 8) (cond (isOr (twoOf (a .kind)) (a .p)) (both xs ys) []) [] ≡ [] =
-          either-none (ltb (a .kind) 8) _ none in (
-            rule-row (g .h) (g .l) (r .lap) (a .p) (twoOf (a .kind)) 0 _ _ _ _ _ _ _ (c .before .before .before .before .before .before .before .either-row .ensures)
-                (c .before .before .before .before .before .before .either-row2 .ensures) (alone .row-is)
+          only-none (ltb (a .kind) 8) _ none in (
+            rule-row (g .h) (g .l) (r .lap) (a .p) (twoOf (a .kind)) 0 _ _ _ _ _ _ _
+            (c .before .before .before .before .before .before .before .chosen-row .ensures)
+                (c .before .before .before .before .before .before .chosen-row2 .ensures) (alone .row-is)
                 (λ j _. on-zero j ∙ sym (joint-none P (g .d) _ j none)) (c .before .two-row .ensures),
-            subst (λ zs. Gathered P zs (a .t .now) (c .alone .result)) (sym other) (alone-gathered P (r .few) (g .marks) _ (a .t .now) _ (s .pre .0 .constants) alone),
+            subst (λ zs. Gathered P zs (a .t .now) (c .alone .result)) (sym other)
+            (alone-gathered P (r .few) (g .marks) _ (a .t .now) _ (s .pre .0 .constants) alone),
           ),
     )
 
@@ -153,8 +153,10 @@ two-row-requires-2 c κs =
       r .lap,
       r .steps,
       c .together .ensures .1 .low,
-      in-place (a .swapped) _ _ _ _ (rows .0) (rows .1) (c .before .before .before .before .before .before .before .before .before .before .before .before .before .either-row .ensures),
-      in-place (a .swapped) _ _ _ _ (rows .1) (rows .0) (c .before .before .before .before .before .before .before .before .before .before .before .before .either-row2 .ensures),
+      in-place (a .swapped) _ _ _ _ (rows .0) (rows .1)
+      (c .before .before .before .before .before .before .before .before .before .before .before .before .before .chosen-row .ensures),
+      in-place (a .swapped) _ _ _ _ (rows .1) (rows .0)
+      (c .before .before .before .before .before .before .before .before .before .before .before .before .chosen-row2 .ensures),
     )
 
 -- the counts of both are joined
@@ -197,8 +199,8 @@ joined c bears xs ys f f′ =
     (three .1, three .2, refl, refl, c .before .before .before .before .added .ensures) f f′ (place .place-either .ensures .1) in
     let z = joint-told P (r .few) proper (g .d) (both xs ys) _ told gathered (c .before .together .result) refl refl (c .before .together .ensures .1) in
     let zs : cond (isOr (twoOf (a .kind)) (a .p)) (both xs ys) [] ≡ both xs ys = ap (λ (b : Bool). cond b (both xs ys) []) is in (
-      rule-row (g .h) (g .l) (r .lap) (a .p) (twoOf (a .kind)) (c .before .together .result) _ _ _ _ _ _ _ (rows .before .either-row .ensures)
-          (rows .either-row2 .ensures) refl (λ j u. z .at j u ∙ ap (λ ys. joint P (g .d) ys j) (sym zs)) (c .two-row2 .ensures),
+      rule-row (g .h) (g .l) (r .lap) (a .p) (twoOf (a .kind)) (c .before .together .result) _ _ _ _ _ _ _ (rows .before .chosen-row .ensures)
+          (rows .chosen-row2 .ensures) refl (λ j u. z .at j u ∙ ap (λ ys. joint P (g .d) ys j) (sym zs)) (c .two-row2 .ensures),
       subst (λ ys. Gathered P ys (place .place-either .last .1 .1 .0) told) (sym zs) gathered,
     )
 
@@ -248,8 +250,8 @@ pub two-judged-spec : {M : Type 1} → statement M
 two-judged-spec =
     tie.close
     (tie.spec
-    either-row-requires
-    either-row-requires-2
+    chosen-row-requires
+    chosen-row-requires-2
     is-or-requires
     two-row-requires
     alone-requires

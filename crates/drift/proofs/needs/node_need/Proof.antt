@@ -1,5 +1,5 @@
-use mathlib.Core.Path.{refl, sym, ap, ap₂, _∙_}
-use Prim.Native.Nat.{ℕ, _≤_, _<_, max}
+use mathlib.Core.Path.{ap, ap₂, _∙_}
+use Prim.Native.Nat.{ℕ, _<_, max}
 use mathlib.Core.Logic.{⊎-elim}
 use lib.ListN.{getD}
 use Rattle.cltl.specs.Basics.{lt-or-le}
@@ -61,7 +61,8 @@ shared-slice-read-more c =
     let s = c .before .before .before .before .before .before .before .before .before .before in
     let kind = c .before .before .before .before .before .before .before .kind-at .ensures in
     let low =
-    two-low (s .args .nodes .now) (s .args .k) (s .pre .0) (omega (arith, kind, c .before .before .if3 .left)) (omega (arith, kind, c .before .before .before .if2 .left)) in
+    two-low (s .args .nodes .now) (s .args .k) (s .pre .0) (omega (arith, kind, c .before .before .if3 .left))
+    (omega (arith, kind, c .before .before .before .if2 .left)) in
     omega (arith, c .before .second-at .ensures, low .1, s .pre .1 .0)
 
 more-requires : tie.Need-more-requires

@@ -1,4 +1,3 @@
-use native.Mathlib.Omega.{arith}
 use lib.Bits.{or-lt}
 use Rattle.drift.specs.OperatorRows.{both-row, either-row, reach-row}
 use borrow.Author.Needs.{needs}

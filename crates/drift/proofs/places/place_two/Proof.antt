@@ -2,7 +2,7 @@ use mathlib.Core.Path.{sym, subst}
 use Prim.Native.Nat.{ℕ, _+_, _≤_}
 use lib.ListN.{length}
 use Rattle.table.specs.Table.{Apart}
-use Rattle.drift.specs.Placing.{either-of, pairs-end, two-apart}
+use Rattle.drift.specs.Placing.{chosen-of, pairs-end, two-apart}
 use native.Mathlib.Omega.{arith}
 use borrow.Author.Needs.{needs}
 use Rattle.drift.proofs.places.place_two.Statement.{statement}
@@ -11,11 +11,11 @@ use Rattle.drift.proofs.places.place_two.Tie as tie
 other-requires : tie.Need-other-requires
 other-requires c κs = let s = c .before in omega (arith, pairs-end (s .args .g) (s .pre .0 .0), s .pre .1 .0 .1)
 
-either-requires : tie.Need-either-requires
-either-requires c κs = search needs
+chosen-requires : tie.Need-chosen-requires
+chosen-requires c κs = search needs
 
-either-requires-2 : tie.Need-either-requires-2
-either-requires-2 c κs = search needs
+chosen-requires-2 : tie.Need-chosen-requires-2
+chosen-requires-2 c κs = search needs
 
 two-table-requires : tie.Need-two-table-requires
 two-table-requires c κs =
@@ -33,13 +33,13 @@ two-table-requires c κs =
       s .pre .0 .0,
       (
         (
-          either-of Inside (a .swapped) (a .second) (a .first) (p .2) (lie .0) _ (c .before .before .either .ensures),
-          either-of Inside (a .swapped) (a .first) (a .second) (lie .0) (p .2) _ (c .before .either2 .ensures),
+          chosen-of Inside (a .swapped) (a .second) (a .first) (p .2) (lie .0) _ (c .before .before .chosen .ensures),
+          chosen-of Inside (a .swapped) (a .first) (a .second) (lie .0) (p .2) _ (c .before .chosen2 .ensures),
           omega (arith, e, lie .1),
         ),
         (
-          either-of Beside (a .swapped) (a .second) (a .first) second-by first-by _ (c .before .before .either .ensures),
-          either-of Beside (a .swapped) (a .first) (a .second) first-by second-by _ (c .before .either2 .ensures),
+          chosen-of Beside (a .swapped) (a .second) (a .first) second-by first-by _ (c .before .before .chosen .ensures),
+          chosen-of Beside (a .swapped) (a .first) (a .second) first-by second-by _ (c .before .chosen2 .ensures),
         ),
       ),
     )
@@ -50,7 +50,7 @@ same-length c = search needs
 returns : tie.Need-returns
 returns c = (
   c .before .before .before .before .before .before .other .ensures,
-  rw (sym (c .before .before .before .before .before .either .ensures), sym (c .before .before .before .before .either2 .ensures))
+  rw (sym (c .before .before .before .before .before .chosen .ensures), sym (c .before .before .before .before .chosen2 .ensures))
       (c .before .before .two-table .ensures),
 )
 
@@ -59,8 +59,8 @@ place-two-spec =
     tie.close
     (tie.spec
     other-requires
-    either-requires
-    either-requires-2
+    chosen-requires
+    chosen-requires-2
     two-table-requires
     same-length
     returns)

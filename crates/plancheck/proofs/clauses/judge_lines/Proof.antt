@@ -48,7 +48,8 @@ abbrev μ-loop : tie.MeasureT-loop
 line-read : (c : tie.After-read-clause Inv-loop μ-loop) →
     let v = c .before .before .before .loop in
     let read = c .read-clause in
-    Ready (c .before .before .before .before .before .before .before .before .before .before .before .before .before .before .args .rules .now) (v .nodes) (read .result) (read .last .1 .1 .0) (v .n) (v .inv .3 .rest)
+    Ready (c .before .before .before .before .before .before .before .before .before .before .before .before .before .before .args .rules .now) (v .nodes)
+    (read .result) (read .last .1 .1 .0) (v .n) (v .inv .3 .rest)
 line-read c =
     let v = c .before .before .before .loop in
     let a = c .before .before .before .before .before .before .before .before .before .before .before .before .before .before .args in

@@ -1,7 +1,7 @@
 use mathlib.Core.Path.{_∙_}
 use native.Mathlib.Omega.{arith}
 use borrow.Author.Needs.{needs}
-use Rattle.quorum.specs.Counted.{carts-alone, joint}
+use Rattle.quorum.specs.Counted.{carts-alone, of-text}
 use Rattle.quorum.proofs.along.joint_row.Statement.{statement}
 use Rattle.quorum.proofs.along.joint_row.Tie as tie
 
@@ -21,7 +21,7 @@ returns c =
     let a = c .before .before .before .before .before .args in
     let u = c .before .before .unroll .ensures in
     let along = c .throughout-row in
-    (along .ensures .0, joint (a .h) (a .carts) _ _ _ u (a .l) (a .d) (a .m) (pre .0 .0) (along .result) (along .ensures .1))
+    (along .ensures .0, of-text (a .h) (a .carts) _ _ _ u (a .l) (a .d) (a .m) (pre .0 .0) (along .result) (along .ensures .1))
 
 pub joint-row-spec : {M : Type 1} → statement M
 joint-row-spec = tie.close (tie.spec unroll-requires throughout-row-requires returns)

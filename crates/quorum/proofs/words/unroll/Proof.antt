@@ -25,8 +25,8 @@ abbrev μ-loop : tie.MeasureT-loop
 lowest-requires : tie.Need-lowest-requires Inv-loop μ-loop
 lowest-requires c κs = omega arith
 
-turn-requires : tie.Need-turn-requires Inv-loop μ-loop
-turn-requires c κs = tt
+flip-requires : tie.Need-flip-requires Inv-loop μ-loop
+flip-requires c κs = tt
 
 loop-holds : tie.Need-loop-holds Inv-loop μ-loop
 loop-holds c =
@@ -62,7 +62,7 @@ loop-again c =
     let full = c .before .before .before .before .lowest in
     let word =
     carts-at (a .carts) (getD (a .t .now) (a .at + v .s) 0) _ (full .result) (a .p) (omega arith) (omega (arith, full .ensures))
-    (c .before .before .before .turn .ensures) in
+    (c .before .before .before .flip .ensures) in
     (omega arith, upward (Each (a .t .now) (a .at) (a .p) (a .carts)) 0 0 (v .s) _ _ (a .w .now) (v .w) (v .inv .1) (omega arith) inside (omega arith) word)
 
 returns : tie.Need-returns Inv-loop μ-loop
@@ -79,7 +79,7 @@ unroll-spec =
     Inv-loop
     μ-loop
     lowest-requires
-    turn-requires
+    flip-requires
     loop-holds
     add-w
     mul-w

@@ -16,16 +16,16 @@ abbrev Either : Bool → Bool → List ℕ → ℕ → ℕ → ℕ → ℕ → T
 Either pa pb t a b s = Word (λ i. signed pa (told t a i s) || signed pb (told t b i s))
 
 abbrev Inv-loop : tie.InvT-loop
-Inv-loop pa pb t₀ a b k h turn-a turn-b s₀ t s = (s ≤ h) × Stored (Either pa pb t₀ a b) k 0 s t₀ t
+Inv-loop pa pb t₀ a b k h flip-a flip-b s₀ t s = (s ≤ h) × Stored (Either pa pb t₀ a b) k 0 s t₀ t
 
 abbrev μ-loop : tie.MeasureT-loop
-μ-loop pa pb t₀ a b k h turn-a turn-b s₀ t s = h - s
+μ-loop pa pb t₀ a b k h flip-a flip-b s₀ t s = h - s
 
-turn-requires : tie.Need-turn-requires Inv-loop μ-loop
-turn-requires c κs = tt
+flip-requires : tie.Need-flip-requires Inv-loop μ-loop
+flip-requires c κs = tt
 
-turn-requires-2 : tie.Need-turn-requires-2 Inv-loop μ-loop
-turn-requires-2 c κs = tt
+flip-requires-2 : tie.Need-flip-requires-2 Inv-loop μ-loop
+flip-requires-2 c κs = tt
 
 loop-holds : tie.Need-loop-holds Inv-loop μ-loop
 loop-holds c =
@@ -76,7 +76,7 @@ loop-again c =
     let same = apart-word P (a .k) 0 (v .s) (a .t .now) (v .t) r in
     let word : P (v .s) _ =
     λ i q. either-signed (a .pa) (a .pb) (getD (v .t) (a .a + v .s) 0) (getD (v .t) (a .b + v .s) 0) _ _
-    (c .before .before .before .before .before .turn .ensures) (c .before .before .before .before .turn2 .ensures) i q
+    (c .before .before .before .before .before .flip .ensures) (c .before .before .before .before .flip2 .ensures) i q
     ∙ ap₂ (λ (x y : ℕ). signed (a .pa) (on x i) || signed (a .pb) (on y i))
     (same (a .a) (a .h) (v .s) (omega arith) (omega arith) (start .pre .1 .0)) (same (a .b) (a .h) (v .s) (omega arith) (omega arith) (start .pre .1 .1)) in
     (omega arith, upward P (a .k) 0 (v .s) (a .k + v .s) _ (a .t .now) (v .t) r (omega arith) inside refl word)
@@ -97,8 +97,8 @@ either-table-spec =
     (tie.spec
     Inv-loop
     μ-loop
-    turn-requires
-    turn-requires-2
+    flip-requires
+    flip-requires-2
     loop-holds
     add-t
     mul-t
