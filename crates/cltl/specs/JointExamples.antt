@@ -97,6 +97,8 @@ pub worked :
     × (counts true (or a (next b)) ≡ 0)
     × (counts true (or a (until b b)) ≡ 0)
     × (counts true (or a (release b b)) ≡ 0)
+    × (counts false (and a (gl b)) ≡ 0)
+    × (counts false (and a (release b b)) ≡ 0)
     -- a threshold of 0 is reached by itself
     × (kept 1 (or (atLeast 3 0) (atLeast 3 4)) ≡ true)
     -- all carts at the step itself are no part of it: two carts on m1 or m2 at step 0, and then on neither
@@ -125,6 +127,8 @@ pub worked :
     × (rules (tables 3 2) 2 (or a b) 0 ≡ false)
 unfolding computing
 worked = (
+  refl,
+  refl,
   refl,
   refl,
   refl,

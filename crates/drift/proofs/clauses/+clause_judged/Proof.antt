@@ -186,7 +186,7 @@ clause-judged-returns-3 t c =
     rw (c .one-judged .ensures .0 e) (
       judged .0,
       λ bears shown. neg-judged (rowsOn (g .carts) (g .h) (g .l) bears) (g .d) (a .nodes .now) (record { some = r .some; lap = r .lap }) (a .p) (a .k) _ _
-      (kind .ensures)
+          (kind .ensures)
           (x .ensures) _ _ (nodes .ordered) more less e (rw (sym turned, sym (flag .ensures)) (judged .1 bears shown)),
     ))
     (λ z.

@@ -32,7 +32,7 @@ returns c =
     let judged = c .before .before .clause-judged .ensures in (
       (judged .0 .0, judged .0 .1),
       λ bears shown. part-row (rowsOn (g .carts) (g .h) (g .l) bears) (record { some = r .some; lap = r .lap }) (g .d) (s .args .nodes .now) (s .args .p)
-      (s .args .k) _
+          (s .args .k) _
           (judged .1 bears shown .rows),
     )
 

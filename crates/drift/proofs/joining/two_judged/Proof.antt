@@ -92,11 +92,11 @@ returns c =
           let other : cond (ltb (a .kind) 8) (cond (isOr (twoOf (a .kind)) (a .p)) (both xs ys) []) [] ≡ [] =
           only-none (ltb (a .kind) 8) _ none in (
             rule-row (g .h) (g .l) (r .lap) (a .p) (twoOf (a .kind)) 0 _ _ _ _ _ _ _
-            (c .before .before .before .before .before .before .before .chosen-row .ensures)
+                (c .before .before .before .before .before .before .before .chosen-row .ensures)
                 (c .before .before .before .before .before .before .chosen-row2 .ensures) (alone .row-is)
                 (λ j _. on-zero j ∙ sym (joint-none P (g .d) _ j none)) (c .before .two-row .ensures),
             subst (λ zs. Gathered P zs (a .t .now) (c .alone .result)) (sym other)
-            (alone-gathered P (r .few) (g .marks) _ (a .t .now) _ (s .pre .0 .constants) alone),
+                (alone-gathered P (r .few) (g .marks) _ (a .t .now) _ (s .pre .0 .constants) alone),
           ),
     )
 
@@ -154,9 +154,9 @@ two-row-requires-2 c κs =
       r .steps,
       c .together .ensures .1 .low,
       in-place (a .swapped) _ _ _ _ (rows .0) (rows .1)
-      (c .before .before .before .before .before .before .before .before .before .before .before .before .before .chosen-row .ensures),
+          (c .before .before .before .before .before .before .before .before .before .before .before .before .before .chosen-row .ensures),
       in-place (a .swapped) _ _ _ _ (rows .1) (rows .0)
-      (c .before .before .before .before .before .before .before .before .before .before .before .before .chosen-row2 .ensures),
+          (c .before .before .before .before .before .before .before .before .before .before .before .before .chosen-row2 .ensures),
     )
 
 -- the counts of both are joined
