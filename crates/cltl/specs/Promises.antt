@@ -127,8 +127,8 @@ module _ (P : Rows) (d s : ℕ) where
         ((m ≡ 1) × ((i : ℕ) → i < P .carts → Satisfies P i a s)))
     count-rule a k percent = count-holds P proper d s low a k percent
 
-    -- "more carts than the sum of (threshold − 1) satisfy the or of the inner texts at all of counters s to s + d": at each of them some text, and not the
-    -- same one at all
+    -- "more carts than the sum of (threshold − 1) satisfy the or of the inner texts at all of counters s to s + d": at each of them some text,
+    -- which need not be the same one at all
     pub joint-rule : (xs : List (Bool × Counted)) → T (joint P d xs s)
         ↔ AtLeast (λ i. (j : ℕ) → j ≤ d → Some (λ x. Text P i x (s + j)) xs) (suc (slack P xs)) (P .carts)
     joint-rule xs = joint-holds P proper d s xs

@@ -5,7 +5,7 @@ use mathlib.Core.Bool.{Bool, true, false, not, cond}
 use mathlib.Core.List.{List, [], _∷_}
 use mathlib.Core.Logic.{⊎-elim}
 use native.Mathlib.Omega.{arith}
-use lib.Dec.{T, eqb, ltb, eqb·suc-zero}
+use lib.Dec.{eqb, ltb, eqb·suc-zero}
 use lib.ListN.{length}
 use borrow.Author.Tests.{ne-eqb}
 use Rattle.grammar.specs.Grammar.{Form, top, leaf, Counted, counted, Clause}
@@ -145,7 +145,8 @@ module _ (P : Rows) (d : ℕ) (nodes : List ℕ) (proper : Proper P) (p : Bool) 
         (kind-count (kindAt nodes k) _ _ _ (omega arith))
         ∙ ap₂ (λ (i j : ℕ). counts i j (eqb (kindAt nodes k) 11)) (sym ex) (sym em) ∙ ap (λ (o : ℕ). counts x m (eqb o 11)) (sym ek)
 
-    pub count-judged : Row (P .h) (r .row) (quorum (P .h) (P .l) (P .carts) d (asked P (p, this)) (λ i. text P i (p, this))) → Gathered P (cond (eqb d 0) [] ((p, this) ∷ [])) t r
+    pub count-judged : Row (P .h) (r .row) (quorum (P .h) (P .l) (P .carts) d (asked P (p, this)) (λ i. text P i (p, this)))
+        → Gathered P (cond (eqb d 0) [] ((p, this) ∷ [])) t r
         → ClauseJudged P d nodes p k t r
     unfolding clauseTree judge count leaves
     count-judged g f = record {
@@ -175,11 +176,14 @@ module _ (P : Rows) (d : ℕ) (nodes : List ℕ) (proper : Proper P) (p : Bool) 
             };
             counts = gathered (λ n. joinable d (not p) (clauseTree nodes n x))
                 (λ n z.
-                ap (joinable d p) (one-tree nodes n k (omega arith) (omega arith) ∙ ap₂ (λ (o : Op₁) (i : ℕ). one o (clauseTree nodes n i)) (ap oneOf (sym ek) ∙ is) (sym ex)))
+                ap (joinable d p)
+                (one-tree nodes n k (omega arith) (omega arith)
+                ∙ ap₂ (λ (o : Op₁) (i : ℕ). one o (clauseTree nodes n i)) (ap oneOf (sym ek) ∙ is) (sym ex)))
                 (λ n z. f .counts n (omega arith));
           }
 
-      pub one-judged : (a : ℕ) → (kind ≡ 2 → ⊥) → PartRow P d nodes p x a → Row (P .h) (r .row) (oneRule (P .h) (P .l) p (oneOf kind) (on a)) → Gathered P [] t r
+      pub one-judged : (a : ℕ) → (kind ≡ 2 → ⊥) → PartRow P d nodes p x a → Row (P .h) (r .row) (oneRule (P .h) (P .l) p (oneOf kind) (on a))
+          → Gathered P [] t r
           → ClauseJudged P d nodes p k t r
       unfolding clauseTree
       one-judged a n f g f′ = record {
@@ -189,7 +193,10 @@ module _ (P : Rows) (d : ℕ) (nodes : List ℕ) (proper : Proper P) (p : Bool) 
               (λ m z. subst (λ (b : Bool). PartRow P d nodes b x a) (sym (under-other kind p n)) f m z .at) (g .at) m z;
         };
         counts = gathered (λ m. [])
-            (λ m z. no-joinable d p (clauseTree nodes (suc m) k) (ap (leaves p) (one-tree nodes m k (omega arith) (omega arith)) ∙ one-leaves (kindAt nodes k) (λ e. n (ek ∙ e)) p _)) (λ m z. f′);
+            (λ m z.
+            no-joinable d p (clauseTree nodes (suc m) k)
+            (ap (leaves p) (one-tree nodes m k (omega arith) (omega arith)) ∙ one-leaves (kindAt nodes k) (λ e. n (ek ∙ e)) p _))
+            (λ m z. f′);
       }
 
     module _ (y : ℕ) (ey : y ≡ secondAt nodes k) (q : 6 ≤ kind) (q′ : kind < 10) where
@@ -227,11 +234,9 @@ module _ (P : Rows) (d : ℕ) (nodes : List ℕ) (proper : Proper P) (p : Bool) 
 pub part-row : (P : Rows) → Proper P → (d : ℕ) (nodes : List ℕ) (p : Bool) (k r : ℕ) → PartRow P d nodes p k r → ClauseRow P d nodes p k r
 unfolding joint joined
 part-row P proper zero nodes p k r f n z =
-    row-of (P .h) r _ _ (λ s q. judge-plain (P .h) (P .l) (proper .lap) (count P 0) (joinedWithDrift P 0) (λ p c s q e. absurd (none p c s e)) p (clauseTree nodes n k) s q
+    row-of (P .h) r _ _
+    (λ s q. judge-plain (P .h) (P .l) (proper .lap) (count P 0) (joinedWithDrift P 0) (λ p c s q e. absurd e) p (clauseTree nodes n k) s q
     ∙ sym (joining-plain P proper p (clauseTree nodes n k) s q)) (f n z)
-  where
-    none : (p : Bool) (c : Clause) (s : ℕ) → T (joinedWithDrift P 0 p c s) → ⊥
-    none p c s e = e
 part-row P proper (suc d) nodes p k r f n z =
     subst
     (λ (b : Bool). Row (P .h) r (judge (P .h) (P .l) (count P (suc d)) (λ p c s. joint P (suc d) (cond b [] (leaves p c)) s) p (clauseTree nodes n k)))

@@ -24,6 +24,10 @@ module _ (marks h : ℕ) where
   abbrev pub pairsEnd : ℕ
   pairsEnd = (marks + 14) * h
 
+  -- n pairs of them from an offset on
+  abbrev pub PairsFrom : (at n : ℕ) → Type 0
+  PairsFrom at n = (pairsAt marks h ≤ at) × (at + n * (2 * h) ≤ pairsEnd)
+
   -- a text's table is among those that were there, or in the pair of places at an offset
   abbrev pub Placed : (at r : ℕ) → Type 0
   Placed at r = (r + h ≤ pairsAt marks h) ⊎ ((r ≡ at) ⊎ (r ≡ at + h))

@@ -15,12 +15,12 @@ use crate::nodes::number_at;
 use crate::operators::under;
 ghost use mathlib.Core.Path.{_≡_};
 ghost use mathlib.Core.Bool.{Bool};
-ghost use Prim.Native.Nat.{ℕ, _+_, _*_, _≤_};
+ghost use Prim.Native.Nat.{ℕ, _+_, _≤_};
 ghost use lib.ListN.{getD, length};
 ghost use Rattle.table.specs.Table.{Kept};
 ghost use Rattle.table.specs.Layout.{pairsAt, Shown};
 ghost use Rattle.drift.specs.Tree.{kindAt};
-ghost use Rattle.drift.specs.Places.{pairsEnd, Placed};
+ghost use Rattle.drift.specs.Places.{PairsFrom, Placed};
 ghost use Rattle.drift.specs.Lent.{Lent, ClauseNodes};
 ghost use Rattle.drift.specs.Answer.{rowsOn, ClauseRow, ClauseJudged};
 
@@ -38,7 +38,7 @@ fn leaf_judged(
 ) -> Judged
     requires { ⌜ Lent g (now t) (now w) (now bits) ⌝ }
     requires { ⌜ ClauseNodes (now nodes) (now needs) k × (10 ≤ kindAt (now nodes) k) ⌝ }
-    requires { ⌜ (pairsAt (g .marks) (g .h) ≤ at) × (at + getD (now needs) k 0 * (2 * g .h) ≤ pairsEnd (g .marks) (g .h)) ⌝ }
+    requires { ⌜ PairsFrom (g .marks) (g .h) at (getD (now needs) k 0) ⌝ }
     ensures { λ r. ⌜ Kept at (now (t .entry)) (now (t .exit)) × (length (now (w .exit)) ≡ 88) × Placed (g .marks) (g .h) at (r .at)
         × (r .at + g .h ≤ length (now (t .exit))) ⌝ }
     ensures { λ r. ⌜ ((bears : ℕ → ℕ → ℕ → Bool) → Shown (g .marks) (g .carts) (g .h) bears (now (t .entry))
@@ -74,7 +74,7 @@ fn clause_judged(
 ) -> Judged
     requires { ⌜ Lent g (now t) (now w) (now bits) ⌝ }
     requires { ⌜ ClauseNodes (now nodes) (now needs) k ⌝ }
-    requires { ⌜ (pairsAt (g .marks) (g .h) ≤ at) × (at + getD (now needs) k 0 * (2 * g .h) ≤ pairsEnd (g .marks) (g .h)) ⌝ }
+    requires { ⌜ PairsFrom (g .marks) (g .h) at (getD (now needs) k 0) ⌝ }
     ensures { λ r. ⌜ Kept at (now (t .entry)) (now (t .exit)) × (length (now (w .exit)) ≡ 88) × Placed (g .marks) (g .h) at (r .at)
         × (r .at + g .h ≤ length (now (t .exit))) ⌝ }
     ensures { λ r. ⌜ ((bears : ℕ → ℕ → ℕ → Bool) → Shown (g .marks) (g .carts) (g .h) bears (now (t .entry))

@@ -9,14 +9,14 @@ use crate::places::place_two;
 use crate::tables::constant_at;
 ghost use mathlib.Core.Path.{_≡_};
 ghost use mathlib.Core.Bool.{Bool};
-ghost use Prim.Native.Nat.{ℕ, _+_, _*_, _≤_};
+ghost use Prim.Native.Nat.{ℕ, _+_, _≤_};
 ghost use lib.ListN.{getD, length};
 ghost use Rattle.table.specs.Table.{Kept};
-ghost use Rattle.table.specs.Layout.{pairsAt, markAt, Constants, Shown};
+ghost use Rattle.table.specs.Layout.{markAt, Constants, Shown};
 ghost use Rattle.drift.specs.Tree.{Ordered, nodeAt};
 ghost use Rattle.drift.specs.Ground.{InRange};
 ghost use Rattle.drift.specs.Need.{Needs};
-ghost use Rattle.drift.specs.Places.{leafAt, pairsEnd, Placed};
+ghost use Rattle.drift.specs.Places.{leafAt, pairsEnd, PairsFrom, Placed};
 ghost use Rattle.drift.specs.Answer.{rowsOn, InnerTable};
 
 // The table of a mark; one above the highest that is borne has that of none.
@@ -55,7 +55,7 @@ pub fn inner_table(
 ) -> usize
     requires { ⌜ InRange g × Constants (g .marks) (g .h) (now t) ⌝ }
     requires { ⌜ Ordered (now nodes) (k + 1) × Needs (now nodes) (now needs) (k + 1) ⌝ }
-    requires { ⌜ (pairsAt (g .marks) (g .h) ≤ at) × (at + getD (now needs) k 0 * (2 * g .h) ≤ pairsEnd (g .marks) (g .h)) ⌝ }
+    requires { ⌜ PairsFrom (g .marks) (g .h) at (getD (now needs) k 0) ⌝ }
     requires { ⌜ pairsEnd (g .marks) (g .h) ≤ length (now t) ⌝ }
     ensures { λ r. ⌜ Kept at (now (t .entry)) (now (t .exit)) × Placed (g .marks) (g .h) at r × (r + g .h ≤ length (now (t .exit))) ⌝ }
     ensures { λ r. ⌜ ((bears : ℕ → ℕ → ℕ → Bool) → Shown (g .marks) (g .carts) (g .h) bears (now (t .entry))

@@ -18,7 +18,7 @@ ghost use Rattle.grammar.specs.Grammar.{Counted};
 ghost use Rattle.cltl.specs.Rules.{both, joint};
 ghost use Rattle.mask.specs.Mask.{on, Row};
 ghost use Rattle.table.specs.Table.{Kept};
-ghost use Rattle.table.specs.Layout.{noneAt, pairsAt};
+ghost use Rattle.table.specs.Layout.{pairsAt};
 ghost use Rattle.drift.specs.Tree.{oneOf, twoOf};
 ghost use Rattle.drift.specs.Operator.{isOr, oneRule, twoRule};
 ghost use Rattle.drift.specs.Ground.{InRange};

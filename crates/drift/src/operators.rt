@@ -1,6 +1,5 @@
 // One operator on the rows of its operands.
 ghost use mathlib.Core.Path.{_≡_};
-ghost use mathlib.Core.Bool.{not};
 ghost use Prim.Native.Nat.{_<_, _≤_, _^_};
 ghost use Rattle.mask.specs.Mask.{on, Row};
 ghost use Rattle.drift.specs.Tree.{oneOf, twoOf};
