@@ -2,6 +2,7 @@
 pub mod Threshold
 pub mod Meaning
 pub mod Rules
+pub mod Running
 pub mod Step
 pub mod Broken
 -- promises
@@ -9,6 +10,7 @@ pub mod Promises
 -- worked cases
 pub mod Examples
 pub mod JointExamples
+pub mod RunningExamples
 -- laws
 pub mod Basics
 pub mod Pace
@@ -29,3 +31,4 @@ pub mod Complete
 pub mod Lowest
 pub mod Globally
 pub mod Agree
+pub mod AboveDrift

@@ -1,7 +1,7 @@
 -- What is claimed of cLTL+, for any rows with a cart and a lap, any clauses and drifts.
-use Prim.Native.Nat.{ℕ, suc, _+_, _*_, _-_, _≤_, _<_}
+use Prim.Native.Nat.{ℕ, suc, _+_, _*_, _-_, _≤_, _<_, min}
 use mathlib.Core.Path.{_≡_, refl, ap, subst, _∙_}
-use mathlib.Core.Bool.{Bool, true, false, _&&_, _||_}
+use mathlib.Core.Bool.{Bool, true, false, cond, _&&_, _||_}
 use mathlib.Core.List.{List, [], _∷_}
 use mathlib.Core.Logic.{_⊎_, _↔_}
 use native.Mathlib.Omega.{arith}
@@ -14,6 +14,7 @@ use Rattle.row.specs.Round.{step-low}
 use Rattle.cltl.specs.Threshold.{threshold, Nearest, quota}
 use Rattle.cltl.specs.Meaning.{Rows, Proper, Until, AtLeast, Run, Satisfies, Counts, TrueOf, InStepAt, TrueInStep}
 use Rattle.cltl.specs.Rules.{judge, leaves, inner, asked, count, slack, someText, joint, joined, rules, plainRules, hasNext}
+use Rattle.cltl.specs.Running.{walk, runningCount, rulesRead}
 use Rattle.cltl.specs.Lap.{fix-law, reach, forever}
 use Rattle.cltl.specs.Wording.{nearest, none-below-half, count-holds, asks-none}
 use Rattle.cltl.specs.Pace.{until-map}
@@ -26,6 +27,7 @@ use Rattle.cltl.specs.Exact.{rules-plain, rules-exact}
 use Rattle.cltl.specs.Standing.{gather, gathered, highest}
 use Rattle.cltl.specs.Broken.{countOr, Broken}
 use Rattle.cltl.specs.Complete.{count-complete}
+use Rattle.cltl.specs.AboveDrift.{running-back, running-last, holds-above, rules-read}
 
 ---- 'The sheet' and 'Drift rules', in document 01's words; percentages and ors of counts in document 02's.
 -- "A percentage becomes a number of carts", "rounded to the nearest cart, a half going up": its threshold is that number and no other
@@ -165,6 +167,23 @@ module _ (P : Rows) (d s : ℕ) where
       pub release-unended : ((u : ℕ) → s ≤ u → On b u) → T (Here (release a b))
       unfolding rules judge leaves joint joined
       release-unended f = rw (step-low (P .h) (P .l) s low) at (forever (P .h) (P .l) (proper .lap) (λ v. rules P d a v) (λ v. rules P d b v) (P .h) s f)
+
+---- 'Long windows', in document 02's words: the window read by a running count.
+-- "cut off at 17": one more where the text is true, 17 at most, and none where it is not; behind the last step comes the lap's own count
+pub running-step : (h l : ℕ) (f : ℕ → Bool) (s : ℕ) → s < h → runningCount h l f s ≡ cond (f s) (min 17 (suc (runningCount h l f (suc s)))) 0
+running-step = running-back
+
+pub running-lap : (h l : ℕ) (f : ℕ → Bool) → runningCount h l f h ≡ walk f l (h - l) 17
+running-lap = running-last
+
+-- "the text holds at all of counters s to s + d exactly if the count at s is above d": for every drift, at every counter
+pub above-drift : (h l : ℕ) → l < h → (f : ℕ → Bool) (d v : ℕ) → d ≤ 16
+    → ((j : ℕ) → j ≤ d → T (f (stepOf h l (v + j)))) ↔ (d < runningCount h l f (stepOf h l v))
+above-drift = holds-above
+
+-- "all verdicts stay": the rules with every window read so, those of joined ors too, are the rules
+pub same-verdicts : (P : Rows) → Proper P → (d : ℕ) → d ≤ 16 → (c : Clause) (s : ℕ) → rulesRead P d c s ≡ rules P d c s
+same-verdicts = rules-read
 
 ---- Runs.
 -- "A count holds if at least its threshold of carts satisfy the inner text at their counters of moment t": for a

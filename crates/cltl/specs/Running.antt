@@ -1,0 +1,44 @@
+-- Document 02, 5): windows read by a running count.
+use Prim.Native.Nat.{ℕ, zero, suc, _-_, min}
+use mathlib.Core.Bool.{Bool, true, false, _&&_, _||_}
+use mathlib.Core.List.{List, [], _∷_}
+use lib.Dec.{leb, ltb, eqb}
+use Rattle.grammar.specs.Grammar.{Counted, Clause}
+use Rattle.row.specs.Lasso.{stepOf}
+use Rattle.cltl.specs.Meaning.{Rows}
+use Rattle.cltl.specs.Rules.{tally, every, judge, leaves, asked, text, slack, someText}
+
+-- "A running count, cut off at 17, of how many counters in a row .. keep an inner text true": one counter further back
+abbrev pub back : Bool → ℕ → ℕ
+back true c = min 17 (suc c)
+back false c = 0
+
+-- ".. kept while walking the row backwards": over n steps, of which s is the first, from the count behind them
+unfoldable pub walk : (ℕ → Bool) → (s n c : ℕ) → ℕ
+walk f s zero c = c
+walk f s (suc n) c = back (f s) (walk f (suc s) n c)
+
+module _ (h l : ℕ) (f : ℕ → Bool) where
+  -- ".. through the lap": first over the lap alone, for the count from l on. The whole lap true counts as 17, since it comes again for ever.
+  unfoldable pub lapCount : ℕ
+  lapCount = walk f l (h - l) 17
+
+  -- Then from step h − 1 back to step s. So a step of the lap is looked at twice, and one of the run-in once.
+  unfoldable pub runningCount : ℕ → ℕ
+  runningCount s = walk f s (h - s) lapCount
+
+-- the drift rules as they are read: wherever a window stands in them, "the count at s is above d"
+module _ (P : Rows) (d : ℕ) where
+  -- how many carts' counts are
+  abbrev pub many : (ℕ → ℕ → Bool) → ℕ → ℕ
+  many f s = tally (λ i. ltb d (runningCount (P .h) (P .l) (f i) (stepOf (P .h) (P .l) s))) (P .carts)
+
+  unfoldable pub countRead : Bool → Counted → ℕ → Bool
+  countRead p x s = leb (asked P (p, x)) (many (λ i. text P i (p, x)) s) || (eqb (asked P (p, x)) 1 && every (λ i. text P i (p, x) s) (P .carts))
+
+  unfoldable pub jointRead : List (Bool × Counted) → ℕ → Bool
+  jointRead [] s = false
+  jointRead (x ∷ xs) s = ltb (slack P (x ∷ xs)) (many (someText P (x ∷ xs)) s)
+
+  unfoldable pub rulesRead : Clause → ℕ → Bool
+  rulesRead c s = judge (P .h) (P .l) countRead (λ p c. jointRead (leaves p c)) true c s

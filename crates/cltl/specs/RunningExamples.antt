@@ -1,0 +1,72 @@
+-- Worked cases of running counts, by computation.
+use Prim.Native.Nat.{ℕ}
+use mathlib.Core.Path.{_≡_, refl}
+use mathlib.Core.Bool.{Bool, true, false, not, _&&_}
+use lib.Dec.{eqb, ltb}
+use Rattle.grammar.specs.Grammar.{leaf, or, counted, Clause}
+use Rattle.row.specs.Lasso.{nextStep, stepOf}
+use Rattle.cltl.specs.Threshold.{threshold, quota}
+use Rattle.cltl.specs.Meaning.{Rows}
+use Rattle.cltl.specs.Rules.{tally, every, fix, leaves, judge, mark, inner, slack, someText}
+use Rattle.cltl.specs.Running.{walk, lapCount, runningCount, countRead, jointRead, rulesRead}
+
+-- tests of a step
+abbrev always : ℕ → Bool
+always s = true
+
+abbrev but : ℕ → ℕ → Bool
+but k s = not (eqb s k)
+
+-- two carts on three steps, the lap from step 1 on: both bear m0 but cart 0 at step 0
+abbrev rows : Rows
+rows = record { carts = 2; h = 3; l = 1; bears = λ i s k. eqb k 0 && not (eqb i 0 && eqb s 0) }
+
+abbrev atLeast : ℕ → ℕ → Clause
+atLeast k m = leaf (counted (leaf k) m false)
+
+-- the definitions that the table computes with, under one name
+computing : ℕ → Clause → ℕ → Bool
+unfolding threshold quota tally every fix nextStep stepOf leaves judge mark inner slack someText walk lapCount runningCount countRead jointRead rulesRead
+computing d c s = rulesRead rows d c s
+
+pub worked :
+    -- a lap of one step, always true, never ends: two passes that begin with 0 would make 2 of it
+    (runningCount 1 0 always 0 ≡ 17)
+    × (lapCount 1 0 always ≡ 17)
+    -- true at steps 0 and 1 of three: two in a row, then one, then none
+    × (runningCount 3 0 (but 2) 0 ≡ 2)
+    × (runningCount 3 0 (but 2) 1 ≡ 1)
+    × (runningCount 3 0 (but 2) 2 ≡ 0)
+    -- one where the text fails is forgotten: only the one behind it counts
+    × (runningCount 3 0 (but 1) 0 ≡ 1)
+    -- from the last step on into the lap: steps 2 and 0, and step 1 is not
+    × (runningCount 3 0 (but 1) 2 ≡ 2)
+    -- where the lap begins at step 1, what is true of it all never ends, whatever step 0 says; step 0 counts for itself
+    × (runningCount 3 1 (but 0) 2 ≡ 17)
+    × (runningCount 3 1 (but 0) 0 ≡ 0)
+    × (runningCount 3 1 (but 1) 2 ≡ 1)
+    × (runningCount 3 1 (but 1) 0 ≡ 1)
+    -- the lap's own count begins at l, not at step 0
+    × (lapCount 3 1 (but 0) ≡ 17)
+    × (lapCount 3 1 (but 2) ≡ 1)
+    -- cut off at 17 and not before: 19, 17 and 16 in a row
+    × (runningCount 20 19 (but 19) 0 ≡ 17)
+    × (runningCount 20 19 (but 19) 2 ≡ 17)
+    × (runningCount 20 19 (but 19) 3 ≡ 16)
+    -- so all of 17 counters, drift 16, from step 2 on and not from step 3 on
+    × (ltb 16 (runningCount 20 19 (but 19) 2) ≡ true)
+    × (ltb 16 (runningCount 20 19 (but 19) 3) ≡ false)
+    × (ltb 15 (runningCount 20 19 (but 19) 3) ≡ true)
+    -- a lap's own count of 16 and of 17
+    × (lapCount 17 0 (but 16) ≡ 16)
+    × (lapCount 18 0 (but 17) ≡ 17)
+    -- the rules so read: from step 1 on both carts bear m0 for ever, at step 0 only cart 1
+    × (rulesRead rows 16 (atLeast 0 2) 1 ≡ true)
+    × (rulesRead rows 16 (atLeast 0 1) 0 ≡ true)
+    × (rulesRead rows 16 (atLeast 0 2) 0 ≡ false)
+    -- `[m0,2] | [m1,1]` asks for more than one cart with either
+    × (rulesRead rows 1 (or (atLeast 0 2) (atLeast 1 1)) 1 ≡ true)
+    × (rulesRead rows 1 (or (atLeast 0 2) (atLeast 1 1)) 0 ≡ false)
+unfolding computing
+worked =
+    (refl, refl, refl, refl, refl, refl, refl, refl, refl, refl, refl, refl, refl, refl, refl, refl, refl, refl, refl, refl, refl, refl, refl, refl, refl, refl)
