@@ -1,3 +1,2 @@
 pub mod Unrolling
-pub mod Narrowing
 pub mod Testing

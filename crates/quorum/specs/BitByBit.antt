@@ -50,13 +50,7 @@ onward j row bit f r e =
     moved true = omega arith
     moved false = omega arith
 
--- steps from number 0 on
-pub from-0 : (n row : ℕ) (f : ℕ → Bool) → Row n row (λ j. f (0 + j)) → Row n row f
-from-0 n row f r = record { low = r .low; at = λ j p. let e : 0 + j ≡ j = omega arith in r .at j p ∙ ap f e }
-
-pub halves : (h low high up : ℕ) (f : ℕ → Bool) → 32 ≤ h → up ≡ high * 2 ^ 32 → Row 32 low (λ j. f (0 + j)) → Row (h - 32) high (λ j. f (32 + j))
-    → Row h (bitOr low up) f
+pub halves : (h low high up : ℕ) (f : ℕ → Bool) → 32 ≤ h → up ≡ high * 2 ^ 32 → Row 32 low f → Row (h - 32) high (λ j. f (32 + j)) → Row h (bitOr low up) f
 halves h low high up f p e a b =
     let n : h - 32 + 32 ≡ h = omega arith in
-    subst (λ (y : ℕ). Row h (bitOr low y) f) (sym e)
-    (subst (λ (k : ℕ). Row k (bitOr low (high * 2 ^ 32)) f) n (parts 32 (h - 32) low high f (from-0 32 low f a) b))
+    subst (λ (y : ℕ). Row h (bitOr low y) f) (sym e) (subst (λ (k : ℕ). Row k (bitOr low (high * 2 ^ 32)) f) n (parts 32 (h - 32) low high f a b))

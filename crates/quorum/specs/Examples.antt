@@ -8,7 +8,6 @@ use Rattle.row.specs.Lasso.{stepOf}
 use Rattle.cltl.specs.Rules.{tally, every, window, throughout, quorum}
 use Rattle.mask.specs.Mask.{on, signed}
 use Rattle.table.specs.Table.{told}
-use Rattle.quorum.specs.Words.{shared, sharedByThree}
 
 -- Three steps of two carts behind a word of something else: carts 0 and 1, cart 0, carts 0 and 1. The lap begins at step 1. Bit 2 is no cart's.
 abbrev table : List ℕ
@@ -66,9 +65,5 @@ pub worked :
     × (along table 1 1 2 ≡ true)
     × (along table 1 2 2 ≡ false)
     × (along table 0 3 0 ≡ false)
-    -- the bits that a word and the one two further on share
-    × (shared (6 ∷ 0 ∷ 3 ∷ []) 2 0 ≡ 2)
-    -- and the one four further on as well
-    × (sharedByThree (7 ∷ 0 ∷ 6 ∷ 0 ∷ 3 ∷ []) 2 0 ≡ 2)
 unfolding computing
-worked = (refl, refl, refl, refl, refl, refl, refl, refl, refl, refl, refl, refl, refl, refl, refl, refl, refl, refl, refl, refl, refl)
+worked = (refl, refl, refl, refl, refl, refl, refl, refl, refl, refl, refl, refl, refl, refl, refl, refl, refl, refl, refl)

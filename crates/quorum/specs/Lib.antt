@@ -1,11 +1,12 @@
 -- definitions
 pub mod Words
+pub mod Counts
 -- worked cases
 pub mod Examples
 -- laws
 pub mod OwnNumber
 pub mod Below
-pub mod Widened
+pub mod Walking
 pub mod BitByBit
 pub mod Ones
 pub mod WithoutCounting

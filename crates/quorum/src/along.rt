@@ -4,9 +4,9 @@ ghost use mathlib.Core.Path.{_≡_};
 ghost use lib.Dec.{leb};
 ghost use lib.ListN.{length, getD};
 ghost use Rattle.cltl.specs.Rules.{throughout};
-ghost use Rattle.mask.specs.Mask.{on, Row};
+ghost use Rattle.mask.specs.Mask.{Row};
 ghost use Rattle.table.specs.Table.{told};
-ghost use Rattle.quorum.specs.Words.{Bits};
+ghost use Rattle.quorum.specs.Words.{has, Bits};
 
 // Of the words of the steps: from which steps on at least m carts have their bit at all of d + 1 counters.
 pub(crate) fn throughout_row(
@@ -23,11 +23,10 @@ pub(crate) fn throughout_row(
     requires { ⌜ Bits (now bits) ⌝ }
     requires { ⌜ ((s : ℕ) → s < h → getD (now w) s 0 < 2 ^ carts) ⌝ }
     ensures { λ _. ⌜ length (now (w .exit)) ≡ 88 ⌝ }
-    ensures { λ r. ⌜ Row h r (λ s. leb m (throughout h l carts d (λ i s. on (getD (now (w .entry)) s 0) i) s)) ⌝ }
+    ensures { λ r. ⌜ Row h r (λ s. leb m (throughout h l carts d (has (now (w .entry))) s)) ⌝ }
 {
-    crate::words::repeat_lap(w, h, l, d);
-    let off = crate::windows::narrow(w, h, d);
-    crate::counting::at_least(w, off, m, carts, h, bits)
+    let from = crate::running::windows(w, h, l, d);
+    crate::counting::at_least(w, from, m, carts, h, bits)
 }
 
 // The steps s at which at least m carts satisfy the text whose table begins at `at`, at all of counters s to s + d: count_row without its case of all carts at

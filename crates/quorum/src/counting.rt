@@ -4,9 +4,9 @@ ghost use mathlib.Core.Path.{_≡_};
 ghost use mathlib.Core.Bool.{cond};
 ghost use lib.Dec.{leb, eqb};
 ghost use lib.Count.{ones};
-ghost use lib.ListN.{length};
+ghost use lib.ListN.{length, getD};
 ghost use Rattle.mask.specs.Mask.{Row};
-ghost use Rattle.quorum.specs.Words.{shared, Bits};
+ghost use Rattle.quorum.specs.Words.{Bits};
 
 fn if_same(x: u32, y: u32, bit: u32) -> u32
     ensures { λ r. ⌜ r ≡ cond (eqb x y) bit 0 ⌝ }
@@ -20,85 +20,77 @@ fn if_enough(m: u32, n: u32, bit: u32) -> u32
     if m <= n { bit } else { 0 }
 }
 
-// Of the n steps from `at` on, those where word s and the word `off` further on share the bits x and no others.
-fn same(w: &[u32; 88], at: usize, off: usize, x: u32, n: usize, bits: &[u32; 32]) -> u32
+// Of the n words from `at` on, those that are x.
+fn same(w: &[u32; 88], at: usize, x: u32, n: usize, bits: &[u32; 32]) -> u32
     requires { ⌜ length (now w) ≡ 88 ⌝ }
-    requires { ⌜ (n ≤ 32) × (at + n + off ≤ 88) ⌝ }
+    requires { ⌜ (n ≤ 32) × (at + n ≤ 88) ⌝ }
     requires { ⌜ Bits (now bits) ⌝ }
-    ensures { λ r. ⌜ Row n r (λ j. eqb (shared (now (w .entry)) off (at + j)) x) ⌝ }
+    ensures { λ r. ⌜ Row n r (λ j. eqb (getD (now (w .entry)) (at + j) 0) x) ⌝ }
 {
     let mut row = 0;
     let mut j = 0;
     while j < n {
-        row = row | if_same(w[at + j] & w[at + j + off], x, bits[j]);
+        row = row | if_same(w[at + j], x, bits[j]);
         j += 1;
     }
     row
 }
 
-// Of the n steps from `at` on, those where word s and the word `off` further on share at least m bits.
-fn counted(w: &[u32; 88], at: usize, off: usize, m: u32, n: usize, bits: &[u32; 32]) -> u32
+// Of the n words from `at` on, those with at least m bits.
+fn counted(w: &[u32; 88], at: usize, m: u32, n: usize, bits: &[u32; 32]) -> u32
     requires { ⌜ length (now w) ≡ 88 ⌝ }
-    requires { ⌜ (n ≤ 32) × (at + n + off ≤ 88) ⌝ }
+    requires { ⌜ (n ≤ 32) × (at + n ≤ 88) ⌝ }
     requires { ⌜ Bits (now bits) ⌝ }
-    ensures { λ r. ⌜ Row n r (λ j. leb m (ones (shared (now (w .entry)) off (at + j)))) ⌝ }
+    ensures { λ r. ⌜ Row n r (λ j. leb m (ones (getD (now (w .entry)) (at + j) 0))) ⌝ }
 {
     let mut row = 0;
     let mut j = 0;
     while j < n {
-        row = row | if_enough(m, u32::count_ones(w[at + j] & w[at + j + off]), bits[j]);
+        row = row | if_enough(m, u32::count_ones(w[at + j]), bits[j]);
         j += 1;
     }
     row
 }
 
 // The same, where the words have bits of carts alone: more carts than there are no word has, and all carts or at least one need no counting.
-fn part(
-    w: &[u32; 88],
-    at: usize,
-    off: usize,
-    m: usize,
-    carts: usize,
-    n: usize,
-    bits: &[u32; 32],
-) -> u32
+fn part(w: &[u32; 88], at: usize, m: usize, carts: usize, n: usize, bits: &[u32; 32]) -> u32
     requires { ⌜ length (now w) ≡ 88 ⌝ }
-    requires { ⌜ (carts ≤ 32) × (n ≤ 32) × (at + n + off ≤ 88) ⌝ }
+    requires { ⌜ (carts ≤ 32) × (n ≤ 32) × (at + n ≤ 88) ⌝ }
     requires { ⌜ Bits (now bits) ⌝ }
-    requires { ⌜ ((j : ℕ) → j < n → shared (now w) off (at + j) < 2 ^ carts) ⌝ }
-    ensures { λ r. ⌜ Row n r (λ j. leb m (ones (shared (now (w .entry)) off (at + j)))) ⌝ }
+    requires { ⌜ ((j : ℕ) → j < n → getD (now w) (at + j) 0 < 2 ^ carts) ⌝ }
+    ensures { λ r. ⌜ Row n r (λ j. leb m (ones (getD (now (w .entry)) (at + j) 0))) ⌝ }
 {
     if carts < m {
         return 0;
     }
     if m == carts {
-        return same(w, at, off, crate::words::lowest(carts), n, bits);
+        return same(w, at, crate::words::lowest(carts), n, bits);
     }
     if m == 1 {
-        return same(w, at, off, 0, n, bits) ^ crate::words::lowest(n);
+        return same(w, at, 0, n, bits) ^ crate::words::lowest(n);
     }
-    counted(w, at, off, m as u32, n, bits)
+    counted(w, at, m as u32, n, bits)
 }
 
-// The steps where word s and the word `off` further on share at least m bits, in two parts: there are 32 bits in the table.
+// Of the h words from `from` on, those with at least m bits, in two parts: there are 32 bits in the table.
 pub(crate) fn at_least(
     w: &[u32; 88],
-    off: usize,
+    from: usize,
     m: usize,
     carts: usize,
     h: usize,
     bits: &[u32; 32],
 ) -> u64
     requires { ⌜ length (now w) ≡ 88 ⌝ }
-    requires { ⌜ (carts ≤ 32) × (h ≤ 64) × (h + off ≤ 88) ⌝ }
+    requires { ⌜ (carts ≤ 32) × (h ≤ 64) × (from + h ≤ 88) ⌝ }
     requires { ⌜ Bits (now bits) ⌝ }
-    requires { ⌜ ((s : ℕ) → s < h → shared (now w) off s < 2 ^ carts) ⌝ }
-    ensures { λ r. ⌜ Row h r (λ s. leb m (ones (shared (now (w .entry)) off s))) ⌝ }
+    requires { ⌜ ((s : ℕ) → s < h → getD (now w) (from + s) 0 < 2 ^ carts) ⌝ }
+    ensures { λ r. ⌜ Row h r (λ s. leb m (ones (getD (now (w .entry)) (from + s) 0))) ⌝ }
 {
     if h <= 32 {
-        return part(w, 0, off, m, carts, h, bits) as u64;
+        return part(w, from, m, carts, h, bits) as u64;
     }
-    let low = part(w, 0, off, m, carts, 32, bits) as u64;
-    let high = part(w, 32, off, m, carts, h - 32, bits) as u64;
+    let low = part(w, from, m, carts, 32, bits) as u64;
+    let high = part(w, from + 32, m, carts, h - 32, bits) as u64;
     low | (high << 32)
 }

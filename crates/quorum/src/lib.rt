@@ -1,7 +1,7 @@
 // The rule for a count, and its part on windows alone, on a table of truth by step and for all steps at once: a word a step, with bit i for cart i.
 mod along;
 mod counting;
-mod windows;
+mod running;
 mod words;
 
 pub use along::joint_row;
@@ -11,9 +11,9 @@ ghost use mathlib.Core.Bool.{_&&_};
 ghost use lib.Dec.{eqb};
 ghost use lib.ListN.{length, getD};
 ghost use Rattle.cltl.specs.Rules.{every, quorum};
-ghost use Rattle.mask.specs.Mask.{on, Row, signed};
+ghost use Rattle.mask.specs.Mask.{Row, signed};
 ghost use Rattle.table.specs.Table.{told};
-ghost use Rattle.quorum.specs.Words.{Bits};
+ghost use Rattle.quorum.specs.Words.{has, Bits};
 
 // The table of the bits that count_row and joint_row ask for.
 pub fn fill_bits(bits: &mut [u32; 32])
@@ -33,7 +33,7 @@ fn all_row(w: &[u32; 88], m: usize, carts: usize, h: usize, bits: &[u32; 32]) ->
     requires { ⌜ (carts ≤ 32) × (h ≤ 64) ⌝ }
     requires { ⌜ Bits (now bits) ⌝ }
     requires { ⌜ ((s : ℕ) → s < h → getD (now w) s 0 < 2 ^ carts) ⌝ }
-    ensures { λ r. ⌜ Row h r (λ s. eqb m 1 && every (on (getD (now (w .entry)) s 0)) carts) ⌝ }
+    ensures { λ r. ⌜ Row h r (λ s. eqb m 1 && every (λ i. has (now (w .entry)) i s) carts) ⌝ }
 {
     if m == 1 {
         counting::at_least(w, 0, carts, carts, h, bits)

@@ -1,10 +1,10 @@
-// The words of a text along the counters, the lap again behind the last step: no loop over them has to look where the lap ends.
+// The words of a text, one a step.
 ghost use Prim.Native.Nat.{_+_, _-_, _^_, _≤_, _<_};
 ghost use mathlib.Core.Path.{_≡_};
 ghost use lib.ListN.{length};
 ghost use Rattle.mask.specs.Mask.{signed};
 ghost use Rattle.table.specs.Table.{told, Stored};
-ghost use Rattle.quorum.specs.Words.{CartsAt, CounterAt};
+ghost use Rattle.quorum.specs.Words.{CartsAt};
 
 // The n lowest bits: of as many carts, one each.
 pub(crate) fn lowest(n: usize) -> u32
@@ -26,21 +26,6 @@ pub(crate) fn unroll(t: &[u32], at: usize, p: bool, carts: usize, h: usize, w: &
     let mut s = 0;
     while s < h {
         w[s] = (t[at + s] ^ flip) & full;
-        s += 1;
-    }
-}
-
-// The lap again, for d counters behind the last step.
-pub(crate) fn repeat_lap(w: &mut [u32; 88], h: usize, l: usize, d: usize)
-    requires { ⌜ (l < h) × (h ≤ 64) × (d ≤ 16) ⌝ }
-    requires { ⌜ length (now w) ≡ 88 ⌝ }
-    ensures { λ _. ⌜ Stored (CounterAt h l (now (w .entry))) 0 h (h + d) (now (w .entry)) (now (w .exit)) ⌝ }
-{
-    let lap = h - l;
-    let end = h + d;
-    let mut s = h;
-    while s < end {
-        w[s] = w[s - lap];
         s += 1;
     }
 }

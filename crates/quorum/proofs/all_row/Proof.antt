@@ -1,6 +1,6 @@
 use native.Mathlib.Omega.{arith}
-use Prim.Native.Nat.{_+_}
-use lib.Bits.{and-le-l}
+use Prim.Native.Nat.{ℕ, _+_, _^_, _<_}
+use mathlib.Core.Path.{_≡_, subst}
 use lib.ListN.{getD}
 use Rattle.quorum.specs.Counted.{with-one, with-more}
 use Rattle.quorum.proofs.all_row.Statement.{statement}
@@ -9,8 +9,9 @@ use Rattle.quorum.proofs.all_row.Tie as tie
 at-least-requires : tie.Need-at-least-requires
 at-least-requires c κs =
     let s = c .before in
-    let w = s .args .w .now in
-    (s .pre .0, (omega arith, (s .pre .1 .1 .0, λ j p. omega (arith, and-le-l (getD w j 0) (getD w (j + 0) 0), s .pre .1 .1 .1 j p))))
+    let low : (j : ℕ) → j < s .args .h → getD (s .args .w .now) (0 + j) 0 < 2 ^ s .args .carts =
+    λ j p. let e : j ≡ 0 + j = omega arith in subst (λ (k : ℕ). getD (s .args .w .now) k 0 < 2 ^ s .args .carts) e (s .pre .1 .1 .1 j p) in
+    (s .pre .0, (omega arith, (s .pre .1 .1 .0, low)))
 
 returns : tie.Need-returns
 returns c =

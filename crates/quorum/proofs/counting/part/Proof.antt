@@ -1,7 +1,7 @@
 use Prim.Native.Nat.{_+_}
 use native.Mathlib.Omega.{arith}
 use borrow.Author.Needs.{needs}
-use Rattle.quorum.specs.Words.{shared}
+use lib.ListN.{getD}
 use Rattle.quorum.specs.WithoutCounting.{more-than-all, all-of-them, at-least-one}
 use Rattle.quorum.proofs.counting.part.Statement.{statement}
 use Rattle.quorum.proofs.counting.part.Tie as tie
@@ -10,7 +10,7 @@ returns : tie.Need-returns
 returns c =
     let s = c .before in
     let a = s .args in
-    more-than-all (a .n) (a .m) (a .carts) (λ j. shared (a .w .now) (a .off) (a .at + j)) (s .pre .1 .1 .1) _ (omega arith) (omega arith)
+    more-than-all (a .n) (a .m) (a .carts) (λ j. getD (a .w .now) (a .at + j) 0) (s .pre .1 .1 .1) _ (omega arith) (omega arith)
 
 lowest-requires : tie.Need-lowest-requires
 lowest-requires c κs = search needs
@@ -22,7 +22,7 @@ returns-2 : tie.Need-returns-2
 returns-2 c =
     let s = c .before .before .before .before in
     let a = s .args in
-    all-of-them (a .n) (a .m) (a .carts) (λ j. shared (a .w .now) (a .off) (a .at + j)) (s .pre .1 .1 .1) (c .before .lowest .result) (c .same .result)
+    all-of-them (a .n) (a .m) (a .carts) (λ j. getD (a .w .now) (a .at + j) 0) (s .pre .1 .1 .1) (c .before .lowest .result) (c .same .result)
     (omega arith) (omega (arith, c .before .lowest .ensures)) (c .same .ensures)
 
 same-requires-2 : tie.Need-same-requires-2
@@ -35,7 +35,7 @@ returns-3 : tie.Need-returns-3
 returns-3 c =
     let s = c .before .before .before .before .before in
     let a = s .args in
-    at-least-one (a .n) (a .m) (a .carts) (λ j. shared (a .w .now) (a .off) (a .at + j)) (s .pre .1 .1 .1) (c .before .same2 .result) (c .lowest2 .result)
+    at-least-one (a .n) (a .m) (a .carts) (λ j. getD (a .w .now) (a .at + j) 0) (s .pre .1 .1 .1) (c .before .same2 .result) (c .lowest2 .result)
     (omega arith) (omega (arith, c .lowest2 .ensures)) (c .before .same2 .ensures)
 
 cast-counted : tie.Need-cast-counted
