@@ -33,13 +33,13 @@ every-first f (suc n) =
 
 -- in unary: above 0 where the text is true, and above one more where the count behind was above
 pub above-none : (t : Bool) (c : ℕ) → ltb 0 (back t c) ≡ t
-above-none true c = lt-ltb 0 (min 17 (suc c)) (omega arith)
+above-none true c = lt-ltb 0 (back true c) (omega arith)
 above-none false c = refl
 
 pub above-more : (t : Bool) (c j : ℕ) → j < 16 → ltb (suc j) (back t c) ≡ (t && ltb j c)
 above-more true c j p =
-    bool-ext _ _ (λ x. let q = ltb→lt (suc j) (min 17 (suc c)) x in lt→ltb j c (omega arith))
-    (λ x. let q = ltb→lt j c x in lt→ltb (suc j) (min 17 (suc c)) (omega arith))
+    bool-ext _ _ (λ x. let q = ltb→lt (suc j) (back true c) x in lt→ltb j c (omega arith))
+    (λ x. let q = ltb→lt j c x in lt→ltb (suc j) (back true c) (omega arith))
 above-more false c j p = le-ltb (suc j) 0 (omega arith)
 
 -- what a count at counter v is to tell: above j exactly if the j + 1 counters from v on keep it true
