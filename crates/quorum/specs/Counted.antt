@@ -63,9 +63,22 @@ module _ (h l d from : ℕ) (some : l < h) (w₀ w₁ : List ℕ)
   pub windows : (s : ℕ) → s < h → Row carts (getD w₁ (from + s) 0) (λ i. window h l (has w₀ i) d s)
   windows s p = record { low = below (getD w₁ (from + s) 0) carts (λ i. no-cart s i p); at = λ i q. along s i p }
 
+  -- and how many they are
+  pub counted-windows : (s : ℕ) → s < h → ones (getD w₁ (from + s) 0) ≡ throughout h l carts d (has w₀) s
+  counted-windows s p = counted carts _ _ (windows s p)
+
   -- enough of them
   pub enough : (m r : ℕ) → Row h r (λ s. leb m (ones (getD w₁ (from + s) 0))) → Row h r (λ s. leb m (throughout h l carts d (has w₀) s))
-  enough m r row = record { low = row .low; at = λ s p. row .at s p ∙ ap (leb m) (counted carts _ _ (windows s p)) }
+  enough m r row = record { low = row .low; at = λ s p. row .at s p ∙ ap (leb m) (counted-windows s p) }
+
+-- enough all along, or with a threshold of 1 all at the step itself
+pub either : (h l carts d m : ℕ) (f : ℕ → ℕ → Bool) (many all : ℕ) → Row h many (λ s. leb m (throughout h l carts d f s))
+    → Row h all (λ s. eqb m 1 && every (λ i. f i s) carts) → Row h (bitOr many all) (quorum h l carts d m f)
+unfolding quorum
+either h l carts d m f many all a b = record {
+  low = or-lt h many all (a .low) (b .low);
+  at = λ s p. on-or many all s ∙ ap₂ (λ (x y : Bool). x || y) (a .at s p) (b .at s p);
+}
 
 -- where the words are those of a text
 module _ (h carts : ℕ) (f : ℕ → ℕ → Bool) (before w : List ℕ) (text : Stored (CartsAt carts f) 0 0 h before w) where
@@ -75,21 +88,20 @@ module _ (h carts : ℕ) (f : ℕ → ℕ → Bool) (before w : List ℕ) (text 
   pub carts-alone : (s : ℕ) → s < h → getD w s 0 < 2 ^ carts
   carts-alone s p = step s p .low
 
+  pub here : (m all : ℕ) → Row h all (λ s. eqb m 1 && every (λ i. has w i s) carts) → Row h all (λ s. eqb m 1 && every (λ i. f i s) carts)
+  here m all row = record {
+    low = row .low;
+    at = λ s p. row .at s p ∙ ap (λ (b : Bool). eqb m 1 && b) (every-agrees _ _ carts (step s p .at));
+  }
+
+  module _ (l d : ℕ) (some : l < h) where
+    pub counted-text : (s : ℕ) → throughout h l carts d (has w) s ≡ throughout h l carts d f s
+    counted-text s = throughout-agrees carts h l some d _ _ (λ i q s z. step s z .at i q) s
+
   module _ (l d m : ℕ) (some : l < h) where
     pub of-text : (r : ℕ) → Row h r (λ s. leb m (throughout h l carts d (has w) s)) → Row h r (λ s. leb m (throughout h l carts d f s))
-    of-text r row = record {
-      low = row .low;
-      at = λ s p. row .at s p ∙ ap (leb m) (throughout-agrees carts h l some d _ _ (λ i q s z. step s z .at i q) s);
-    }
+    of-text r row = record { low = row .low; at = λ s p. row .at s p ∙ ap (leb m) (counted-text l d some s) }
 
-    -- enough all along, or with a threshold of 1 all at the step itself
-    pub quorate : (many all : ℕ) → Row h many (λ s. leb m (throughout h l carts d (has w) s))
-        → Row h all (λ s. eqb m 1 && every (λ i. has w i s) carts) → Row h (bitOr many all) (quorum h l carts d m f)
-    unfolding quorum
-    quorate many all along here = record {
-      low = or-lt h many all (along .low) (here .low);
-      at = λ s p.
-          on-or many all s
-          ∙ ap₂ (λ (x y : Bool). x || y) (of-text many along .at s p)
-          (here .at s p ∙ ap (λ (b : Bool). eqb m 1 && b) (every-agrees _ _ carts (step s p .at)));
-    }
+    pub quorate : (many all : ℕ) → Row h many (λ s. leb m (throughout h l carts d (has w) s)) → Row h all (λ s. eqb m 1 && every (λ i. has w i s) carts)
+        → Row h (bitOr many all) (quorum h l carts d m f)
+    quorate many all along at-once = either h l carts d m f many all (of-text many along) (here m all at-once)

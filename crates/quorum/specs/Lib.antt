@@ -1,6 +1,7 @@
 -- definitions
 pub mod Words
 pub mod Counts
+pub mod Tallies
 -- worked cases
 pub mod Examples
 -- laws
@@ -11,3 +12,4 @@ pub mod BitByBit
 pub mod Ones
 pub mod WithoutCounting
 pub mod Counted
+pub mod Tallying

@@ -2,9 +2,12 @@
 mod along;
 mod counting;
 mod running;
+mod tallies;
 mod words;
 
 pub use along::joint_row;
+pub use tallies::fill_tallies;
+pub use tallies::tallied_row;
 ghost use Prim.Native.Nat.{ℕ, _+_, _^_, _≤_, _<_};
 ghost use mathlib.Core.Path.{_≡_};
 ghost use mathlib.Core.Bool.{_&&_};
@@ -28,7 +31,7 @@ pub fn fill_bits(bits: &mut [u32; 32])
 }
 
 // Where all carts have their bit, if the threshold is 1: a word is full if it has as many bits as there are carts.
-fn all_row(w: &[u32; 88], m: usize, carts: usize, h: usize, bits: &[u32; 32]) -> u64
+pub(crate) fn all_row(w: &[u32; 88], m: usize, carts: usize, h: usize, bits: &[u32; 32]) -> u64
     requires { ⌜ length (now w) ≡ 88 ⌝ }
     requires { ⌜ (carts ≤ 32) × (h ≤ 64) ⌝ }
     requires { ⌜ Bits (now bits) ⌝ }
