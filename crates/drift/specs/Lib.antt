@@ -6,6 +6,7 @@ pub mod Answer
 pub mod Need
 pub mod Places
 pub mod Lent
+pub mod Tallies
 -- worked cases
 pub mod Examples
 pub mod NeedExamples
@@ -20,6 +21,7 @@ pub mod OperatorTables
 pub mod NodeTruth
 pub mod Placing
 pub mod Lending
+pub mod Tallying
 pub mod InnerTables
 pub mod NodeTables
 pub mod ClauseRows

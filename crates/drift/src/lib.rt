@@ -9,6 +9,7 @@ mod operators;
 mod places;
 mod refused;
 mod tables;
+mod tallies;
 
 pub use clauses::clause_row;
 pub use needs::fill_needs;

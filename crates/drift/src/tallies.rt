@@ -1,0 +1,73 @@
+// Most counts are over a single mark: how many carts have it, or have it not, all along each window is made once a check and kept.
+use crate::Ground;
+ghost use mathlib.Core.Path.{_≡_};
+ghost use mathlib.Core.Logic.{_⊎_};
+ghost use Prim.Native.Nat.{_+_, _≤_};
+ghost use lib.ListN.{length};
+ghost use Rattle.cltl.specs.Rules.{quorum};
+ghost use Rattle.mask.specs.Mask.{Row, signed};
+ghost use Rattle.table.specs.Table.{told};
+ghost use Rattle.drift.specs.Ground.{InRange};
+ghost use Rattle.drift.specs.Lent.{Lent};
+ghost use Rattle.drift.specs.Tallies.{KeptAt, TalliesOf, Tallies};
+
+// Where the tallies of the mark whose table begins at `from` are kept, or of its negation; 4096 if the table is no mark's.
+fn kept_at(from: usize, p: bool, g: Ground) -> usize
+    requires { ⌜ InRange g ⌝ }
+    ensures { λ r. ⌜ (r ≡ 4096) ⊎ KeptAt g from p r ⌝ }
+{
+    let k = from / g.h;
+    if g.marks <= k {
+        return 4096;
+    }
+    if k * g.h < from {
+        return 4096;
+    }
+    if p { 128 * k + 64 } else { 128 * k }
+}
+
+// Makes the tallies that are kept at `at`, unless they are there already.
+fn fill_if_none(
+    t: &[u32],
+    from: usize,
+    p: bool,
+    w: &mut [u32; 88],
+    g: Ground,
+    tallies: &mut [u8; 4096],
+    at: usize,
+)
+    requires { ⌜ InRange g × (from + g .h ≤ length (now t)) × (length (now w) ≡ 88) ⌝ }
+    requires { ⌜ Tallies g (now t) (now tallies) × KeptAt g from p at ⌝ }
+    ensures { λ _. ⌜ length (now (w .exit)) ≡ 88 ⌝ }
+    ensures { λ _. ⌜ Tallies g (now (t .entry)) (now (tallies .exit)) × TalliesOf g (now (t .entry)) from p at (now (tallies .exit)) ⌝ }
+{
+    if tallies[at] < 255 {
+        return;
+    }
+    quorum::fill_tallies(t, from, p, g.carts, g.h, g.l, g.d, w, tallies, at);
+}
+
+// The rule for a count with threshold m over the text (p), or the negation of the text, whose table begins at `from`.
+pub fn count_told(
+    t: &[u32],
+    from: usize,
+    p: bool,
+    m: usize,
+    w: &mut [u32; 88],
+    bits: &[u32; 32],
+    g: Ground,
+    tallies: &mut [u8; 4096],
+) -> u64
+    requires { ⌜ Lent g (now t) (now w) (now bits) ⌝ }
+    requires { ⌜ Tallies g (now t) (now tallies) ⌝ }
+    requires { ⌜ from + g .h ≤ length (now t) ⌝ }
+    ensures { λ _. ⌜ (length (now (w .exit)) ≡ 88) × Tallies g (now (t .entry)) (now (tallies .exit)) ⌝ }
+    ensures { λ r. ⌜ Row (g .h) r (quorum (g .h) (g .l) (g .carts) (g .d) m (λ i s. signed p (told (now (t .entry)) from i s))) ⌝ }
+{
+    let at = kept_at(from, p, g);
+    if at == 4096 {
+        return quorum::count_row(t, from, p, m, g.carts, g.h, g.l, g.d, w, bits);
+    }
+    fill_if_none(t, from, p, w, g, tallies, at);
+    quorum::tallied_row(t, from, p, m, g.carts, g.h, w, tallies, at, bits)
+}
