@@ -13,6 +13,7 @@ use crate::nodes::first_at;
 use crate::nodes::kind_at;
 use crate::nodes::number_at;
 use crate::operators::under;
+use crate::tallies::count_told;
 ghost use mathlib.Core.Path.{_≡_};
 ghost use mathlib.Core.Bool.{Bool};
 ghost use Prim.Native.Nat.{ℕ, _+_, _≤_};
@@ -22,6 +23,7 @@ ghost use Rattle.table.specs.Layout.{pairsAt, Shown};
 ghost use Rattle.drift.specs.Tree.{kindAt};
 ghost use Rattle.drift.specs.Places.{PairsFrom, Placed};
 ghost use Rattle.drift.specs.Lent.{Lent, ClauseNodes};
+ghost use Rattle.drift.specs.Tallies.{Tallies};
 ghost use Rattle.drift.specs.Answer.{rowsOn, ClauseRow, ClauseJudged};
 
 // A count, or its negation, its text judged in the pairs of places from an offset on. Without drift it is joined to none.
@@ -31,6 +33,7 @@ fn leaf_judged(
     t: &mut [u32],
     w: &mut [u32; 88],
     bits: &[u32; 32],
+    tallies: &mut [u8; 4096],
     g: Ground,
     at: usize,
     p: bool,
@@ -39,15 +42,16 @@ fn leaf_judged(
     requires { ⌜ Lent g (now t) (now w) (now bits) ⌝ }
     requires { ⌜ ClauseNodes (now nodes) (now needs) k × (10 ≤ kindAt (now nodes) k) ⌝ }
     requires { ⌜ PairsFrom (g .marks) (g .h) at (getD (now needs) k 0) ⌝ }
+    requires { ⌜ Tallies g (now t) (now tallies) ⌝ }
     ensures { λ r. ⌜ Kept at (now (t .entry)) (now (t .exit)) × (length (now (w .exit)) ≡ 88) × Placed (g .marks) (g .h) at (r .at)
-        × (r .at + g .h ≤ length (now (t .exit))) ⌝ }
+        × (r .at + g .h ≤ length (now (t .exit))) × Tallies g (now (t .exit)) (now (tallies .exit)) ⌝ }
     ensures { λ r. ⌜ ((bears : ℕ → ℕ → ℕ → Bool) → Shown (g .marks) (g .carts) (g .h) bears (now (t .entry))
         → ClauseJudged (rowsOn (g .carts) (g .h) (g .l) bears) (g .d) (now (nodes .entry)) p k (now (t .exit)) r) ⌝ }
 {
     let percent = kind_at(nodes, k) == 11;
     let m = quota(p, threshold(number_at(nodes, k), percent, g.carts), g.carts);
     let from = inner_table(nodes, needs, t, g, at, first_at(nodes, k));
-    let row = quorum::count_row(t, from, p, m, g.carts, g.h, g.l, g.d, w, bits);
+    let row = count_told(t, from, p, m, w, bits, g, tallies);
     if g.d == 0 {
         return alone(row, g);
     }
@@ -67,6 +71,7 @@ fn clause_judged(
     t: &mut [u32],
     w: &mut [u32; 88],
     bits: &[u32; 32],
+    tallies: &mut [u8; 4096],
     g: Ground,
     at: usize,
     p: bool,
@@ -75,26 +80,49 @@ fn clause_judged(
     requires { ⌜ Lent g (now t) (now w) (now bits) ⌝ }
     requires { ⌜ ClauseNodes (now nodes) (now needs) k ⌝ }
     requires { ⌜ PairsFrom (g .marks) (g .h) at (getD (now needs) k 0) ⌝ }
+    requires { ⌜ Tallies g (now t) (now tallies) ⌝ }
     ensures { λ r. ⌜ Kept at (now (t .entry)) (now (t .exit)) × (length (now (w .exit)) ≡ 88) × Placed (g .marks) (g .h) at (r .at)
-        × (r .at + g .h ≤ length (now (t .exit))) ⌝ }
+        × (r .at + g .h ≤ length (now (t .exit))) × Tallies g (now (t .exit)) (now (tallies .exit)) ⌝ }
     ensures { λ r. ⌜ ((bears : ℕ → ℕ → ℕ → Bool) → Shown (g .marks) (g .carts) (g .h) bears (now (t .entry))
         → ClauseJudged (rowsOn (g .carts) (g .h) (g .l) bears) (g .d) (now (nodes .entry)) p k (now (t .exit)) r) ⌝ }
 {
     let kind = kind_at(nodes, k);
     if 9 < kind {
-        return leaf_judged(nodes, needs, t, w, bits, g, at, p, k);
+        return leaf_judged(nodes, needs, t, w, bits, tallies, g, at, p, k);
     }
     if kind < 2 {
         return alone(mask::constant(p, g.h), g);
     }
     if kind < 6 {
         let q = under(kind, p);
-        let a = clause_judged(nodes, needs, t, w, bits, g, at, q, first_at(nodes, k));
+        let a = clause_judged(
+            nodes,
+            needs,
+            t,
+            w,
+            bits,
+            tallies,
+            g,
+            at,
+            q,
+            first_at(nodes, k),
+        );
         return one_judged(kind, p, a, g);
     }
     let o = in_turn(nodes, needs, k);
-    let first = clause_judged(nodes, needs, t, w, bits, g, at, p, o.first);
-    let second = clause_judged(nodes, needs, t, w, bits, g, at + 2 * g.h, p, o.second);
+    let first = clause_judged(nodes, needs, t, w, bits, tallies, g, at, p, o.first);
+    let second = clause_judged(
+        nodes,
+        needs,
+        t,
+        w,
+        bits,
+        tallies,
+        g,
+        at + 2 * g.h,
+        p,
+        o.second,
+    );
     two_judged(kind, p, o.swapped, first, second, t, w, bits, g, at)
 }
 
@@ -105,16 +133,30 @@ pub fn clause_row(
     t: &mut [u32],
     w: &mut [u32; 88],
     bits: &[u32; 32],
+    tallies: &mut [u8; 4096],
     g: Ground,
     p: bool,
     k: usize,
 ) -> u64
     requires { ⌜ Lent g (now t) (now w) (now bits) ⌝ }
     requires { ⌜ ClauseNodes (now nodes) (now needs) k ⌝ }
-    ensures { λ _. ⌜ Kept (pairsAt (g .marks) (g .h)) (now (t .entry)) (now (t .exit)) × (length (now (w .exit)) ≡ 88) ⌝ }
+    requires { ⌜ Tallies g (now t) (now tallies) ⌝ }
+    ensures { λ _. ⌜ Kept (pairsAt (g .marks) (g .h)) (now (t .entry)) (now (t .exit)) × (length (now (w .exit)) ≡ 88)
+        × Tallies g (now (t .exit)) (now (tallies .exit)) ⌝ }
     ensures { λ r. ⌜ ((bears : ℕ → ℕ → ℕ → Bool) → Shown (g .marks) (g .carts) (g .h) bears (now (t .entry))
         → ClauseRow (rowsOn (g .carts) (g .h) (g .l) bears) (g .d) (now (nodes .entry)) p k r) ⌝ }
 {
-    let r = clause_judged(nodes, needs, t, w, bits, g, (g.marks + 2) * g.h, p, k);
+    let r = clause_judged(
+        nodes,
+        needs,
+        t,
+        w,
+        bits,
+        tallies,
+        g,
+        (g.marks + 2) * g.h,
+        p,
+        k,
+    );
     r.row
 }

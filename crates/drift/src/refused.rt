@@ -16,6 +16,7 @@ ghost use Rattle.table.specs.Table.{Kept};
 ghost use Rattle.table.specs.Layout.{pairsAt, Shown};
 ghost use Rattle.drift.specs.Tree.{Ordered, clauseTree};
 ghost use Rattle.drift.specs.Lent.{Lent, ClauseNodes};
+ghost use Rattle.drift.specs.Tallies.{Tallies};
 ghost use Rattle.drift.specs.Answer.{rowsOn};
 
 // Whether "next" stands outside the counts of node k's clause.
@@ -59,17 +60,30 @@ pub fn failing_step(
     t: &mut [u32],
     w: &mut [u32; 88],
     bits: &[u32; 32],
+    tallies: &mut [u8; 4096],
     g: Ground,
     k: usize,
 ) -> usize
     requires { ⌜ Lent g (now t) (now w) (now bits) ⌝ }
     requires { ⌜ ClauseNodes (now nodes) (now needs) k ⌝ }
-    ensures { λ _. ⌜ Kept (pairsAt (g .marks) (g .h)) (now (t .entry)) (now (t .exit)) × (length (now (w .exit)) ≡ 88) ⌝ }
+    requires { ⌜ Tallies g (now t) (now tallies) ⌝ }
+    ensures { λ _. ⌜ Kept (pairsAt (g .marks) (g .h)) (now (t .entry)) (now (t .exit)) × (length (now (w .exit)) ≡ 88)
+        × Tallies g (now (t .exit)) (now (tallies .exit)) ⌝ }
     ensures { λ r. ⌜ ((bears : ℕ → ℕ → ℕ → Bool) → Shown (g .marks) (g .carts) (g .h) bears (now (t .entry)) → (n : ℕ) → k < n
         → r ≡ failing (rowsOn (g .carts) (g .h) (g .l) bears) (g .d) (clauseTree (now (nodes .entry)) n k)) × (r ≤ 64) ⌝ }
 {
     if kind_at(nodes, k) == 5 {
-        let body = clause_row(nodes, needs, t, w, bits, g, true, first_at(nodes, k));
+        let body = clause_row(
+            nodes,
+            needs,
+            t,
+            w,
+            bits,
+            tallies,
+            g,
+            true,
+            first_at(nodes, k),
+        );
         lowest_off(body, g.h)
     } else {
         0

@@ -15,6 +15,7 @@ use Rattle.drift.specs.NodeTruth.{under-other, first-low}
 use Rattle.drift.specs.Order.{one-need}
 use Rattle.drift.specs.Placing.{pairs-end, placed-ends, fewer-pairs, pairs-behind}
 use Rattle.drift.specs.Lending.{still-lent}
+use Rattle.drift.specs.Tallying.{still-tallied}
 use Rattle.drift.specs.Needing.{operand-nodes}
 use Rattle.drift.specs.ClauseRows.{top-judged, neg-judged, one-judged, two-judged}
 use Rattle.drift.specs.Gathering.{alone-gathered, in-place}
@@ -35,14 +36,14 @@ use Rattle.mask.proofs.constant.Reads as constant-reads
 use Rattle.drift.proofs.clauses.+clause_judged.{statement}
 use Rattle.drift.proofs.clauses.+clause_judged.Tie.{close}
 
-abbrev μ-clause-judged : Measures 5 clause-judged-kinds.ps ℕ
-μ-clause-judged κs a = a .1 .1 .1 .1 .1 .1 .1 .1 .0
+abbrev μ-clause-judged : Measures 6 clause-judged-kinds.ps ℕ
+μ-clause-judged κs a = a .1 .1 .1 .1 .1 .1 .1 .1 .1 .0
 
-abbrev clause-judged-at : ℕ → In 5 clause-judged-kinds.ps
-clause-judged-at t = and 5 clause-judged-kinds.ps (is 5 clause-judged-kinds.ps μ-clause-judged t) clause-judged.Pre
+abbrev clause-judged-at : ℕ → In 6 clause-judged-kinds.ps
+clause-judged-at t = and 6 clause-judged-kinds.ps (is 6 clause-judged-kinds.ps μ-clause-judged t) clause-judged.Pre
 
-abbrev clause-judged-below : ℕ → In 5 clause-judged-kinds.ps
-clause-judged-below t = and 5 clause-judged-kinds.ps (falls 5 clause-judged-kinds.ps _<_ μ-clause-judged t) clause-judged.Pre
+abbrev clause-judged-below : ℕ → In 6 clause-judged-kinds.ps
+clause-judged-below t = and 6 clause-judged-kinds.ps (falls 6 clause-judged-kinds.ps _<_ μ-clause-judged t) clause-judged.Pre
 
 abbrev clause-judged-calls : ℕ → clause-judged-lts.Claims
 clause-judged-calls t = (
@@ -74,7 +75,7 @@ clause-judged-kind-at-requires t c κs = c .before .before .before .pre .1 .1 .0
 
 clause-judged-leaf-judged-requires : (t : ℕ) → clause-judged-lts.Need-leaf-judged-requires (clause-judged-calls t) (clause-judged-at t) clause-judged.Post
 clause-judged-leaf-judged-requires t c κs =
-    let tested = c .before .before in
+    let tested = c .before .before .before in
     let s = tested .before .before .before .before .before in
     let k = tested .before .kind-at .ensures in
     (s .pre .1 .0, ((s .pre .1 .1 .0, omega (arith, tested .if1 .taken)), s .pre .1 .1 .1))
@@ -101,7 +102,7 @@ clause-judged-returns-2 t c =
     let r = lent .range in
     let alone = c .alone .ensures in
     let ends = none-ends (g .marks) (g .h) in (
-      (kept-all (a .at) (a .t .now), lent .windows, inl (omega (arith, alone .at-none, ends)), omega (arith, alone .at-none, ends, lent .constants .room)),
+      (kept-all (a .at) (a .t .now), lent .windows, inl (omega (arith, alone .at-none, ends)), omega (arith, alone .at-none, ends, lent .constants .room), s .pre .1 .1 .1 .1),
       λ bears shown.
           let P = rowsOn (g .carts) (g .h) (g .l) bears in
           top-judged P (g .d) (a .nodes .now) (record { some = r .some; lap = r .lap }) (a .p) (a .k) _ _
@@ -115,21 +116,21 @@ clause-judged-under-requires : (t : ℕ) → clause-judged-lts.Need-under-requir
 clause-judged-under-requires t c κs = tt
 
 clause-judged-first-at-requires : (t : ℕ) → clause-judged-lts.Need-first-at-requires (clause-judged-calls t) (clause-judged-at t) clause-judged.Post
-clause-judged-first-at-requires t c κs = c .before .before .before .before .before .before .before .before .before .before .pre .1 .1 .0 .ordered
+clause-judged-first-at-requires t c κs = c .before .before .before .before .before .before .before .before .before .before .before .pre .1 .1 .0 .ordered
 
 -- an operator whose operand is below it and needs no more pairs
 operand : (t : ℕ) (c : clause-judged-lts.After-first-at (clause-judged-calls t) (clause-judged-at t) clause-judged.Post) →
-    let a = c .before .before .before .before .before .before .before .before .before .before .before .args in
+    let a = c .before .before .before .before .before .before .before .before .before .before .before .before .args in
     let needed : ℕ → ℕ = λ i. getD (a .needs .now) i 0 in
     let x = c .first-at .result in
     (x < a .k) × (needed x ≤ needed (a .k))
 operand t c =
-    let s = c .before .before .before .before .before .before .before .before .before .before .before in
+    let s = c .before .before .before .before .before .before .before .before .before .before .before .before in
     let a = s .args in
     let nodes = s .pre .1 .1 .0 in
-    let kind = c .before .before .before .before .before .before .before .kind-at in
-    let more : 2 ≤ kindAt (a .nodes .now) (a .k) = omega (arith, kind .ensures, c .before .before .before .before .before .if2 .left) in
-    let less : kindAt (a .nodes .now) (a .k) < 6 = omega (arith, kind .ensures, c .before .before .before .before .if3 .taken) in
+    let kind = c .before .before .before .before .before .before .before .before .kind-at in
+    let more : 2 ≤ kindAt (a .nodes .now) (a .k) = omega (arith, kind .ensures, c .before .before .before .before .before .before .if2 .left) in
+    let less : kindAt (a .nodes .now) (a .k) < 6 = omega (arith, kind .ensures, c .before .before .before .before .before .if3 .taken) in
     let e = c .first-at .ensures in (
       omega (arith, e, first-low (a .nodes .now) (a .k) (nodes .ordered) more),
       subst (λ (i : ℕ). getD (a .needs .now) i 0 ≤ getD (a .needs .now) (a .k) 0) (sym e)
@@ -138,16 +139,16 @@ operand t c =
 
 clause-judged-clause-judged-requires : (t : ℕ) → clause-judged-lts.Need-clause-judged-requires (clause-judged-calls t) (clause-judged-at t) clause-judged.Post
 clause-judged-clause-judged-requires t c κs =
-    let s = c .before .before .before .before .before .before .before .before .before .before .before in
+    let s = c .before .before .before .before .before .before .before .before .before .before .before .before in
     let a = s .args in
-    let room = s .pre .1 .1 .1 in
+    let room = s .pre .1 .1 .1 .0 in
     let x = operand t c in (
       omega (arith, s .pre .0, x .0),
       (
         s .pre .1 .0,
         (
           operand-nodes (a .nodes .now) (a .needs .now) (a .k) (s .pre .1 .1 .0) _ (x .0) (x .1),
-          (room .0, fewer-pairs (a .g .h) (a .at) _ _ _ (room .1) (x .1)),
+          ((room .0, fewer-pairs (a .g .h) (a .at) _ _ _ (room .1) (x .1)), s .pre .1 .1 .1 .1),
         ),
       ),
     )
@@ -155,7 +156,7 @@ clause-judged-clause-judged-requires t c κs =
 clause-judged-one-judged-requires : (t : ℕ) → clause-judged-lts.Need-one-judged-requires (clause-judged-calls t) (clause-judged-at t) clause-judged.Post
 clause-judged-one-judged-requires t c κs =
     let first = c .before .before in
-    let s = first .before .before .before .before .before .before .before .before .before .before .before .before in
+    let s = first .before .before .before .before .before .before .before .before .before .before .before .before .before in
     let a = first .clause-judged .ensures .1 _ (shown-itself _ _ _ (s .args .t .now)) .rows _ (le-refl _) in
     (s .pre .1 .0 .range, a .low)
 
@@ -166,18 +167,18 @@ clause-judged-returns-3 : (t : ℕ) → clause-judged-lts.Need-returns-3 (clause
 clause-judged-returns-3 t c =
     let first = c .before .before .before in
     let x = first .before .first-at in
-    let flag = first .before .before .before .before .under in
-    let kind = first .before .before .before .before .before .before .before .before .kind-at in
-    let s = first .before .before .before .before .before .before .before .before .before .before .before .before in
+    let flag = first .before .before .before .before .before .under in
+    let kind = first .before .before .before .before .before .before .before .before .before .kind-at in
+    let s = first .before .before .before .before .before .before .before .before .before .before .before .before .before in
     let a = s .args in
     let g = a .g in
     let lent = s .pre .1 .0 in
     let r = lent .range in
     let nodes = s .pre .1 .1 .0 in
-    let more : 2 ≤ kind .result = omega (arith, first .before .before .before .before .before .before .if2 .left) in
-    let less = first .before .before .before .before .before .if3 .taken in
+    let more : 2 ≤ kind .result = omega (arith, first .before .before .before .before .before .before .before .if2 .left) in
+    let less = first .before .before .before .before .before .before .if3 .taken in
     let judged = first .clause-judged .ensures in
-    let kept = kept-then _ _ (a .t .now) (a .t .now) _ (s .pre .1 .1 .1 .0) (kept-all _ (a .t .now)) (judged .0 .0) in
+    let kept = kept-then _ _ (a .t .now) (a .t .now) _ (s .pre .1 .1 .1 .0 .0) (kept-all _ (a .t .now)) (judged .0 .0) in
     let constants = kept-constants (g .marks) (g .h) (a .t .now) _ kept (lent .constants) in
     ⊎-elim
     (λ z.
@@ -194,7 +195,7 @@ clause-judged-returns-3 t c =
     let made = c .one-judged .ensures .1 n in
     let alone = made .2 in
     let ends = none-ends (g .marks) (g .h) in (
-      (judged .0 .0, judged .0 .1, inl (omega (arith, alone .at-none, ends)), omega (arith, alone .at-none, ends, constants .room)),
+      (judged .0 .0, judged .0 .1, inl (omega (arith, alone .at-none, ends)), omega (arith, alone .at-none, ends, constants .room), judged .0 .4),
       λ bears shown.
           let P = rowsOn (g .carts) (g .h) (g .l) bears in
           one-judged P (g .d) (a .nodes .now) (record { some = r .some; lap = r .lap }) (a .p) (a .k) _ _ (kind .ensures) (x .ensures) _ _
@@ -215,45 +216,45 @@ clause-judged-in-turn-requires t c κs =
 
 clause-judged-clause-judged-requires-2 : (t : ℕ) → clause-judged-lts.Need-clause-judged-requires-2 (clause-judged-calls t) (clause-judged-at t) clause-judged.Post
 clause-judged-clause-judged-requires-2 t c κs =
-    let s = c .before .before .before .before .before .before .before .before .before .before in
+    let s = c .before .before .before .before .before .before .before .before .before .before .before in
     let a = s .args in
-    let room = s .pre .1 .1 .1 in
-    let turn = c .before .before .in-turn .ensures in (
+    let room = s .pre .1 .1 .1 .0 in
+    let turn = c .before .before .before .in-turn .ensures in (
       omega (arith, s .pre .0, turn .below),
       (
         s .pre .1 .0,
         (
           operand-nodes (a .nodes .now) (a .needs .now) (a .k) (s .pre .1 .1 .0) _ (turn .below .0) (turn .first-need),
-          (room .0, fewer-pairs (a .g .h) (a .at) _ _ _ (room .1) (turn .first-need)),
+          ((room .0, fewer-pairs (a .g .h) (a .at) _ _ _ (room .1) (turn .first-need)), s .pre .1 .1 .1 .1),
         ),
       ),
     )
 
 clause-judged-mul-clause-judged : (t : ℕ) → clause-judged-lts.Need-mul-clause-judged (clause-judged-calls t) (clause-judged-at t) clause-judged.Post
 clause-judged-mul-clause-judged t c =
-    let s = c .before .before .before .before .before .before .before .before .before .before .before .before .before .before .before .before in
+    let s = c .before .before .before .before .before .before .before .before .before .before .before .before .before .before .before .before .before .before in
     omega (arith, s .pre .1 .0 .range .steps)
 
 clause-judged-add-clause-judged : (t : ℕ) → clause-judged-lts.Need-add-clause-judged (clause-judged-calls t) (clause-judged-at t) clause-judged.Post
 clause-judged-add-clause-judged t c =
-    let s = c .before .before .before .before .before .before .before .before .before .before .before .before .before .before .before .before in
-    omega (arith, s .pre .1 .0 .range .steps, pairs-end (s .args .g) (s .pre .1 .0 .range), s .pre .1 .1 .1 .1)
+    let s = c .before .before .before .before .before .before .before .before .before .before .before .before .before .before .before .before .before .before in
+    omega (arith, s .pre .1 .0 .range .steps, pairs-end (s .args .g) (s .pre .1 .0 .range), s .pre .1 .1 .1 .0 .1)
 
 clause-judged-clause-judged-requires-3 : (t : ℕ) → clause-judged-lts.Need-clause-judged-requires-3 (clause-judged-calls t) (clause-judged-at t) clause-judged.Post
 clause-judged-clause-judged-requires-3 t c κs =
-    let s = c .before .before .before .before .before .before .before .before .before .before .before .before .before .before .before .before in
+    let s = c .before .before .before .before .before .before .before .before .before .before .before .before .before .before .before .before .before .before in
     let a = s .args in
     let g = a .g in
-    let room = s .pre .1 .1 .1 in
-    let turn = c .before .before .before .before .before .before .before .before .in-turn .ensures in
-    let first = c .before .before .before .before .before .clause-judged2 .ensures .0 in
+    let room = s .pre .1 .1 .1 .0 in
+    let turn = c .before .before .before .before .before .before .before .before .before .before .in-turn .ensures in
+    let first = c .before .before .before .before .before .before .clause-judged2 .ensures .0 in
     let kept = kept-then _ _ (a .t .now) (a .t .now) _ (room .0) (kept-all _ (a .t .now)) (first .0) in (
       omega (arith, s .pre .0, turn .below),
       (
         still-lent g (a .t .now) (a .w .now) (a .bits .now) _ _ (s .pre .1 .0) kept (first .1),
         (
           operand-nodes (a .nodes .now) (a .needs .now) (a .k) (s .pre .1 .1 .0) _ (turn .below .1) (omega (arith, turn .second-need)),
-          (omega (arith, room .0), omega (arith, pairs-behind (g .h) (a .at) _ _ _ (room .1) (turn .second-need))),
+          ((omega (arith, room .0), omega (arith, pairs-behind (g .h) (a .at) _ _ _ (room .1) (turn .second-need))), first .4),
         ),
       ),
     )
@@ -261,13 +262,13 @@ clause-judged-clause-judged-requires-3 t c κs =
 clause-judged-two-judged-requires : (t : ℕ) → clause-judged-lts.Need-two-judged-requires (clause-judged-calls t) (clause-judged-at t) clause-judged.Post
 clause-judged-two-judged-requires t c κs =
     let second = c .before .before .before .before in
-    let first = second .before .before .before .before .before .before in
-    let turn = first .before .before .before .in-turn .ensures in
-    let s = first .before .before .before .before .before .before .before .before .before .before .before in
+    let first = second .before .before .before .before .before .before .before in
+    let turn = first .before .before .before .before .in-turn .ensures in
+    let s = first .before .before .before .before .before .before .before .before .before .before .before .before in
     let a = s .args in
     let g = a .g in
     let lent = s .pre .1 .0 in
-    let room = s .pre .1 .1 .1 in
+    let room = s .pre .1 .1 .1 .0 in
     let one = first .clause-judged2 .ensures in
     let two = second .clause-judged3 .ensures in
     let kept = kept-then _ _ (a .t .now) (a .t .now) _ (room .0) (kept-all _ (a .t .now)) (one .0 .0) in
@@ -293,13 +294,13 @@ clause-judged-two-judged-requires t c κs =
 clause-judged-same-length-3 : (t : ℕ) → clause-judged-lts.Need-same-length-3 (clause-judged-calls t) (clause-judged-at t) clause-judged.Post
 clause-judged-same-length-3 t c =
     c .before .before .two-judged .ensures .0 .0 .size ∙ c .before .before .before .before .before .before .before .clause-judged3 .ensures .0 .0 .size
-    ∙ c .before .before .before .before .before .before .before .before .before .before .before .before .before .clause-judged2 .ensures .0 .0 .size
+    ∙ c .before .before .before .before .before .before .before .before .before .before .before .before .before .before .clause-judged2 .ensures .0 .0 .size
 
 clause-judged-returns-4 : (t : ℕ) → clause-judged-lts.Need-returns-4 (clause-judged-calls t) (clause-judged-at t) clause-judged.Post
 clause-judged-returns-4 t c =
     let second = c .before .before .before .before .before .before .before in
-    let first = second .before .before .before .before .before .before in
-    let order = first .before .before .before in
+    let first = second .before .before .before .before .before .before .before in
+    let order = first .before .before .before .before in
     let turn = order .in-turn .ensures in
     let kind = order .before .before .before .before .kind-at in
     let s = order .before .before .before .before .before .before .before .before in
@@ -307,13 +308,14 @@ clause-judged-returns-4 t c =
     let g = a .g in
     let r = s .pre .1 .0 .range in
     let nodes = s .pre .1 .1 .0 in
-    let room = s .pre .1 .1 .1 in
+    let room = s .pre .1 .1 .1 .0 in
     let one = first .clause-judged2 .ensures in
     let two = second .clause-judged3 .ensures in
     let made = c .before .before .two-judged .ensures in
     let kept = kept-then _ _ (a .t .now) (a .t .now) _ (room .0) (kept-all _ (a .t .now)) (one .0 .0) in
+    let tallied = still-tallied g r _ _ _ (kept-then _ (a .at) _ _ _ (room .0) (kept-all _ _) (made .0 .0)) (two .0 .4) in
     let both = kept-then (a .at) _ (a .t .now) _ _ (omega arith) (one .0 .0) (two .0 .0) in (
-      (kept-then (a .at) (a .at) (a .t .now) _ _ (le-refl (a .at)) both (made .0 .0), made .0 .1, made .0 .2, made .0 .3),
+      (kept-then (a .at) (a .at) (a .t .now) _ _ (le-refl (a .at)) both (made .0 .0), made .0 .1, made .0 .2, made .0 .3, tallied),
       λ bears shown.
           let P = rowsOn (g .carts) (g .h) (g .l) bears in
           let proper : Proper P = record { some = r .some; lap = r .lap } in

@@ -11,8 +11,8 @@ use Rattle.cltl.specs.Threshold.{quota}
 use Rattle.cltl.specs.Meaning.{Proper}
 use Rattle.cltl.specs.Rules.{asked, text as text-of}
 use Rattle.mask.specs.Mask.{signed}
-use Rattle.table.specs.Table.{told}
-use Rattle.table.specs.Layout.{Shown}
+use Rattle.table.specs.Table.{told, Kept}
+use Rattle.table.specs.Layout.{pairsAt, Shown}
 use Rattle.table.specs.Keeping.{none-ends, kept-all, kept-then, kept-constants}
 use Rattle.drift.specs.declared.Judged.{Judged}
 use Rattle.drift.specs.Tree.{innerTree}
@@ -21,6 +21,8 @@ use Rattle.drift.specs.NodeTruth.{count-low}
 use Rattle.drift.specs.Needing.{up-to}
 use Rattle.drift.specs.Order.{count-need}
 use Rattle.drift.specs.Placing.{fewer-pairs}
+use Rattle.drift.specs.Lending.{still-lent}
+use Rattle.drift.specs.Tallying.{still-tallied}
 use Rattle.drift.specs.InnerTables.{inner-signed, count-signed}
 use Rattle.drift.specs.ClauseRows.{count-judged}
 use Rattle.drift.specs.Gathering.{alone-gathered, count-gathered}
@@ -62,7 +64,7 @@ inner-table-requires c κs =
     let s = c .before .before .before .before .before .before .before .before .before in
     let a = s .args in
     let n = s .pre .1 .0 .0 in
-    let room = s .pre .1 .1 in
+    let room = s .pre .1 .1 .0 in
     let x = text-below c in (
       (s .pre .0 .range, s .pre .0 .constants),
       (
@@ -71,43 +73,55 @@ inner-table-requires c κs =
       ),
     )
 
-count-row-requires : tie.Need-count-row-requires
-count-row-requires c κs =
-    let s = c .before .before .before .before .before .before .before .before .before .before .before .before .before .before in
-    let r = s .pre .0 .range in
-    ((r .lap, r .steps, r .drift, r .few), (c .before .before .before .before .inner-table .ensures .0 .2, (s .pre .0 .windows, s .pre .0 .bits)))
+-- the marks' tables are as they were
+kept : (c : tie.After-inner-table) →
+    let a = c .before .before .before .before .before .before .before .before .before .before .args in
+    Kept (pairsAt (a .g .marks) (a .g .h)) (a .t .now) (c .inner-table .last .1 .1 .0)
+kept c =
+    let s = c .before .before .before .before .before .before .before .before .before .before in
+    kept-then _ (s .args .at) (s .args .t .now) (s .args .t .now) _ (s .pre .1 .1 .0 .0) (kept-all _ (s .args .t .now)) (c .inner-table .ensures .0 .0)
+
+count-told-requires : tie.Need-count-told-requires
+count-told-requires c κs =
+    let text = c .before .before .before .before .before in
+    let s = text .before .before .before .before .before .before .before .before .before .before in
+    let a = s .args in
+    let same = kept text in (
+      still-lent (a .g) (a .t .now) (a .w .now) (a .bits .now) _ _ (s .pre .0) same (s .pre .0 .windows),
+      (still-tallied (a .g) (s .pre .0 .range) (a .t .now) _ (a .tallies .now) same (s .pre .1 .1 .1), text .inner-table .ensures .0 .2),
+    )
 
 -- the count that node k stands for
-abbrev this : tie.After-count-row → Bool × Counted
+abbrev this : tie.After-count-told → Bool × Counted
 this c =
-    let text = c .before .before .before .before .before in
+    let text = c .before .before .before .before .before .before in
     let a = text .before .before .before .before .before .before .before .before .before .before .args in (
       a .p,
       counted (innerTree (a .nodes .now) (length (a .nodes .now)) (text .before .first-at .result))
           (text .before .before .before .before .before .number-at .result) (eqb (text .before .before .before .before .before .before .kind-at .result) 11),
     )
 
-threshold-is : (c : tie.After-count-row) →
-    let text = c .before .before .before .before .before in
+threshold-is : (c : tie.After-count-told) →
+    let text = c .before .before .before .before .before .before in
     let a = text .before .before .before .before .before .before .before .before .before .before .args in
     (bears : ℕ → ℕ → ℕ → Bool) → text .before .before .before .quota .result ≡ asked (rowsOn (a .g .carts) (a .g .h) (a .g .l) bears) (this c)
 threshold-is c bears =
-    let text = c .before .before .before .before .before in
+    let text = c .before .before .before .before .before .before in
     let a = text .before .before .before .before .before .before .before .before .before .before .args in
     text .before .before .before .quota .ensures ∙ ap (λ (n : ℕ). quota (a .p) n (a .g .carts)) (text .before .before .before .before .threshold .ensures)
 
 -- its row is the count's, with what there is to join
-judged : (c : tie.After-count-row) →
-    let text = c .before .before .before .before .before in
+judged : (c : tie.After-count-told) →
+    let text = c .before .before .before .before .before .before in
     let a = text .before .before .before .before .before .before .before .before .before .before .args in
     let g = a .g in
     let after = text .inner-table .last .1 .1 .0 in
     (bears : ℕ → ℕ → ℕ → Bool) → let P = rowsOn (g .carts) (g .h) (g .l) bears in
-    Shown (g .marks) (g .carts) (g .h) bears (a .t .now) → (r : Judged) → r .row ≡ c .count-row .result
+    Shown (g .marks) (g .carts) (g .h) bears (a .t .now) → (r : Judged) → r .row ≡ c .count-told .result
     → (((i s : ℕ) → i < g .carts → s < g .h → signed (a .p) (told after (text .inner-table .result) i s) ≡ text-of P i (this c) s)
     → Gathered P (cond (eqb (g .d) 0) [] (this c ∷ [])) after r) → ClauseJudged P (g .d) (a .nodes .now) (a .p) (a .k) after r
 judged c bears shown r e f =
-    let text = c .before .before .before .before .before in
+    let text = c .before .before .before .before .before .before in
     let s = text .before .before .before .before .before .before .before .before .before .before in
     let a = s .args in
     let g = a .g in
@@ -121,29 +135,34 @@ judged c bears shown r e f =
     count-judged P (g .d) (a .nodes .now) proper (a .p) (a .k) _ _ (kind .ensures) (x .ensures) _ r _
     (text .before .before .before .before .before .number-at .ensures .0)
     (omega (arith, kind .ensures, s .pre .1 .0 .1))
-    (rw (e, sym (threshold-is c bears)) (count-signed P proper (a .nodes .now) _ (x .result) _ (g .d) _ (a .p) _ low inner (c .count-row .ensures .1)))
+    (rw (e, sym (threshold-is c bears)) (count-signed P proper (a .nodes .now) _ (x .result) _ (g .d) _ (a .p) _ low inner (c .count-told .ensures .1)))
     (f (λ i j q u. inner-signed P proper (a .nodes .now) _ (x .result) _ inner (a .p) (length (a .nodes .now)) low i q j u))
 
 alone-requires : tie.Need-alone-requires
 alone-requires c κs =
-    c .before .before .before .before .before .before .before .before .before .before .before .before .before .before .before .before .before .pre .0 .range
+    c .before .before .before .before .before .before .before .before .before .before .before .before .before .before .before .before .before .before .pre .0 .range
 
 same-length : tie.Need-same-length
-same-length c = c .before .before .before .before .before .before .before .before .inner-table .ensures .0 .0 .size
+same-length c = c .before .before .before .before .before .before .before .before .before .inner-table .ensures .0 .0 .size
 
 -- without drift nothing is joined
 returns : tie.Need-returns
 returns c =
     let row = c .before .before .before in
-    let text = row .before .before .before .before .before in
+    let text = row .before .before .before .before .before .before in
     let s = text .before .before .before .before .before .before .before .before .before .before in
     let g = s .args .g in
     let made = text .inner-table .ensures .0 in
     let alone = c .alone .ensures in
     let ends = none-ends (g .marks) (g .h) in
-    let kept = kept-then _ (s .args .at) (s .args .t .now) (s .args .t .now) _ (s .pre .1 .1 .0) (kept-all _ (s .args .t .now)) (made .0) in
-    let constants = kept-constants (g .marks) (g .h) (s .args .t .now) _ kept (s .pre .0 .constants) in (
-      (made .0, row .count-row .ensures .0, inl (omega (arith, alone .at-none, ends)), omega (arith, alone .at-none, ends, constants .room)),
+    let constants = kept-constants (g .marks) (g .h) (s .args .t .now) _ (kept text) (s .pre .0 .constants) in (
+      (
+        made .0,
+        row .count-told .ensures .0 .0,
+        inl (omega (arith, alone .at-none, ends)),
+        omega (arith, alone .at-none, ends, constants .room),
+        row .count-told .ensures .0 .1,
+      ),
       λ bears shown.
           let P = rowsOn (g .carts) (g .h) (g .l) bears in
           judged row bears shown (c .alone .result) (alone .row-is)
@@ -154,16 +173,16 @@ slack-of-requires : tie.Need-slack-of-requires
 slack-of-requires c κs = search needs
 
 same-length-2 : tie.Need-same-length-2
-same-length-2 c = c .before .before .before .before .before .before .before .before .inner-table .ensures .0 .0 .size
+same-length-2 c = c .before .before .before .before .before .before .before .before .before .inner-table .ensures .0 .0 .size
 
 returns-2 : tie.Need-returns-2
 returns-2 c =
     let row = c .before .before .before in
-    let text = row .before .before .before .before .before in
+    let text = row .before .before .before .before .before .before in
     let s = text .before .before .before .before .before .before .before .before .before .before in
     let g = s .args .g in
     let made = text .inner-table .ensures .0 in (
-      (made .0, row .count-row .ensures .0, made .1, made .2),
+      (made .0, row .count-told .ensures .0 .0, made .1, made .2, row .count-told .ensures .0 .1),
       λ bears shown.
           let P = rowsOn (g .carts) (g .h) (g .l) bears in
           judged row bears shown _ refl
@@ -182,7 +201,7 @@ leaf-judged-spec =
     quota-requires
     first-at-requires
     inner-table-requires
-    count-row-requires
+    count-told-requires
     alone-requires
     same-length
     returns
