@@ -20,6 +20,7 @@ ghost use Rattle.drift.specs.Tree.{Ordered, clauseTree};
 ghost use Rattle.drift.specs.Need.{SixPairsDo};
 ghost use Rattle.drift.specs.Places.{pairsEnd};
 ghost use Rattle.drift.specs.Lent.{Lent};
+ghost use Rattle.drift.specs.Tallies.{Tallies};
 ghost use Rattle.drift.specs.Answer.{rowsOn};
 ghost use Rattle.floor.specs.Promises.{AcceptedFloor};
 ghost use Rattle.plan.specs.Plan.{placeOnStep, heldNumbers};
@@ -44,13 +45,16 @@ fn first_found(
     t: &mut [u32],
     w: &mut [u32; 88],
     bits: &[u32; 32],
+    tallies: &mut [u8; 4096],
     g: Ground,
     k: usize,
     n: u32,
 ) -> Verdict
     requires { ⌜ Lent g (now t) (now w) (now bits) ⌝ }
     requires { ⌜ Ordered (now nodes) (k + 1) × (k < 128) × SixPairsDo (now nodes) k ⌝ }
-    ensures { λ _. ⌜ Kept (pairsAt (g .marks) (g .h)) (now (t .entry)) (now (t .exit)) × (length (now (w .exit)) ≡ 88) ⌝ }
+    requires { ⌜ Tallies g (now t) (now tallies) ⌝ }
+    ensures { λ _. ⌜ Kept (pairsAt (g .marks) (g .h)) (now (t .entry)) (now (t .exit)) × (length (now (w .exit)) ≡ 88)
+        × Tallies g (now (t .exit)) (now (tallies .exit)) ⌝ }
     ensures { λ v. ⌜ ((bears : ℕ → ℕ → ℕ → Bool) → Shown (g .marks) (g .carts) (g .h) bears (now (t .entry)) → (m : ℕ) → k < m → v ≡ andThen found
         (clauseVerdict (rowsOn (g .carts) (g .h) (g .l) bears) (g .d) n (clauseTree (now (nodes .entry)) m k))) ⌝ }
 {
@@ -59,11 +63,11 @@ fn first_found(
     }
     let mut needs = [0u8; 128];
     drift::fill_needs(nodes, k + 1, &mut needs);
-    let row = drift::clause_row(nodes, &needs, t, w, bits, g, true, k);
+    let row = drift::clause_row(nodes, &needs, t, w, bits, tallies, g, true, k);
     if row % 2 == 1 {
         return Verdict::Accepted;
     }
-    let step = drift::failing_step(nodes, &needs, t, w, bits, g, k);
+    let step = drift::failing_step(nodes, &needs, t, w, bits, tallies, g, k);
     Verdict::Rules(refusal::refuse(17, n, step as u32))
 }
 
@@ -97,6 +101,7 @@ pub fn judge_lines(
     let mut w = [0u32; 88];
     let mut bits = [0u32; 32];
     quorum::fill_bits(&mut bits);
+    let mut tallies = [255u8; 4096];
     let mut found = Verdict::Accepted;
     let mut at = 0;
     let mut n = 0;
@@ -106,7 +111,7 @@ pub fn judge_lines(
         if looks_on(&nodes, last, h.drift) {
             return Verdict::Rules(refusal::refuse(16, n, 0));
         }
-        found = first_found(found, &nodes, t, &mut w, &bits, g, last, n);
+        found = first_found(found, &nodes, t, &mut w, &bits, &mut tallies, g, last, n);
         at = r.at;
         n += 1;
     }

@@ -22,27 +22,28 @@ returns : tie.Need-returns
 returns c =
     let s = c .before .before .before .before in
     let a = s .args in (
-      (kept-all _ (a .t .now), s .pre .0 .windows),
+      (kept-all _ (a .t .now), s .pre .0 .windows, s .pre .1 .1),
       λ bears shown m q. sym (stops (a .found) _ (sym (c .before .accepts .ensures) ∙ not-is _ true (c .if1 .taken))),
     )
 
 add-fill-needs : tie.Need-add-fill-needs
-add-fill-needs c = omega (arith, c .before .before .before .before .pre .1 .1)
+add-fill-needs c = omega (arith, c .before .before .before .before .pre .1 .0 .1)
 
 slice-aggregate-fill-needs : tie.Need-slice-aggregate-fill-needs
 slice-aggregate-fill-needs c = search needs
 
 fill-needs-requires : tie.Need-fill-needs-requires
-fill-needs-requires c κs = let s = c .before .before .before .before .before in let few = s .pre .1 .1 in (s .pre .1 .0, omega arith, omega arith)
+fill-needs-requires c κs = let s = c .before .before .before .before .before in let few = s .pre .1 .0 .1 in (s .pre .1 .0 .0, omega arith, omega arith)
 
 slice-aggregate-clause-row : tie.Need-slice-aggregate-clause-row
 slice-aggregate-clause-row c = sym (c .before .before .fill-needs .ensures .1)
 
 clause-row-requires : tie.Need-clause-row-requires
 clause-row-requires c κs =
-    let filled = c .before .before .before .before in
+    let filled = c .before .before .before .before .before in
     let s = filled .before .before .before .before .before .before in
-    (s .pre .0, record { ordered = s .pre .1 .0; needed = filled .fill-needs .ensures .0; few = s .pre .1 .2 _ (filled .fill-needs .ensures .0) })
+    let needed = filled .fill-needs .ensures .0 in
+    (s .pre .0, (record { ordered = s .pre .1 .0 .0; needed = needed; few = s .pre .1 .0 .2 _ needed }, s .pre .1 .1))
 
 same-length : tie.Need-same-length
 same-length c = c .before .before .before .clause-row .ensures .0 .0 .size
@@ -51,7 +52,7 @@ returns-2 : tie.Need-returns-2
 unfolding rules
 returns-2 c =
     let judged = c .before .before .before in
-    let begun = judged .before .before .before .before .before .before .before in
+    let begun = judged .before .before .before .before .before .before .before .before in
     let s = begun .before .before .before .before in
     let a = s .args in
     let g = a .g in
@@ -63,17 +64,18 @@ returns-2 c =
     )
 
 slice-aggregate-failing-step : tie.Need-slice-aggregate-failing-step
-slice-aggregate-failing-step c = sym (c .before .before .before .before .before .before .before .before .before .fill-needs .ensures .1)
+slice-aggregate-failing-step c = sym (c .before .before .before .before .before .before .before .before .before .before .fill-needs .ensures .1)
 
 failing-step-requires : tie.Need-failing-step-requires
 failing-step-requires c κs =
-    let judged = c .before .before .before .before .before .before in
-    let filled = judged .before .before .before .before .before in
+    let judged = c .before .before .before .before .before .before .before in
+    let filled = judged .before .before .before .before .before .before in
     let s = filled .before .before .before .before .before .before in
     let a = s .args in
+    let needed = filled .fill-needs .ensures .0 in
     let r = judged .clause-row .ensures .0 in (
       still-lent (a .g) (a .t .now) (a .w .now) (a .bits .now) _ _ (s .pre .0) (r .0) (r .1),
-      record { ordered = s .pre .1 .0; needed = filled .fill-needs .ensures .0; few = s .pre .1 .2 _ (filled .fill-needs .ensures .0) },
+      (record { ordered = s .pre .1 .0 .0; needed = needed; few = s .pre .1 .0 .2 _ needed }, r .2),
     )
 
 cast-refuse : tie.Need-cast-refuse
@@ -84,22 +86,22 @@ refuse-requires c κs = search needs
 
 same-length-2 : tie.Need-same-length-2
 same-length-2 c = c .before .before .before .failing-step .ensures .0 .0 .size ∙
-    c .before .before .before .before .before .before .before .before .before .before .clause-row .ensures .0 .0 .size
+    c .before .before .before .before .before .before .before .before .before .before .before .clause-row .ensures .0 .0 .size
 
 returns-3 : tie.Need-returns-3
 unfolding rules
 returns-3 c =
-    let judged = c .before .before .before .before .before .before .before .before .before .before in
-    let begun = judged .before .before .before .before .before .before .before in
+    let judged = c .before .before .before .before .before .before .before .before .before .before .before in
+    let begun = judged .before .before .before .before .before .before .before .before in
     let s = begun .before .before .before .before in
     let a = s .args in
     let g = a .g in
     let r = judged .clause-row .ensures in
     let f = c .before .before .before .failing-step in (
-      (kept-then _ _ (a .t .now) _ _ (le-refl _) (r .0 .0) (f .ensures .0 .0), f .ensures .0 .1),
+      (kept-then _ _ (a .t .now) _ _ (le-refl _) (r .0 .0) (f .ensures .0 .0), f .ensures .0 .1, f .ensures .0 .2),
       λ bears shown m q. ap AboutRules (c .refuse .ensures)
           ∙ clause-fails (rowsOn (g .carts) (g .h) (g .l) bears) (g .d) (a .n) (clauseTree (a .nodes .now) m (a .k)) (judged .clause-row .result)
-          (omega (arith, s .pre .0 .range .lap)) (r .1 bears shown m q) (c .before .before .before .before .before .before .before .if2 .left) (f .result)
+          (omega (arith, s .pre .0 .range .lap)) (r .1 bears shown m q) (c .before .before .before .before .before .before .before .before .if2 .left) (f .result)
           (f .ensures .1 .0 bears (kept-shown (g .marks) (g .h) (a .t .now) _ (r .0 .0) (g .carts) bears shown) m q)
           ∙ sym (goes-on (a .found) _ (sym (begun .before .accepts .ensures) ∙ not-is _ false (begun .if1 .left))),
     )

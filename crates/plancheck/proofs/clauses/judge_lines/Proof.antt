@@ -16,7 +16,10 @@ use Rattle.cltl.specs.Rules.{hasNext}
 use Rattle.table.specs.Layout.{Shown}
 use Rattle.table.specs.Keeping.{kept-shown}
 use Rattle.drift.specs.Answer.{rowsOn}
+use Rattle.drift.specs.Ground.{InRange}
 use Rattle.drift.specs.Lent.{Lent}
+use Rattle.drift.specs.Tallies.{Tallies}
+use Rattle.drift.specs.Tallying.{no-tallies}
 use Rattle.drift.specs.Lending.{still-lent}
 use Rattle.drift.specs.Placing.{six-end}
 use Rattle.plancheck.specs.Lines.{accepted-short}
@@ -37,12 +40,12 @@ abbrev rows : List ℕ → ℕ → Head → List ℕ → Rows
 rows floor carts h block = rowsOn carts (h .steps) (h .stem) (bears floor carts h block)
 
 abbrev Inv-loop : tie.InvT-loop
-Inv-loop floor h block rules marks t₀ g nodes₀ w₀ bits found₀ at₀ n₀ t nodes w found at n =
+Inv-loop floor h block rules marks t₀ g nodes₀ w₀ bits tallies₀ found₀ at₀ n₀ t nodes w tallies found at n =
     (length nodes ≡ 512) × (length t ≡ length t₀) × Shown marks (g .carts) (h .steps) (bears floor (g .carts) h block) t
-    × Going (rows floor (g .carts) h block) (h .drift) rules at n found × Lent g t w bits
+    × Going (rows floor (g .carts) h block) (h .drift) rules at n found × Lent g t w bits × Tallies g t tallies
 
 abbrev μ-loop : tie.MeasureT-loop
-μ-loop floor h block rules marks t₀ g nodes₀ w₀ bits found₀ at₀ n₀ t nodes w found at n = 32 - n
+μ-loop floor h block rules marks t₀ g nodes₀ w₀ bits tallies₀ found₀ at₀ n₀ t nodes w tallies found at n = 32 - n
 
 -- the line that was read where one was left
 line-read : (c : tie.After-read-clause Inv-loop μ-loop) →
@@ -86,18 +89,21 @@ loop-holds c =
     let a = s .args in
     let w = s .pre .0 in
     let r = s .pre .1 .0 .0 in
-    let b = s .pre .1 .1 .1 .1 in (
+    let b = s .pre .1 .1 .1 .1 in
+    let range : InRange (record { carts = a .f .carts; h = a .h .steps; l = a .h .stem; d = a .h .drift; marks = a .marks }) =
+    record { some = w .valid .some-cart; few = w .valid .few-carts; lap = r .stem; steps = r .steps; drift = r .drift; marks = b .0 .few } in (
       refl,
       refl,
       shown (a .floor .now) (a .f) w (a .h) (a .block .now) (s .pre .1 .1 .0) (a .marks) _ _ filled,
       going-start _ (a .h .drift) (a .rules .now) (s .pre .1 .1 .1 .0),
       record {
-        range = record { some = w .valid .some-cart; few = w .valid .few-carts; lap = r .stem; steps = r .steps; drift = r .drift; marks = b .0 .few };
+        range = range;
         constants = filled .constants;
         pairs = omega (arith, b .1, filled .kept);
         windows = refl;
         bits = c .fill-bits .ensures;
       },
+      no-tallies _ range _,
     )
 
 slice-aggregate-read-clause : tie.Need-slice-aggregate-read-clause Inv-loop μ-loop
@@ -141,28 +147,28 @@ slice-aggregate-first-found c = sym (line-read (c .before .before .before .befor
 
 first-found-requires : tie.Need-first-found-requires Inv-loop μ-loop
 first-found-requires c κs =
-    let read = c .before .before .before .before .before .before .before .before .before in
+    let read = c .before .before .before .before .before .before .before .before .before .before in
     let v = read .before .before .before .loop in
     let j = line-read read .judge in
-    (v .inv .4, (j .ordered, omega (arith, j .ordered .room, j .size, j .some), j .small))
+    (v .inv .4, ((j .ordered, omega (arith, j .ordered .room, j .size, j .some), j .small), v .inv .5))
 
 add-n : tie.Need-add-n Inv-loop μ-loop
 add-n c =
-    let read = c .before .before .before .before .before .before .before .before .before .before .before .before in
+    let read = c .before .before .before .before .before .before .before .before .before .before .before .before .before in
     let v = read .before .before .before .loop in
     let w = line-read read in
     omega (arith, w .line .more)
 
 loop-less : tie.Need-loop-less Inv-loop μ-loop
 loop-less c =
-    let read = c .before .before .before .before .before .before .before .before .before .before .before .before in
+    let read = c .before .before .before .before .before .before .before .before .before .before .before .before .before in
     let v = read .before .before .before .loop in
     let w = line-read read in
     omega (arith, w .line .more)
 
 loop-again : tie.Need-loop-again Inv-loop μ-loop
 loop-again c =
-    let read = c .before .before .before .before .before .before .before .before .before .before .before .before in
+    let read = c .before .before .before .before .before .before .before .before .before .before .before .before .before in
     let v = read .before .before .before .loop in
     let a = read .before .before .before .before .before .before .before .before .before .before .before .before .before .before .args in
     let w = line-read read in
@@ -172,8 +178,8 @@ loop-again c =
     let found = c .before .before .first-found in
     let f = found .ensures in
     let e : false ≡ cond (eqb d 0) false (hasNext (w .line .clause)) =
-    sym (c .before .before .before .before .before .before .before .if1 .left) ∙
-    c .before .before .before .before .before .before .before .before .looks-on .ensures _ (le-refl _) ∙ ap
+    sym (c .before .before .before .before .before .before .before .before .if1 .left) ∙
+    c .before .before .before .before .before .before .before .before .before .looks-on .ensures _ (le-refl _) ∙ ap
     (λ (x : Clause). cond (eqb d 0) false (hasNext x)) tree in (
       w .judge .size,
       f .0 .0 .size ∙ v .inv .1,
@@ -181,6 +187,7 @@ loop-again c =
       going-on P d (a .rules .now) (v .nodes) _ _ (v .at) (v .n) (v .found) (v .inv .3) (w .line) e (found .result)
           (f .1 _ (v .inv .2) _ (le-refl _) ∙ ap (λ (x : Clause). andThen (v .found) (clauseVerdict P d (v .n) x)) tree),
       still-lent _ (v .t) (v .w) _ _ _ (v .inv .4) (f .0 .0) (f .0 .1),
+      f .0 .2,
     )
 
 same-length-2 : tie.Need-same-length-2 Inv-loop μ-loop
