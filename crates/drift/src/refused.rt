@@ -60,7 +60,7 @@ pub fn failing_step(
     t: &mut [u32],
     w: &mut [u32; 88],
     bits: &[u32; 32],
-    tallies: &mut [u8; 4096],
+    tallies: &mut [u8; 2048],
     g: Ground,
     k: usize,
 ) -> usize

@@ -1,5 +1,6 @@
 // Most counts are over a single mark: how many carts have it, or have it not, all along each window is made once a check and kept.
 use crate::Ground;
+use crate::places::chosen;
 ghost use mathlib.Core.Path.{_≡_};
 ghost use mathlib.Core.Logic.{_⊎_};
 ghost use Prim.Native.Nat.{_+_, _≤_};
@@ -11,19 +12,23 @@ ghost use Rattle.drift.specs.Ground.{InRange};
 ghost use Rattle.drift.specs.Lent.{Lent};
 ghost use Rattle.drift.specs.Tallies.{KeptAt, TalliesOf, Tallies};
 
-// Where the tallies of the mark whose table begins at `from` are kept, or of its negation; 4096 if the table is no mark's.
+// Where the tallies of the mark whose table begins at `from` are kept, or of its negation; 2048 if the table is no mark's or there is no room.
 fn kept_at(from: usize, p: bool, g: Ground) -> usize
     requires { ⌜ InRange g ⌝ }
-    ensures { λ r. ⌜ (r ≡ 4096) ⊎ KeptAt g from p r ⌝ }
+    ensures { λ r. ⌜ (r ≡ 2048) ⊎ KeptAt g from p r ⌝ }
 {
     let k = from / g.h;
     if g.marks <= k {
-        return 4096;
+        return 2048;
     }
     if k * g.h < from {
-        return 4096;
+        return 2048;
     }
-    if p { 128 * k + 64 } else { 128 * k }
+    let at = chosen(p, from, from + g.marks * g.h);
+    if 2048 < at + g.h {
+        return 2048;
+    }
+    at
 }
 
 // Makes the tallies that are kept at `at`, unless they are there already.
@@ -33,7 +38,7 @@ fn fill_if_none(
     p: bool,
     w: &mut [u32; 88],
     g: Ground,
-    tallies: &mut [u8; 4096],
+    tallies: &mut [u8; 2048],
     at: usize,
 )
     requires { ⌜ InRange g × (from + g .h ≤ length (now t)) × (length (now w) ≡ 88) ⌝ }
@@ -56,7 +61,7 @@ pub fn count_told(
     w: &mut [u32; 88],
     bits: &[u32; 32],
     g: Ground,
-    tallies: &mut [u8; 4096],
+    tallies: &mut [u8; 2048],
 ) -> u64
     requires { ⌜ Lent g (now t) (now w) (now bits) ⌝ }
     requires { ⌜ Tallies g (now t) (now tallies) ⌝ }
@@ -65,7 +70,7 @@ pub fn count_told(
     ensures { λ r. ⌜ Row (g .h) r (quorum (g .h) (g .l) (g .carts) (g .d) m (λ i s. signed p (told (now (t .entry)) from i s))) ⌝ }
 {
     let at = kept_at(from, p, g);
-    if at == 4096 {
+    if at == 2048 {
         return quorum::count_row(t, from, p, m, g.carts, g.h, g.l, g.d, w, bits);
     }
     fill_if_none(t, from, p, w, g, tallies, at);

@@ -45,7 +45,7 @@ fn first_found(
     t: &mut [u32],
     w: &mut [u32; 88],
     bits: &[u32; 32],
-    tallies: &mut [u8; 4096],
+    tallies: &mut [u8; 2048],
     g: Ground,
     k: usize,
     n: u32,
@@ -101,7 +101,7 @@ pub fn judge_lines(
     let mut w = [0u32; 88];
     let mut bits = [0u32; 32];
     quorum::fill_bits(&mut bits);
-    let mut tallies = [255u8; 4096];
+    let mut tallies = [255u8; 2048];
     let mut found = Verdict::Accepted;
     let mut at = 0;
     let mut n = 0;

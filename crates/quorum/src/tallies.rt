@@ -13,9 +13,9 @@ ghost use Rattle.quorum.specs.Words.{Bits};
 ghost use Rattle.quorum.specs.Tallies.{Tallied};
 
 // The number of bits of each of h words from `from` on.
-fn put_tallies(w: &[u32; 88], from: usize, h: usize, tallies: &mut [u8; 4096], at: usize)
-    requires { ⌜ (length (now w) ≡ 88) × (length (now tallies) ≡ 4096) ⌝ }
-    requires { ⌜ (from + h ≤ 88) × (at + h ≤ 4096) ⌝ }
+fn put_tallies(w: &[u32; 88], from: usize, h: usize, tallies: &mut [u8; 2048], at: usize)
+    requires { ⌜ (length (now w) ≡ 88) × (length (now tallies) ≡ 2048) ⌝ }
+    requires { ⌜ (from + h ≤ 88) × (at + h ≤ 2048) ⌝ }
     requires { ⌜ ((s : ℕ) → s < h → getD (now w) (from + s) 0 < 2 ^ 32) ⌝ }
     ensures { λ _. ⌜ Stored (λ s x. x ≡ ones (getD (now (w .entry)) (from + s) 0)) at 0 h (now (tallies .entry)) (now (tallies .exit)) ⌝ }
 {
@@ -36,13 +36,13 @@ pub fn fill_tallies(
     l: usize,
     d: usize,
     w: &mut [u32; 88],
-    tallies: &mut [u8; 4096],
+    tallies: &mut [u8; 2048],
     at: usize,
 )
     requires { ⌜ (l < h) × (h ≤ 64) × (d ≤ 16) × (carts ≤ 32) ⌝ }
     requires { ⌜ from + h ≤ length (now t) ⌝ }
     requires { ⌜ length (now w) ≡ 88 ⌝ }
-    requires { ⌜ (length (now tallies) ≡ 4096) × (at + h ≤ 4096) ⌝ }
+    requires { ⌜ (length (now tallies) ≡ 2048) × (at + h ≤ 2048) ⌝ }
     ensures { λ _. ⌜ length (now (w .exit)) ≡ 88 ⌝ }
     ensures { λ _. ⌜ Stored (λ s x. x ≡ throughout h l carts d (λ i s. signed p (told (now (t .entry)) from i s)) s) at 0 h
         (now (tallies .entry)) (now (tallies .exit)) ⌝ }
@@ -59,9 +59,9 @@ fn if_reached(m: u8, n: u8, bit: u32) -> u32
 }
 
 // Of the n steps from `at` on, those whose tally is at least m.
-fn enough(tallies: &[u8; 4096], at: usize, m: u8, n: usize, bits: &[u32; 32]) -> u32
-    requires { ⌜ length (now tallies) ≡ 4096 ⌝ }
-    requires { ⌜ (n ≤ 32) × (at + n ≤ 4096) ⌝ }
+fn enough(tallies: &[u8; 2048], at: usize, m: u8, n: usize, bits: &[u32; 32]) -> u32
+    requires { ⌜ length (now tallies) ≡ 2048 ⌝ }
+    requires { ⌜ (n ≤ 32) × (at + n ≤ 2048) ⌝ }
     requires { ⌜ Bits (now bits) ⌝ }
     ensures { λ r. ⌜ Row n r (λ j. leb m (getD (now (tallies .entry)) (at + j) 0)) ⌝ }
 {
@@ -76,15 +76,15 @@ fn enough(tallies: &[u8; 4096], at: usize, m: u8, n: usize, bits: &[u32; 32]) ->
 
 // The steps whose tally is at least m, in two parts as in at_least; no tally is above the number of carts.
 fn enough_row(
-    tallies: &[u8; 4096],
+    tallies: &[u8; 2048],
     at: usize,
     m: usize,
     carts: usize,
     h: usize,
     bits: &[u32; 32],
 ) -> u64
-    requires { ⌜ length (now tallies) ≡ 4096 ⌝ }
-    requires { ⌜ (carts ≤ 32) × (h ≤ 64) × (at + h ≤ 4096) ⌝ }
+    requires { ⌜ length (now tallies) ≡ 2048 ⌝ }
+    requires { ⌜ (carts ≤ 32) × (h ≤ 64) × (at + h ≤ 2048) ⌝ }
     requires { ⌜ Bits (now bits) ⌝ }
     ensures { λ r. ⌜ (((s : ℕ) → s < h → getD (now (tallies .entry)) (at + s) 0 ≤ carts)
         → Row h r (λ s. leb m (getD (now (tallies .entry)) (at + s) 0))) ⌝ }
@@ -109,14 +109,14 @@ pub fn tallied_row(
     carts: usize,
     h: usize,
     w: &mut [u32; 88],
-    tallies: &[u8; 4096],
+    tallies: &[u8; 2048],
     at: usize,
     bits: &[u32; 32],
 ) -> u64
     requires { ⌜ (h ≤ 64) × (carts ≤ 32) ⌝ }
     requires { ⌜ from + h ≤ length (now t) ⌝ }
     requires { ⌜ length (now w) ≡ 88 ⌝ }
-    requires { ⌜ (length (now tallies) ≡ 4096) × (at + h ≤ 4096) ⌝ }
+    requires { ⌜ (length (now tallies) ≡ 2048) × (at + h ≤ 2048) ⌝ }
     requires { ⌜ Bits (now bits) ⌝ }
     ensures { λ _. ⌜ length (now (w .exit)) ≡ 88 ⌝ }
     ensures { λ r. ⌜ ((l d : ℕ) → Tallied h l carts d (λ i s. signed p (told (now (t .entry)) from i s)) at (now (tallies .entry))

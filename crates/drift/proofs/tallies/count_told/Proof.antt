@@ -1,7 +1,6 @@
 use mathlib.Core.Logic.{⊎-elim}
 use native.Mathlib.Omega.{arith}
 use Rattle.drift.specs.Tallies.{KeptAt}
-use Rattle.drift.specs.Tallying.{tally-room}
 use borrow.Author.Needs.{needs}
 use Rattle.drift.proofs.tallies.count_told.Statement.{statement}
 use Rattle.drift.proofs.tallies.count_told.Tie as tie
@@ -30,11 +29,10 @@ fill-if-none-requires c κs =
 tallied-row-requires : tie.Need-tallied-row-requires
 tallied-row-requires c κs =
     let s = c .before .before .before .before .before .before .before .before in
-    let a = s .args in
     let r = s .pre .0 .range in
-    let room = tally-room (a .g) r (a .from) _ (a .p) (kept (c .before .before .before .before .before)) in
+    let room = kept (c .before .before .before .before .before) .room in
     let filled = c .before .before .fill-if-none .ensures in
-    ((r .steps, r .few), (s .pre .1 .1, (filled .0, ((filled .1 .0 .size, omega (arith, room, r .steps)), s .pre .0 .bits))))
+    ((r .steps, r .few), (s .pre .1 .1, (filled .0, ((filled .1 .0 .size, room), s .pre .0 .bits))))
 
 returns-2 : tie.Need-returns-2
 returns-2 c =

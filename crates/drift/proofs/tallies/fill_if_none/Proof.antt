@@ -1,29 +1,26 @@
 use native.Mathlib.Omega.{arith}
-use Rattle.drift.specs.Tallying.{tally-room, there, tallied-too}
+use Rattle.drift.specs.Tallying.{there, tallied-too}
 use Rattle.drift.proofs.tallies.fill_if_none.Statement.{statement}
 use Rattle.drift.proofs.tallies.fill_if_none.Tie as tie
 
 element-copy-out-if1 : tie.Need-element-copy-out-if1
 element-copy-out-if1 c =
     let s = c .before in
-    let a = s .args in
-    omega (arith, tally-room (a .g) (s .pre .0 .0) (a .from) (a .at) (a .p) (s .pre .1 .1), s .pre .1 .0 .size)
+    omega (arith, s .pre .1 .1 .room, s .pre .0 .0 .lap, s .pre .1 .0 .size)
 
 returns : tie.Need-returns
 returns c =
     let s = c .before .before .before in
     let a = s .args in (
       s .pre .0 .2,
-      (s .pre .1 .0, there (a .g) (s .pre .0 .0) (a .from) (a .at) (a .p) (s .pre .1 .1) (a .t .now) (a .tallies .now) (s .pre .1 .0) (c .if1 .taken)),
+      (s .pre .1 .0, there (a .g) (s .pre .0 .0) (a .t .now) (a .from) (a .p) (a .at) (s .pre .1 .1) (a .tallies .now) (s .pre .1 .0) (c .if1 .taken)),
     )
 
 fill-tallies-requires : tie.Need-fill-tallies-requires
 fill-tallies-requires c κs =
     let s = c .before .before .before .before .before in
-    let a = s .args in
     let r = s .pre .0 .0 in
-    let room = tally-room (a .g) r (a .from) (a .at) (a .p) (s .pre .1 .1) in
-    ((r .lap, r .steps, r .drift, r .few), (s .pre .0 .1, (s .pre .0 .2, (s .pre .1 .0 .size, omega (arith, room, r .steps)))))
+    ((r .lap, r .steps, r .drift, r .few), (s .pre .0 .1, (s .pre .0 .2, (s .pre .1 .0 .size, s .pre .1 .1 .room))))
 
 returns-2 : tie.Need-returns-2
 returns-2 c =
@@ -32,7 +29,7 @@ returns-2 c =
     let filled = c .fill-tallies .ensures in (
       filled .0,
       (
-        tallied-too (a .g) (s .pre .0 .0) (a .from) (a .at) (a .p) (s .pre .1 .1) (a .t .now) (a .tallies .now) _ (filled .1) (s .pre .1 .0),
+        tallied-too (a .g) (s .pre .0 .0) (a .t .now) (a .from) (a .p) (a .at) (s .pre .1 .1) (a .tallies .now) _ (filled .1) (s .pre .1 .0),
         λ j q. filled .1 .each j (omega arith) q,
       ),
     )
