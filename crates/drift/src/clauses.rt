@@ -95,34 +95,14 @@ fn clause_judged(
     }
     if kind < 6 {
         let q = under(kind, p);
-        let a = clause_judged(
-            nodes,
-            needs,
-            t,
-            w,
-            bits,
-            tallies,
-            g,
-            at,
-            q,
-            first_at(nodes, k),
-        );
+        let x = first_at(nodes, k);
+        let a = clause_judged(nodes, needs, t, w, bits, tallies, g, at, q, x);
         return one_judged(kind, p, a, g);
     }
     let o = in_turn(nodes, needs, k);
     let first = clause_judged(nodes, needs, t, w, bits, tallies, g, at, p, o.first);
-    let second = clause_judged(
-        nodes,
-        needs,
-        t,
-        w,
-        bits,
-        tallies,
-        g,
-        at + 2 * g.h,
-        p,
-        o.second,
-    );
+    let behind = at + 2 * g.h;
+    let second = clause_judged(nodes, needs, t, w, bits, tallies, g, behind, p, o.second);
     two_judged(kind, p, o.swapped, first, second, t, w, bits, g, at)
 }
 

@@ -102,7 +102,13 @@ clause-judged-returns-2 t c =
     let r = lent .range in
     let alone = c .alone .ensures in
     let ends = none-ends (g .marks) (g .h) in (
-      (kept-all (a .at) (a .t .now), lent .windows, inl (omega (arith, alone .at-none, ends)), omega (arith, alone .at-none, ends, lent .constants .room), s .pre .1 .1 .1 .1),
+      (
+        kept-all (a .at) (a .t .now),
+        lent .windows,
+        inl (omega (arith, alone .at-none, ends)),
+        omega (arith, alone .at-none, ends, lent .constants .room),
+        s .pre .1 .1 .1 .1,
+      ),
       λ bears shown.
           let P = rowsOn (g .carts) (g .h) (g .l) bears in
           top-judged P (g .d) (a .nodes .now) (record { some = r .some; lap = r .lap }) (a .p) (a .k) _ _
@@ -116,21 +122,21 @@ clause-judged-under-requires : (t : ℕ) → clause-judged-lts.Need-under-requir
 clause-judged-under-requires t c κs = tt
 
 clause-judged-first-at-requires : (t : ℕ) → clause-judged-lts.Need-first-at-requires (clause-judged-calls t) (clause-judged-at t) clause-judged.Post
-clause-judged-first-at-requires t c κs = c .before .before .before .before .before .before .before .before .before .before .before .pre .1 .1 .0 .ordered
+clause-judged-first-at-requires t c κs = c .before .before .before .before .before .before .before .before .pre .1 .1 .0 .ordered
 
 -- an operator whose operand is below it and needs no more pairs
 operand : (t : ℕ) (c : clause-judged-lts.After-first-at (clause-judged-calls t) (clause-judged-at t) clause-judged.Post) →
-    let a = c .before .before .before .before .before .before .before .before .before .before .before .before .args in
+    let a = c .before .before .before .before .before .before .before .before .before .args in
     let needed : ℕ → ℕ = λ i. getD (a .needs .now) i 0 in
     let x = c .first-at .result in
     (x < a .k) × (needed x ≤ needed (a .k))
 operand t c =
-    let s = c .before .before .before .before .before .before .before .before .before .before .before .before in
+    let s = c .before .before .before .before .before .before .before .before .before in
     let a = s .args in
     let nodes = s .pre .1 .1 .0 in
-    let kind = c .before .before .before .before .before .before .before .before .kind-at in
-    let more : 2 ≤ kindAt (a .nodes .now) (a .k) = omega (arith, kind .ensures, c .before .before .before .before .before .before .if2 .left) in
-    let less : kindAt (a .nodes .now) (a .k) < 6 = omega (arith, kind .ensures, c .before .before .before .before .before .if3 .taken) in
+    let kind = c .before .before .before .before .before .kind-at in
+    let more : 2 ≤ kindAt (a .nodes .now) (a .k) = omega (arith, kind .ensures, c .before .before .before .if2 .left) in
+    let less : kindAt (a .nodes .now) (a .k) < 6 = omega (arith, kind .ensures, c .before .before .if3 .taken) in
     let e = c .first-at .ensures in (
       omega (arith, e, first-low (a .nodes .now) (a .k) (nodes .ordered) more),
       subst (λ (i : ℕ). getD (a .needs .now) i 0 ≤ getD (a .needs .now) (a .k) 0) (sym e)
@@ -142,7 +148,7 @@ clause-judged-clause-judged-requires t c κs =
     let s = c .before .before .before .before .before .before .before .before .before .before .before .before in
     let a = s .args in
     let room = s .pre .1 .1 .1 .0 in
-    let x = operand t c in (
+    let x = operand t (c .before .before .before) in (
       omega (arith, s .pre .0, x .0),
       (
         s .pre .1 .0,
@@ -166,7 +172,7 @@ clause-judged-same-length-2 t c = c .before .before .before .clause-judged .ensu
 clause-judged-returns-3 : (t : ℕ) → clause-judged-lts.Need-returns-3 (clause-judged-calls t) (clause-judged-at t) clause-judged.Post
 clause-judged-returns-3 t c =
     let first = c .before .before .before in
-    let x = first .before .first-at in
+    let x = first .before .before .before .before .first-at in
     let flag = first .before .before .before .before .before .under in
     let kind = first .before .before .before .before .before .before .before .before .before .kind-at in
     let s = first .before .before .before .before .before .before .before .before .before .before .before .before .before in
@@ -230,14 +236,14 @@ clause-judged-clause-judged-requires-2 t c κs =
       ),
     )
 
-clause-judged-mul-clause-judged : (t : ℕ) → clause-judged-lts.Need-mul-clause-judged (clause-judged-calls t) (clause-judged-at t) clause-judged.Post
-clause-judged-mul-clause-judged t c =
-    let s = c .before .before .before .before .before .before .before .before .before .before .before .before .before .before .before .before .before .before in
+clause-judged-mul-behind : (t : ℕ) → clause-judged-lts.Need-mul-behind (clause-judged-calls t) (clause-judged-at t) clause-judged.Post
+clause-judged-mul-behind t c =
+    let s = c .before .before .before .before .before .before .before .before .before .before .before .before .before .before .before in
     omega (arith, s .pre .1 .0 .range .steps)
 
-clause-judged-add-clause-judged : (t : ℕ) → clause-judged-lts.Need-add-clause-judged (clause-judged-calls t) (clause-judged-at t) clause-judged.Post
-clause-judged-add-clause-judged t c =
-    let s = c .before .before .before .before .before .before .before .before .before .before .before .before .before .before .before .before .before .before in
+clause-judged-add-behind : (t : ℕ) → clause-judged-lts.Need-add-behind (clause-judged-calls t) (clause-judged-at t) clause-judged.Post
+clause-judged-add-behind t c =
+    let s = c .before .before .before .before .before .before .before .before .before .before .before .before .before .before .before in
     omega (arith, s .pre .1 .0 .range .steps, pairs-end (s .args .g) (s .pre .1 .0 .range), s .pre .1 .1 .1 .0 .1)
 
 clause-judged-clause-judged-requires-3 : (t : ℕ) → clause-judged-lts.Need-clause-judged-requires-3 (clause-judged-calls t) (clause-judged-at t) clause-judged.Post
@@ -351,8 +357,8 @@ pub +clause-judged-spec : {M : Type 1} → statement M
     (clause-judged-returns-3 t)
     (clause-judged-in-turn-requires t)
     (clause-judged-clause-judged-requires-2 t)
-    (clause-judged-mul-clause-judged t)
-    (clause-judged-add-clause-judged t)
+    (clause-judged-mul-behind t)
+    (clause-judged-add-behind t)
     (clause-judged-clause-judged-requires-3 t)
     (clause-judged-two-judged-requires t)
     (clause-judged-same-length-3 t)

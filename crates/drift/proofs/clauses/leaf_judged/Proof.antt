@@ -140,7 +140,8 @@ judged c bears shown r e f =
 
 alone-requires : tie.Need-alone-requires
 alone-requires c κs =
-    c .before .before .before .before .before .before .before .before .before .before .before .before .before .before .before .before .before .before .pre .0 .range
+    let text = c .before .before .before .before .before .before .before .before in
+    text .before .before .before .before .before .before .before .before .before .before .pre .0 .range
 
 same-length : tie.Need-same-length
 same-length c = c .before .before .before .before .before .before .before .before .before .inner-table .ensures .0 .0 .size

@@ -91,7 +91,8 @@ same-length-2 c = c .before .before .before .failing-step .ensures .0 .0 .size �
 returns-3 : tie.Need-returns-3
 unfolding rules
 returns-3 c =
-    let judged = c .before .before .before .before .before .before .before .before .before .before .before in
+    let tested = c .before .before .before .before .before .before .before .before in
+    let judged = tested .before .before .before in
     let begun = judged .before .before .before .before .before .before .before .before in
     let s = begun .before .before .before .before in
     let a = s .args in
@@ -101,7 +102,7 @@ returns-3 c =
       (kept-then _ _ (a .t .now) _ _ (le-refl _) (r .0 .0) (f .ensures .0 .0), f .ensures .0 .1, f .ensures .0 .2),
       λ bears shown m q. ap AboutRules (c .refuse .ensures)
           ∙ clause-fails (rowsOn (g .carts) (g .h) (g .l) bears) (g .d) (a .n) (clauseTree (a .nodes .now) m (a .k)) (judged .clause-row .result)
-          (omega (arith, s .pre .0 .range .lap)) (r .1 bears shown m q) (c .before .before .before .before .before .before .before .before .if2 .left) (f .result)
+          (omega (arith, s .pre .0 .range .lap)) (r .1 bears shown m q) (tested .if2 .left) (f .result)
           (f .ensures .1 .0 bears (kept-shown (g .marks) (g .h) (a .t .now) _ (r .0 .0) (g .carts) bears shown) m q)
           ∙ sym (goes-on (a .found) _ (sym (begun .before .accepts .ensures) ∙ not-is _ false (begun .if1 .left))),
     )
