@@ -9,13 +9,16 @@ use crate::aims;
 use crate::blocks;
 use crate::cases;
 use crate::check;
+use crate::cuts;
 use crate::damage::Triple;
 use crate::library;
 use crate::or_blocks;
 use crate::random::Random;
+use crate::recounts;
 use crate::tally::Tally;
 use crate::thresholds;
 use crate::verdict::Verdict;
+use crate::windows;
 
 /// The cases of documents 01 and 02, every percentage, the places of tables, then so many random triples; false once a difference was told.
 pub fn gate(cases: u64, seed: u64) -> bool {
@@ -26,7 +29,13 @@ pub fn gate(cases: u64, seed: u64) -> bool {
         .and_then(|_| blocks::run())
         .map(|blocks| blocks.print())
         .and_then(|_| or_blocks::run())
-        .map(|blocks| blocks.print());
+        .map(|blocks| blocks.print())
+        .and_then(|_| windows::run())
+        .map(|windows| windows.print())
+        .and_then(|_| cuts::run())
+        .map(|cuts| cuts.print())
+        .and_then(|_| recounts::run())
+        .map(|recounts| recounts.print());
     if let Err(text) = told {
         println!("second: {text}");
         return false;

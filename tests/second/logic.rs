@@ -7,6 +7,7 @@
 use crate::floor::Floor;
 use crate::formula::{Clause, Node, Op};
 use crate::plan::Plan;
+use crate::running::{self, Way};
 use crate::verdict::Refusal;
 
 /// One Boolean variable for each step; those from h on are not used.
@@ -22,6 +23,8 @@ pub struct Collection {
     step: Vec<usize>,
     /// The trace of each cart (definition 2).
     traces: Vec<Vec<u32>>,
+    /// A wrong way to find windows, if one is tried.
+    way: Option<Way>,
 }
 
 /// A clause in positive normal form (equation 21), with False for a negated True.
@@ -40,6 +43,8 @@ pub enum Pnf {
 pub struct Count {
     pub z: Vec<Row>,
     pub m: usize,
+    /// The mark that is its whole inner formula, and whether that is negated.
+    pub lone: Option<(u32, bool)>,
 }
 
 impl Pnf {
@@ -69,6 +74,15 @@ impl Collection {
             z_loop,
             step: (0..plan.h + plan.d).map(|v| plan.step(v)).collect(),
             traces: plan.rows.iter().map(trace).collect(),
+            way: None,
+        }
+    }
+
+    /// The same with windows found in a wrong way.
+    pub fn misread(self, way: Way) -> Collection {
+        Collection {
+            way: Some(way),
+            ..self
         }
     }
 
@@ -194,7 +208,11 @@ impl Collection {
 
     /// r: equation 22.
     pub fn r(&self, z: &Row) -> Row {
-        self.r_within(z, self.d)
+        if self.way.is_none() {
+            return self.r_within(z, self.d);
+        }
+        let l = self.z_loop.iter().position(|first| *first);
+        running::windows(&z[..self.h], l.expect("a lap"), self.d, self.way)
     }
 
     pub fn r_within(&self, z: &Row, d: usize) -> Row {
@@ -203,16 +221,21 @@ impl Collection {
 
     /// y of a clause in positive normal form.
     pub fn y(&self, pnf: &Pnf) -> Row {
-        let two = |both: &[Pnf; 2]| both.each_ref().map(|part| self.y(part));
+        self.y_by(pnf, &mut |count| self.count(count))
+    }
+
+    /// The same with these rows for its counts.
+    fn y_by(&self, pnf: &Pnf, counted: &mut dyn FnMut(&Count) -> Row) -> Row {
+        let mut two = |both: &[Pnf; 2]| both.each_ref().map(|part| self.y_by(part, counted));
         match pnf {
             Pnf::Constant(value) => self.row(|_| *value),
-            Pnf::Count(count) => self.count(count),
+            Pnf::Count(count) => counted(count),
             Pnf::And(_, both) => {
                 let [a, b] = two(both);
                 self.and(&a, &b)
             }
             Pnf::Or(_, both) => self.either(both, &two(both)),
-            Pnf::Next(one) => self.next(&self.y(one)),
+            Pnf::Next(one) => self.next(&self.y_by(one, counted)),
             Pnf::Until(_, both) => {
                 let y = two(both);
                 self.robust_until(&self.either(both, &y), &y[1])
@@ -226,17 +249,23 @@ impl Collection {
 
     /// Equations 23 and 24.
     pub fn count(&self, count: &Count) -> Row {
-        let mut sum_r = [0; 64];
-        let mut sum_z = [0; 64];
+        self.enough(count, &self.sums(count))
+    }
+
+    /// The sum of r over all carts, at each step.
+    pub fn sums(&self, count: &Count) -> [usize; 64] {
+        let mut sums = [0; 64];
         for z in &count.z {
             let r = self.r(z);
-            for t in 0..self.h {
-                sum_z[t] += z[t] as usize;
-                sum_r[t] += r[t] as usize;
-            }
+            (0..self.h).for_each(|t| sums[t] += r[t] as usize);
         }
-        let all = self.carts();
-        self.row(|t| sum_r[t] >= count.m || count.m == 1 && sum_z[t] == all)
+        sums
+    }
+
+    /// Whether such sums are enough, or z of all carts is.
+    pub fn enough(&self, count: &Count, sums: &[usize; 64]) -> Row {
+        let all = |t: usize| count.z.iter().all(|z| z[t]);
+        self.row(|t| sums[t] >= count.m || count.m == 1 && all(t))
     }
 
     /// Equation 25 or 26 for "a or b", from y of the two.
@@ -298,7 +327,12 @@ impl Collection {
             }
         };
         let m = threshold.of(self.carts());
+        let lone = match clause.nodes[left].op {
+            Op::Mark(mark) => Some((mark, negated)),
+            _ => None,
+        };
         Count {
+            lone,
             z: (0..self.carts()).map(of_cart).collect(),
             m: if negated {
                 (self.carts() + 1).saturating_sub(m)
@@ -308,21 +342,26 @@ impl Collection {
         }
     }
 
-    /// y of a formula outside counts.
-    pub fn judge(&self, clause: &Clause, node: usize) -> Row {
-        self.y(&self.pnf(clause, node, false))
-    }
-
     /// None if the clause is true at step 0, else the step of its refusal.
     pub fn broken_at(&self, clause: &Clause) -> Option<usize> {
-        if self.judge(clause, clause.root)[0] {
+        self.broken_by(clause, &mut |count| self.count(count))
+    }
+
+    /// The same with these rows for its counts.
+    pub fn broken_by(
+        &self,
+        clause: &Clause,
+        counted: &mut dyn FnMut(&Count) -> Row,
+    ) -> Option<usize> {
+        let mut judge = |node| self.y_by(&self.pnf(clause, node, false), counted);
+        if judge(clause.root)[0] {
             return None;
         }
         let Node { op, left, .. } = clause.nodes[clause.root];
         if op != Op::Globally {
             return Some(0);
         }
-        let body = self.judge(clause, left);
+        let body = judge(left);
         Some((0..self.h).find(|t| !body[*t]).expect("a body that fails"))
     }
 
