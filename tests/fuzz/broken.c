@@ -197,6 +197,67 @@ static verdict shares_of(BYTES(floor), BYTES(plan), BYTES(rules))
     return either_of(floor, floor_len, plan, plan_len, plain, len);
 }
 
+/* Faults of windows, which are told by a running count. */
+static int running(uint64_t row, const uint8_t *plan, unsigned s)
+{
+    unsigned h = plan[4], l = plan[6], d = plan[8], most = fault("count_cut_short") ? 16 : 17, count = 0;
+    int kept = fault("count_not_reset");
+    for (unsigned v = h; v-- > l;) count = row >> v & 1 ? count + 1 : kept ? count : 0;
+    if (count == h - l && !fault("count_lap_by_length")) count = most;
+    if (count > most) count = most;
+    if (fault("count_without_lap")) count = 0;
+    for (unsigned v = h; v-- > s;) count = row >> v & 1 ? count + (count < most) : kept ? count : 0;
+    return fault("count_at_least") ? count >= d : count > d;
+}
+
+/* Faults of numbers that are kept from count to count: what was first asked of a mark, or of a mark or its negation. */
+static void mix_up(struct lone_count *first, size_t *asked, struct lone_count *count)
+{
+    int negated = count->negated ^ count->mark_negated;
+    for (size_t i = 0; i < *asked; i++) {
+        if (first[i].mark != count->mark) continue;
+        if (fault("number_of_other_sign") && negated != (first[i].negated ^ first[i].mark_negated)) {
+            count->mark_negated ^= 1;
+            return;
+        }
+        if (fault("number_for_threshold") && negated == (first[i].negated ^ first[i].mark_negated)) {
+            first[i].prefix = count->prefix;
+            *count = first[i];
+            return;
+        }
+    }
+    first[(*asked)++] = *count;
+}
+
+/* The check of a judged sheet, line by line, with these faults in its counts of one mark. */
+static verdict counts_of(BYTES(floor), BYTES(plan), BYTES(rules))
+{
+    static struct lone_count first[32];
+    const uint8_t *line = rules;
+    size_t asked = 0, left = rules_len;
+    for (uint32_t number = 0; left > 0; number++) {
+        struct lone_count count;
+        verdict alone = {3, 17, 0, 0};
+        size_t len = (size_t)((const uint8_t *)memchr(line, '\n', left) - line) + 1;
+        if (!lone_count_of(line, len - 1, &count)) {
+            alone = __real_cartplan_check(floor, floor_len, plan, plan_len, line, len);
+        } else {
+            mix_up(first, &asked, &count);
+            if (is_kept(floor, floor_len, plan, &count, running, &alone.second)) alone.number = 0;
+        }
+        if (alone.number != 0) return (verdict){3, 17, number, alone.second};
+        line += len;
+        left -= len;
+    }
+    return (verdict){0, 0, 0, 0};
+}
+
+static int counts_wrong(void)
+{
+    const char *picked = getenv("FUZZ_FAULT");
+    return picked != NULL && (strncmp(picked, "count_", 6) == 0 || strncmp(picked, "number_", 7) == 0);
+}
+
 verdict __wrap_cartplan_check(BYTES(floor), BYTES(plan), BYTES(rules))
 {
     if (fault("accepts_all")) return (verdict){0, 0, 0, 0};
@@ -204,6 +265,7 @@ verdict __wrap_cartplan_check(BYTES(floor), BYTES(plan), BYTES(rules))
     if (v.number != 0) return v;
     v = shares_of(floor, floor_len, plan, plan_len, rules, rules_len);
     if (v.number == 20) return conflict_of(v, plan, plan_len, rules, rules_len);
+    if (counts_wrong() && (v.number == 0 || v.number == 17)) return counts_of(floor, floor_len, plan, plan_len, rules, rules_len);
     if (fault("conflict_invented") && v.number == 0) return (verdict){2, 20, 0, 0};
     if (fault("not_monotone") && v.number == 0 && plan[8] == 0) return (verdict){3, 17, 0, 0};
     if (fault("no_such_clause") && v.number == 0) return (verdict){3, 17, 31, 0};

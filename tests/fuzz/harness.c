@@ -14,7 +14,7 @@
 #include "cartplan.h"
 #include "model.h"
 
-enum { PAGE = 4096, AREA = 33 * PAGE, SLACK = 64, BUFFERS = 5, HEADER = 3, STRETCH = 1040, MOST = 65535, LONGEST = 65536, LONGEST_SHEET = 16384 };
+enum { PAGE = 4096, AREA = 33 * PAGE, SLACK = 64, BUFFERS = 5, HEADER = 3, STRETCH = 1040, MOST = 65535, LONGEST = 65536, LONGEST_SHEET = 16384, CLAUSES = 32 };
 
 /* Which buffer holds what. FLOOR, PLAN and RULES are `about` less 1. */
 enum { FLOOR = 0, PLAN = 1, RULES = 2, OUT = 3, PLACES = 0, LANES = 1, CARTS = 2, NARROW = 4, ROWS = 1, ROW = 2, VERDICT = 0 };
@@ -265,6 +265,8 @@ static const struct {
     {'|', "(b) | (a)"},      {'|', "!(!(a) & !(b))"},    {'|', "!true | ((a) | (b))"},
     {'&', "(b) & (a)"},      {'&', "!(!(a) | !(b))"},    {'R', "!(!(a) U !(b))"},
     {'U', "!(!(a) R !(b))"}, {'U', "((a) | (b)) U (b)"}, {'U', "(b) | ((a) U (b))"},
+    {'&', "(a) & (b) & (a)"}, {'|', "((a) | (b)) & ((a) | (b))"}, {'R', "((a) R (b)) & ((a) R (b))"},
+    {'U', "((a) U (b)) & ((a) U (b))"},
 };
 
 /* What is said of a clause written otherwise, alone in its sheet. */
@@ -291,13 +293,12 @@ static void demand_apart(const uint8_t *line, size_t len, const struct sides *si
     demand((whole.number == 0) == (left.number == 0 || right.number == 0), "a mixed or is true exactly if a side is");
 }
 
-/* A clause is judged by itself, and alike however its outermost operator with two sides is written. */
+/* A clause is judged alike however its outermost operator with two sides is written. */
 static void demand_equal(const uint8_t *line, size_t len, verdict v)
 {
     struct sides sides;
     if (!sides_of(line, len, &sides)) return;
     v.first = 0;
-    demand(same(v, cartplan_check(LENT(FLOOR), LENT(PLAN), line, len + 1)), "a clause is judged by itself");
     for (size_t i = 0; i < sizeof equal / sizeof *equal; i++) {
         if (equal[i].op != sides.op) continue;
         verdict other = said(line, len, &sides, equal[i].pattern);
@@ -321,12 +322,74 @@ static void demand_clauses(verdict v)
     }
 }
 
+/* The lines of a judged sheet, with their ends, and what is said of each by itself. */
+static struct {
+    const uint8_t *at;
+    size_t len;
+    verdict alone;
+} lines[CLAUSES];
+
+/* Takes the sheet apart; a count of one mark is true exactly where its windows say so. */
+static size_t judge_lines(void)
+{
+    const uint8_t *line = lent[RULES].at, *end = line + lent[RULES].len;
+    struct lone_count count;
+    size_t n = 0;
+    for (; line < end; n++) {
+        size_t len = (size_t)((const uint8_t *)memchr(line, '\n', (size_t)(end - line)) - line) + 1;
+        lines[n].at = line;
+        lines[n].len = len;
+        lines[n].alone = cartplan_check(LENT(FLOOR), LENT(PLAN), line, len);
+        if (lone_count_of(line, len - 1, &count)) {
+            verdict due = {3, 17, 0, 0};
+            if (is_kept(lent[FLOOR].at, lent[FLOOR].len, lent[PLAN].at, &count, throughout, &due.second)) due = (verdict){0, 0, 0, 0};
+            demand(same(lines[n].alone, due), "a count of one mark by its windows");
+        }
+        line += len;
+    }
+    return n;
+}
+
+/* Lines in some order, one behind the other, are judged as by themselves. */
+static void demand_in_order(const size_t *order, size_t n)
+{
+    static uint8_t sheet[LONGEST_SHEET];
+    verdict due = {0, 0, 0, 0};
+    size_t len = 0;
+    for (size_t i = 0; i < n; i++) {
+        if (n > CLAUSES || len + lines[order[i]].len > sizeof sheet) return;
+        memcpy(sheet + len, lines[order[i]].at, lines[order[i]].len);
+        len += lines[order[i]].len;
+        if (due.number != 0 || lines[order[i]].alone.number == 0) continue;
+        due = lines[order[i]].alone;
+        due.first = (uint32_t)i;
+    }
+    demand(same(cartplan_check(LENT(FLOOR), LENT(PLAN), sheet, len), due), "clauses are judged as by themselves");
+}
+
+/* As they stand, the last first, and each of them twice. */
+static void demand_alone(verdict v)
+{
+    size_t as_written[CLAUSES], back[CLAUSES], twice[2 * CLAUSES];
+    if (v.number != 0 && v.number != 17) return;
+    size_t n = judge_lines();
+    for (size_t i = 0; i < n; i++) {
+        as_written[i] = i;
+        back[i] = n - 1 - i;
+        twice[2 * i] = twice[2 * i + 1] = i;
+    }
+    demand_in_order(as_written, n);
+    demand_in_order(back, n);
+    demand_in_order(twice, 2 * n);
+}
+
 /* An accepted plan is accepted with each smaller drift, its head's bytes 8 and 9. */
 static void after_check(const struct operation *op, verdict v)
 {
     uint8_t *drift = lent[PLAN].at + 8;
     demand_conflict(v);
     demand_nearest(v);
+    demand_alone(v);
     demand_clauses(v);
     if (v.number == 16 || v.number == 17) {
         struct cartplan_span part = cartplan_clause(LENT(RULES), (const uint8_t *)&v, sizeof v);

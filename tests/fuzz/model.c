@@ -1,5 +1,6 @@
 /* An accepted floor's numbers, and the conflicts of a plan in narrow places: two carts in one at a moment (a vertex conflict), or
- * exchanged between two in one tick (a swap conflict). A sheet's percentages as numbers of carts. A clause's outermost operator. */
+ * exchanged between two in one tick (a swap conflict). A sheet's percentages as numbers of carts. Counts of one mark, by their windows. A
+ * clause's outermost operator. */
 #include "model.h"
 
 #include <stdio.h>
@@ -123,6 +124,83 @@ size_t with_numbers(const uint8_t *rules, size_t rules_len, unsigned fleet, roun
         append(out, &len, rules + at, end - at);
     }
     return len;
+}
+
+/* The byte at a place that is no space, or 0 behind the end. */
+static uint8_t look(const uint8_t *clause, size_t len, size_t *at)
+{
+    while (*at < len && clause[*at] == ' ') ++*at;
+    return *at < len ? clause[*at] : 0;
+}
+
+static int take_byte(const uint8_t *clause, size_t len, size_t *at, uint8_t byte)
+{
+    int found = look(clause, len, at) == byte;
+    *at += (size_t)found;
+    return found;
+}
+
+static int take_nots(const uint8_t *clause, size_t len, size_t *at)
+{
+    int nots = 0;
+    while (take_byte(clause, len, at, '!')) nots ^= 1;
+    return nots;
+}
+
+int lone_count_of(const uint8_t *clause, size_t len, struct lone_count *count)
+{
+    size_t at = 0;
+    count->prefix = look(clause, len, &at) == 'G' || look(clause, len, &at) == 'F' ? clause[at++] : 0;
+    count->negated = take_nots(clause, len, &at);
+    if (!take_byte(clause, len, &at, '[')) return 0;
+    count->mark_negated = take_nots(clause, len, &at);
+    if (!take_byte(clause, len, &at, 'm')) return 0;
+    count->mark = number_at(clause, len, at, &at);
+    if (!take_byte(clause, len, &at, ',')) return 0;
+    look(clause, len, &at);
+    count->number = number_at(clause, len, at, &at);
+    count->is_share = take_byte(clause, len, &at, '%');
+    return take_byte(clause, len, &at, ']') && look(clause, len, &at) == 0;
+}
+
+int throughout(uint64_t row, const uint8_t *plan, unsigned s)
+{
+    unsigned h = plan[4], l = plan[6], d = plan[8];
+    for (unsigned v = s; v <= s + d; v++)
+        if (!(row >> (v < h ? v : l + (v - l) % (h - l)) & 1)) return 0;
+    return 1;
+}
+
+/* The steps of a cart on places that bear a mark, or on the others. */
+static uint64_t marked(const struct floor_numbers *numbers, const uint8_t *plan, unsigned of, unsigned mark, int negated)
+{
+    const uint8_t *row = plan + 10 + of * (4u + plan[4]) + 4;
+    uint64_t steps = 0;
+    for (unsigned s = 0; s < plan[4]; s++) steps |= (uint64_t)((numbers->places[row[s]] >> mark & 1) ^ (unsigned)negated) << s;
+    return steps;
+}
+
+int is_kept(const uint8_t *floor, size_t floor_len, const uint8_t *plan, const struct lone_count *count, window *held, uint32_t *step)
+{
+    static struct floor_numbers numbers;
+    unsigned h = plan[4], failing = h, met = 0;
+    take_apart(floor, floor_len, &numbers);
+    unsigned fleet = (unsigned)numbers.carts_len / 2, m = count->is_share ? nearest(count->number * fleet, 0) : count->number;
+    if (count->negated) m = m > fleet ? 0 : fleet + 1 - m;
+    for (unsigned s = h; s-- > 0;) {
+        unsigned here = 0, within = 0;
+        for (unsigned n = 0; n < fleet; n++) {
+            uint64_t row = marked(&numbers, plan, n, count->mark, count->negated ^ count->mark_negated);
+            here += row >> s & 1;
+            within += (unsigned)held(row, plan, s);
+        }
+        if (within >= m || (m == 1 && here == fleet))
+            met++;
+        else
+            failing = s;
+    }
+    *step = count->prefix == 'G' ? failing : 0;
+    return count->prefix == 'F' ? met > 0 : count->prefix == 'G' ? met == h : failing > 0;
 }
 
 /* Where the outermost operator with two sides stands between two bytes: the last | outside parentheses and brackets, or the last &, or the

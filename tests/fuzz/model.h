@@ -30,6 +30,25 @@ rounding nearest;
 /* A readable sheet with numbers of carts, rounded so, in place of its percentages; its length. */
 size_t with_numbers(const uint8_t *rules, size_t rules_len, unsigned fleet, rounding *rounded, uint8_t *out);
 
+/* A clause that is a count of one mark, with G, F or nothing before it. The number may be a percentage; count and mark may be negated. */
+struct lone_count {
+    unsigned mark, number;
+    int is_share, negated, mark_negated;
+    uint8_t prefix;
+};
+
+/* Whether a readable clause, without its line end, is such a one. */
+int lone_count_of(const uint8_t *clause, size_t len, struct lone_count *count);
+
+/* A way to tell whether a row, bit s for step s, is true at all of counters s to s + d. */
+typedef int window(uint64_t row, const uint8_t *plan, unsigned s);
+
+/* Counter by counter. */
+window throughout;
+
+/* Whether such a clause is true of an accepted floor and plan with such windows; the step of 17 if not. */
+int is_kept(const uint8_t *floor, size_t floor_len, const uint8_t *plan, const struct lone_count *count, window *held, uint32_t *step);
+
 /* A clause that is an operator with two sides, by itself or in parentheses behind prefix operators. The left side begins, the
  * operator stands and the right side ends at these bytes; prefix is the first of the operators before, or 0. */
 struct sides {

@@ -233,9 +233,37 @@ def either_seeds():
     }
 
 
+def lapping(text, l, d, *others):
+    """Two carts on a place with m1 where the text has a 1, a third on one with m2."""
+    row = [0 if bit == "1" else 2 for bit in text]
+    return tables([row, row, [1] * len(row), *others], l, d)
+
+
+def window_seeds():
+    """Counts of one mark: always true with more drift than steps, 17 trues in a row and 16, across the lap's end, a lap longer than the window;
+    the same mark counted again and again, negated and not, by other thresholds, and by all carts."""
+    counts = {
+        "always": lapping("1", 0, 2),
+        "of_17": lapping("1" * 17 + "0", 17, 16),
+        "of_16": lapping("1" * 16 + "00", 17, 16),
+        "round_a_lap": lapping("0" + "1" * 8 + "0" + "1" * 8, 1, 15),
+        "in_the_lap": lapping("0" * 3 + "1" * 18, 3, 16),
+        "of_two": lapping("1101101", 2, 1),
+        "not_of_two": lapping("0010010", 0, 1),
+    }
+    clauses = b"F [m1,2]\nF ![m1,2]\nF [m2,1]\nF [m1,2]\nF [!m1,1] | [m1,67%]\nG [m1,2]\n"
+    seeds = {f"window_{name}": seed("check", [], *files, clauses) for name, files in counts.items()}
+    again = b"[m1,2]\nF ![m1,3]\nG [m1,0]\n[m1,1] & [m1,2]\n![m1,4]\n[m1,3]\n[m31,0]\n[m1,2]\n"
+    return seeds | {
+        "window_whole_g": seed("check", [], *counts["of_17"], b"G [m1,2]\nG ![m1,1]\n"),
+        "window_again": seed("check", [], *counts["of_17"], again),
+        "window_all_carts": seed("check", [], *fleet(2, 2, 1), b"[m0,1]\n[m0,1]\nF [m1,1]\n![m1,2]\nG [m0,1]\n"),
+    }
+
+
 def main():
     out = pathlib.Path(sys.argv[1] if len(sys.argv) > 1 else "tests/fuzz/corpus")
-    seeds = special_seeds() | narrow_seeds() | share_seeds() | either_seeds()
+    seeds = special_seeds() | narrow_seeds() | share_seeds() | either_seeds() | window_seeds()
     edits = ["check", "move_on", "replace_row", "write_floor", "write_plan", "clause"]
     for name, files, operations in [
         ("two-carts", folder("examples/two-carts"), OPERATIONS),
