@@ -1523,6 +1523,16 @@ EITHER = [
     tables("X outside a count", EXAMPLE_3, 1, 1, ["[m1,2] | [m2,2]", "[m3,3]", "X [m1,2] | [m2,2]"], "16 2 0"),
 ]
 
+# Document 02, 5): the count of counters in a row, cut off at 17, and numbers of carts that are kept from count to count. As CHECKS.
+WINDOWS = [
+    ("windows: one step, always true, drift 2", FLOOR, pair(1, 0, 2, 0), sheet("G [m0,2]"), "accepted"),
+    ("windows: 17 in a row across the lap's end", FROM_1, pair(19, 1, 16, 1, *[0] * 8, 1, *[0] * 9), sheet("F [m0,2]"), "accepted"),
+    ("windows: 16 in a row across the lap's end", FROM_1, pair(18, 1, 16, 1, *[0] * 8, 1, *[0] * 8), sheet("F [m0,2]"), "refused rules 17 0 0"),
+    ("windows: one mark counted again and again", FLOOR, pair(4, 0, 1, 0, 0, 1, 1), sheet(
+        "[m0,2]", "F ![m0,2]", "F ![m0,1]", "![m0,3]", "[m0,0]", "[m0,1]", "![m31,1]", "G ([m0,1] | ![m0,2])", "[m0,2] & ![m0,3]",
+        "G ([m0,2] | ![m0,1])"), "refused rules 17 9 1"),
+]
+
 # The numbers that each file's refusals have. No task writes a floor, so 18 is about the plan alone.
 NUMBERS = {"floor": [*range(1, 8)], "plan": [*range(1, 6), *range(7, 12), 18, 19, 20], "rules": [7, *range(12, 18)]}
 
@@ -1579,7 +1589,7 @@ def data_sets():
         yield check_set(*case)
     for case in LINKS:
         yield edit_set(*case)
-    for cases in (LINKED_CHECKS, BORNE, STEPS, BLOCKS, [*by_need()], SIX_PAIRS, [*two_operands()], CHAINS, COUNTS, LIMITS, EITHER):
+    for cases in (LINKED_CHECKS, BORNE, STEPS, BLOCKS, [*by_need()], SIX_PAIRS, [*two_operands()], CHAINS, COUNTS, LIMITS, EITHER, WINDOWS):
         for case in cases:
             yield check_set(*case)
 
