@@ -1,6 +1,7 @@
 #!/usr/bin/env python3
-"""Writes accepted inputs to the folder given as argument: ones that grow in one dimension each, from a full load down, ones with and
-without narrow places, and sheets for the floor and plan of c. Run from the repository's root."""
+"""Writes accepted inputs to the folder given as first argument: ones that grow in one dimension each, from a full load down, ones with and
+without narrow places, and sheets for the floor and plan of c. To the folder given as second argument go inputs of the benchmarks with other
+drifts, which need not be accepted. Run from the repository's root."""
 import pathlib
 import shutil
 import sys
@@ -133,7 +134,18 @@ def write_sheet(folder, clauses):
     (folder / "rules").write_text("".join(clause + "\n" for clause in clauses))
 
 
+def write_drift(folder, base, drift):
+    """An input of the benchmarks, its plan with another drift: the last two bytes of the head."""
+    shutil.copytree(base, folder, dirs_exist_ok=True)
+    plan = bytearray((base / "plan").read_bytes())
+    plan[8:10] = drift.to_bytes(2, "little")
+    (folder / "plan").write_bytes(plan)
+
+
 def main():
+    for name in ("b", "c", "c_counts"):
+        for drift in (0, 1, 4, 16):
+            write_drift(pathlib.Path(sys.argv[2]) / f"{name}_{drift}", pathlib.Path("bench/inputs") / name, drift)
     for name, clauses in SHEETS.items():
         write_sheet(pathlib.Path(sys.argv[1]) / name, clauses)
     for name, (narrow, place) in NARROW.items():
