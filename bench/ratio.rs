@@ -17,6 +17,8 @@ mod logic;
 mod plan;
 #[path = "../tests/second/record.rs"]
 mod record;
+#[path = "../tests/second/running.rs"]
+mod running;
 #[path = "../tests/second/sheet.rs"]
 mod sheet;
 #[path = "../tests/second/verdict.rs"]

@@ -100,6 +100,16 @@ pub fn both(triple: &Triple) -> Result<Verdict, String> {
     Ok(first)
 }
 
+/// The library has to give this answer.
+pub fn expect(triple: &Triple, wanted: Verdict) -> Result<(), String> {
+    let (verdict, _) = library::check(&triple.floor, &triple.plan, &triple.rules);
+    if verdict == wanted {
+        return Ok(());
+    }
+    let rules = String::from_utf8_lossy(&triple.rules);
+    Err(format!("{rules:?}: {verdict}, but {wanted} is wanted"))
+}
+
 /// An accepted plan is accepted with every smaller drift; the number of them.
 pub fn smaller_drifts(triple: &Triple) -> Result<usize, String> {
     let mut lower = triple.clone();

@@ -4,8 +4,9 @@
 //!
 //! Each step has a number in six marks, which all carts bear: to count it by a threshold of 1 is true there and nowhere else.
 
+use crate::compare::expect;
 use crate::damage::Triple;
-use crate::library;
+use crate::plan::step_of;
 use crate::random::Random;
 use crate::running::{self, Met};
 use crate::sheet;
@@ -63,7 +64,6 @@ pub fn run() -> Result<Cuts, String> {
 /// Rows of h steps with trues in a row about step l and the last one, their opposites, and rows that are true or false but for a step or for the
 /// lap; then some at random, to make it a multiple of 32.
 fn rows(random: &mut Random, h: usize, l: usize) -> Vec<Text> {
-    let step = |v: usize| if v < h { v } else { l + (v - l) % (h - l) };
     let mut rows: Vec<Text> = Vec::new();
     for trues in TRUES {
         let before = [trues + 1, trues, trues - 1, trues / 2, 1, 0];
@@ -72,7 +72,7 @@ fn rows(random: &mut Random, h: usize, l: usize) -> Vec<Text> {
             .flat_map(|b| [h.checked_sub(*b), l.checked_sub(*b)]);
         for first in firsts.flatten() {
             let mut row = vec![false; h];
-            (first..first + trues).for_each(|v| row[step(v)] = true);
+            (first..first + trues).for_each(|v| row[step_of(v, h, l)] = true);
             rows.push(row);
         }
     }
@@ -200,13 +200,8 @@ impl Cuts {
     }
 
     fn expect(&mut self, triple: &Triple, wanted: Verdict) -> Result<(), String> {
-        let (verdict, _) = library::check(&triple.floor, &triple.plan, &triple.rules);
         self.checks += 1;
-        if verdict == wanted {
-            return Ok(());
-        }
-        let rules = String::from_utf8_lossy(&triple.rules);
-        Err(format!("{rules:?}: {verdict}, but {wanted} is wanted"))
+        expect(triple, wanted)
     }
 
     /// Counts the numbers of carts, and those that are other ones by each way to get the running count wrong.
@@ -261,7 +256,7 @@ fn floor(plan: &Plan) -> Vec<u8> {
     let marks = |place: usize| (1, (place as u32).to_le_bytes().to_vec());
     let mut records: Vec<Written> = (0..2 * h).map(marks).collect();
     for from in 0..h {
-        let to = if from + 1 < h { from + 1 } else { plan.l };
+        let to = step_of(from + 1, h, plan.l);
         for (a, b) in [(false, false), (false, true), (true, false), (true, true)] {
             records.push((2, vec![place(from, a), place(to, b), 1]));
         }

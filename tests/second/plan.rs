@@ -54,11 +54,7 @@ impl Plan {
 
     /// The step that a counter stands on.
     pub fn step(&self, counter: usize) -> usize {
-        if counter < self.h {
-            counter
-        } else {
-            self.l + (counter - self.l) % (self.h - self.l)
-        }
+        step_of(counter, self.h, self.l)
     }
 
     /// Each cart begins at its start, and leaves every step by a lane open to its class or stays on its place.
@@ -77,6 +73,15 @@ impl Plan {
             }
         }
         Ok(())
+    }
+}
+
+/// The step that a counter stands on, of h steps with a lap from l on.
+pub fn step_of(counter: usize, h: usize, l: usize) -> usize {
+    if counter < h {
+        counter
+    } else {
+        l + (counter - l) % (h - l)
     }
 }
 

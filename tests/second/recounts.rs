@@ -2,7 +2,7 @@
 //! checkers judge the sheet, and each clause is judged as it is by itself. Ways to mix up the numbers of carts that are kept from count to count
 //! are tried, so that the verdicts can be counted that tell these apart.
 
-use std::collections::BTreeMap;
+use std::collections::{BTreeMap, BTreeSet};
 
 use crate::blocks;
 use crate::clauses::Clauses;
@@ -112,16 +112,13 @@ impl Recounts {
         &mut self,
         random: &mut Random,
         triple: &Triple,
-        mut lines: Vec<Vec<u8>>,
+        lines: Vec<Vec<u8>>,
     ) -> Result<(), String> {
         let Triple { floor, plan, .. } = triple;
         let check = |rules: &[u8]| library::check(floor, plan, rules).0;
         let verdict = both(triple)?;
-        let mut judged: Vec<(Vec<u8>, Verdict)> = Vec::new();
-        for line in lines.drain(..) {
-            let alone = check(&line);
-            judged.push((line, alone));
-        }
+        let alone = |line: Vec<u8>| (line.clone(), check(&line));
+        let mut judged: Vec<(Vec<u8>, Verdict)> = lines.into_iter().map(alone).collect();
         for order in ["as written", "in another order"] {
             let rules: Vec<u8> = judged.iter().flat_map(|(line, _)| line.clone()).collect();
             let (told, wanted) = (check(&rules), first_refused(&judged));
@@ -141,18 +138,14 @@ impl Recounts {
         let clauses = sheet::read(&triple.rules).expect("a sheet");
         let collection = world.collection();
         let right = collection.check(&clauses);
-        let mut seen = Vec::new();
+        let mut seen = BTreeSet::new();
         for clause in &clauses {
             collection.broken_by(clause, &mut |count| {
-                seen.extend(count.lone);
+                self.counts += count.lone.is_some() as usize;
+                self.again += count.lone.is_some_and(|lone| !seen.insert(lone)) as usize;
                 collection.count(count)
             });
         }
-        self.counts += seen.len();
-        seen.sort();
-        let counts = seen.len();
-        seen.dedup();
-        self.again += counts - seen.len();
         if world.plan.h * world.plan.rows.len() > LARGE {
             return;
         }

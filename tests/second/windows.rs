@@ -3,8 +3,9 @@
 //! Three carts go along one row. A fourth never satisfies a text of theirs, so that no threshold of 1 is met by all carts at a step. Each step
 //! has a mark of its own, which all carts bear: to count it is true there and nowhere else.
 
+use crate::compare::expect;
 use crate::damage::Triple;
-use crate::library;
+use crate::plan::step_of;
 use crate::running::{self, Met};
 use crate::verdict::{Refusal, Verdict, RULES};
 use crate::world::{encode, Written};
@@ -122,13 +123,8 @@ impl Windows {
             Some(step) => Verdict::refused(RULES, Refusal(17, 0, step)),
             None => Verdict::ACCEPTED,
         };
-        let (verdict, _) = library::check(&triple.floor, &triple.plan, &triple.rules);
         self.checks += 1;
-        if verdict == wanted {
-            return Ok(());
-        }
-        let rules = String::from_utf8_lossy(&triple.rules);
-        Err(format!("{rules:?}: {verdict}, but {wanted} is wanted"))
+        expect(triple, wanted)
     }
 
     /// Counts the windows, and those that are wrong ones by each way to get the running count wrong.
@@ -148,11 +144,7 @@ impl Windows {
 
 /// Whether the row is true at all of counters s to s + d.
 pub fn is_window(row: &[bool], l: usize, s: usize, d: usize) -> bool {
-    let step = |v: usize| match row.len() {
-        h if v < h => v,
-        h => l + (v - l) % (h - l),
-    };
-    (s..=s + d).all(|v| row[step(v)])
+    (s..=s + d).all(|v| row[step_of(v, row.len(), l)])
 }
 
 /// For each step a clause that is true if all counts are there, and one that is true if any is: they are not joined.
@@ -185,11 +177,7 @@ fn floor(row: &[bool], l: usize) -> Vec<u8> {
     let place = |(marks, clock): (u32, u32)| (1, (marks | clock).to_le_bytes().to_vec());
     let mut records: Vec<Written> = marks.zip(clock).map(place).collect();
     for from in 0..2 * h {
-        let to = if (from + 1) % h > 0 {
-            from + 1
-        } else {
-            from + 1 - h + l
-        };
+        let to = from / h * h + step_of(from % h + 1, h, l);
         records.push((2, vec![from as u8, to as u8, 1]));
     }
     records.extend([0, 0, 0, h as u8].map(|start| (3, vec![0, start])));
