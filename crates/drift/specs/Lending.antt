@@ -10,7 +10,7 @@ use Rattle.table.specs.Keeping.{kept-constants}
 use Rattle.drift.specs.declared.Ground.{Ground}
 use Rattle.drift.specs.Lent.{Lent}
 
-pub still-lent : (g : Ground) (t w b t′ w′ : List ℕ) → Lent g t w b → Kept (pairsAt (g .marks) (g .h)) t t′ → length w′ ≡ 88 → Lent g t′ w′ b
+pub still-lent : (g : Ground) (t w b t′ w′ : List ℕ) → Lent g t w b → Kept (pairsAt (g .marks) (g .h)) t t′ → length w′ ≡ 81 → Lent g t′ w′ b
 still-lent g t w b t′ w′ l kept e = record {
   range = l .range;
   constants = kept-constants (g .marks) (g .h) t t′ kept (l .constants);

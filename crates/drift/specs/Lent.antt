@@ -16,7 +16,7 @@ pub record Lent (g : Ground) (t w b : List ℕ) : Type 0 where
   pub range : InRange g
   pub constants : Constants (g .marks) (g .h) t
   pub pairs : pairsEnd (g .marks) (g .h) ≤ length t
-  pub windows : length w ≡ 88
+  pub windows : length w ≡ 81
   pub bits : Bits b
 
 -- the nodes up to node k, a clause's last one or that of a part of it, with their needs

@@ -31,7 +31,7 @@ fn leaf_judged(
     nodes: &[u8],
     needs: &[u8],
     t: &mut [u32],
-    w: &mut [u32; 88],
+    w: &mut [u32; 81],
     bits: &[u32; 32],
     tallies: &mut [u8; 2048],
     g: Ground,
@@ -43,7 +43,7 @@ fn leaf_judged(
     requires { ⌜ ClauseNodes (now nodes) (now needs) k × (10 ≤ kindAt (now nodes) k) ⌝ }
     requires { ⌜ PairsFrom (g .marks) (g .h) at (getD (now needs) k 0) ⌝ }
     requires { ⌜ Tallies g (now t) (now tallies) ⌝ }
-    ensures { λ r. ⌜ Kept at (now (t .entry)) (now (t .exit)) × (length (now (w .exit)) ≡ 88) × Placed (g .marks) (g .h) at (r .at)
+    ensures { λ r. ⌜ Kept at (now (t .entry)) (now (t .exit)) × (length (now (w .exit)) ≡ 81) × Placed (g .marks) (g .h) at (r .at)
         × (r .at + g .h ≤ length (now (t .exit))) × Tallies g (now (t .exit)) (now (tallies .exit)) ⌝ }
     ensures { λ r. ⌜ ((bears : ℕ → ℕ → ℕ → Bool) → Shown (g .marks) (g .carts) (g .h) bears (now (t .entry))
         → ClauseJudged (rowsOn (g .carts) (g .h) (g .l) bears) (g .d) (now (nodes .entry)) p k (now (t .exit)) r) ⌝ }
@@ -69,7 +69,7 @@ fn clause_judged(
     nodes: &[u8],
     needs: &[u8],
     t: &mut [u32],
-    w: &mut [u32; 88],
+    w: &mut [u32; 81],
     bits: &[u32; 32],
     tallies: &mut [u8; 2048],
     g: Ground,
@@ -81,7 +81,7 @@ fn clause_judged(
     requires { ⌜ ClauseNodes (now nodes) (now needs) k ⌝ }
     requires { ⌜ PairsFrom (g .marks) (g .h) at (getD (now needs) k 0) ⌝ }
     requires { ⌜ Tallies g (now t) (now tallies) ⌝ }
-    ensures { λ r. ⌜ Kept at (now (t .entry)) (now (t .exit)) × (length (now (w .exit)) ≡ 88) × Placed (g .marks) (g .h) at (r .at)
+    ensures { λ r. ⌜ Kept at (now (t .entry)) (now (t .exit)) × (length (now (w .exit)) ≡ 81) × Placed (g .marks) (g .h) at (r .at)
         × (r .at + g .h ≤ length (now (t .exit))) × Tallies g (now (t .exit)) (now (tallies .exit)) ⌝ }
     ensures { λ r. ⌜ ((bears : ℕ → ℕ → ℕ → Bool) → Shown (g .marks) (g .carts) (g .h) bears (now (t .entry))
         → ClauseJudged (rowsOn (g .carts) (g .h) (g .l) bears) (g .d) (now (nodes .entry)) p k (now (t .exit)) r) ⌝ }
@@ -111,7 +111,7 @@ pub fn clause_row(
     nodes: &[u8],
     needs: &[u8],
     t: &mut [u32],
-    w: &mut [u32; 88],
+    w: &mut [u32; 81],
     bits: &[u32; 32],
     tallies: &mut [u8; 2048],
     g: Ground,
@@ -121,7 +121,7 @@ pub fn clause_row(
     requires { ⌜ Lent g (now t) (now w) (now bits) ⌝ }
     requires { ⌜ ClauseNodes (now nodes) (now needs) k ⌝ }
     requires { ⌜ Tallies g (now t) (now tallies) ⌝ }
-    ensures { λ _. ⌜ Kept (pairsAt (g .marks) (g .h)) (now (t .entry)) (now (t .exit)) × (length (now (w .exit)) ≡ 88)
+    ensures { λ _. ⌜ Kept (pairsAt (g .marks) (g .h)) (now (t .entry)) (now (t .exit)) × (length (now (w .exit)) ≡ 81)
         × Tallies g (now (t .exit)) (now (tallies .exit)) ⌝ }
     ensures { λ r. ⌜ ((bears : ℕ → ℕ → ℕ → Bool) → Shown (g .marks) (g .carts) (g .h) bears (now (t .entry))
         → ClauseRow (rowsOn (g .carts) (g .h) (g .l) bears) (g .d) (now (nodes .entry)) p k r) ⌝ }

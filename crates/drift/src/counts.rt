@@ -57,13 +57,13 @@ pub fn together(
     t: &[u32],
     at: usize,
     slack: u8,
-    w: &mut [u32; 88],
+    w: &mut [u32; 81],
     bits: &[u32; 32],
     g: Ground,
 ) -> u64
     requires { ⌜ Lent g (now t) (now w) (now bits) ⌝ }
     requires { ⌜ (at + g .h ≤ length (now t)) × (slack ≤ 32) ⌝ }
-    ensures { λ _. ⌜ length (now (w .exit)) ≡ 88 ⌝ }
+    ensures { λ _. ⌜ length (now (w .exit)) ≡ 81 ⌝ }
     ensures { λ r. ⌜ Row (g .h) r (λ s. ltb slack (throughout (g .h) (g .l) (g .carts) (g .d) (told (now (t .entry)) at) s)) ⌝ }
 {
     let few = wide(slack);

@@ -68,7 +68,7 @@ pub fn two_judged(
     first: Judged,
     second: Judged,
     t: &mut [u32],
-    w: &mut [u32; 88],
+    w: &mut [u32; 81],
     bits: &[u32; 32],
     g: Ground,
     at: usize,
@@ -77,7 +77,7 @@ pub fn two_judged(
     requires { ⌜ (pairsAt (g .marks) (g .h) ≤ at) × (at + 2 * g .h ≤ pairsEnd (g .marks) (g .h)) ⌝ }
     requires { ⌜ Placed (g .marks) (g .h) at (first .at) × Placed (g .marks) (g .h) (at + 2 * g .h) (second .at) × (second .at + g .h ≤ length (now t)) ⌝ }
     requires { ⌜ (first .row < 2 ^ g .h) × (second .row < 2 ^ g .h) × (first .slack ≤ 32) × (second .slack ≤ 32) ⌝ }
-    ensures { λ r. ⌜ Kept at (now (t .entry)) (now (t .exit)) × (length (now (w .exit)) ≡ 88) × Placed (g .marks) (g .h) at (r .at)
+    ensures { λ r. ⌜ Kept at (now (t .entry)) (now (t .exit)) × (length (now (w .exit)) ≡ 81) × Placed (g .marks) (g .h) at (r .at)
         × (r .at + g .h ≤ length (now (t .exit))) ⌝ }
     ensures { λ r. ⌜ ((bears : ℕ → ℕ → ℕ → Bool) (xs ys : List (Bool × Counted)) → let P = rowsOn (g .carts) (g .h) (g .l) bears in
         let zs = cond (isOr (twoOf kind) p) (both xs ys) [] in

@@ -58,7 +58,7 @@ pub fn failing_step(
     nodes: &[u8],
     needs: &[u8],
     t: &mut [u32],
-    w: &mut [u32; 88],
+    w: &mut [u32; 81],
     bits: &[u32; 32],
     tallies: &mut [u8; 2048],
     g: Ground,
@@ -67,7 +67,7 @@ pub fn failing_step(
     requires { ⌜ Lent g (now t) (now w) (now bits) ⌝ }
     requires { ⌜ ClauseNodes (now nodes) (now needs) k ⌝ }
     requires { ⌜ Tallies g (now t) (now tallies) ⌝ }
-    ensures { λ _. ⌜ Kept (pairsAt (g .marks) (g .h)) (now (t .entry)) (now (t .exit)) × (length (now (w .exit)) ≡ 88)
+    ensures { λ _. ⌜ Kept (pairsAt (g .marks) (g .h)) (now (t .entry)) (now (t .exit)) × (length (now (w .exit)) ≡ 81)
         × Tallies g (now (t .exit)) (now (tallies .exit)) ⌝ }
     ensures { λ r. ⌜ ((bears : ℕ → ℕ → ℕ → Bool) → Shown (g .marks) (g .carts) (g .h) bears (now (t .entry)) → (n : ℕ) → k < n
         → r ≡ failing (rowsOn (g .carts) (g .h) (g .l) bears) (g .d) (clauseTree (now (nodes .entry)) n k)) × (r ≤ 64) ⌝ }

@@ -36,14 +36,14 @@ fn fill_if_none(
     t: &[u32],
     from: usize,
     p: bool,
-    w: &mut [u32; 88],
+    w: &mut [u32; 81],
     g: Ground,
     tallies: &mut [u8; 2048],
     at: usize,
 )
-    requires { ⌜ InRange g × (from + g .h ≤ length (now t)) × (length (now w) ≡ 88) ⌝ }
+    requires { ⌜ InRange g × (from + g .h ≤ length (now t)) × (length (now w) ≡ 81) ⌝ }
     requires { ⌜ Tallies g (now t) (now tallies) × KeptAt g from p at ⌝ }
-    ensures { λ _. ⌜ length (now (w .exit)) ≡ 88 ⌝ }
+    ensures { λ _. ⌜ length (now (w .exit)) ≡ 81 ⌝ }
     ensures { λ _. ⌜ Tallies g (now (t .entry)) (now (tallies .exit)) × TalliesOf g (now (t .entry)) from p at (now (tallies .exit)) ⌝ }
 {
     if tallies[at] < 255 {
@@ -58,7 +58,7 @@ pub fn count_told(
     from: usize,
     p: bool,
     m: usize,
-    w: &mut [u32; 88],
+    w: &mut [u32; 81],
     bits: &[u32; 32],
     g: Ground,
     tallies: &mut [u8; 2048],
@@ -66,7 +66,7 @@ pub fn count_told(
     requires { ⌜ Lent g (now t) (now w) (now bits) ⌝ }
     requires { ⌜ Tallies g (now t) (now tallies) ⌝ }
     requires { ⌜ from + g .h ≤ length (now t) ⌝ }
-    ensures { λ _. ⌜ (length (now (w .exit)) ≡ 88) × Tallies g (now (t .entry)) (now (tallies .exit)) ⌝ }
+    ensures { λ _. ⌜ (length (now (w .exit)) ≡ 81) × Tallies g (now (t .entry)) (now (tallies .exit)) ⌝ }
     ensures { λ r. ⌜ Row (g .h) r (quorum (g .h) (g .l) (g .carts) (g .d) m (λ i s. signed p (told (now (t .entry)) from i s))) ⌝ }
 {
     let at = kept_at(from, p, g);

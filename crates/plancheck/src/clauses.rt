@@ -43,7 +43,7 @@ fn first_found(
     found: Verdict,
     nodes: &[u8],
     t: &mut [u32],
-    w: &mut [u32; 88],
+    w: &mut [u32; 81],
     bits: &[u32; 32],
     tallies: &mut [u8; 2048],
     g: Ground,
@@ -53,7 +53,7 @@ fn first_found(
     requires { ⌜ Lent g (now t) (now w) (now bits) ⌝ }
     requires { ⌜ Ordered (now nodes) (k + 1) × (k < 128) × SixPairsDo (now nodes) k ⌝ }
     requires { ⌜ Tallies g (now t) (now tallies) ⌝ }
-    ensures { λ _. ⌜ Kept (pairsAt (g .marks) (g .h)) (now (t .entry)) (now (t .exit)) × (length (now (w .exit)) ≡ 88)
+    ensures { λ _. ⌜ Kept (pairsAt (g .marks) (g .h)) (now (t .entry)) (now (t .exit)) × (length (now (w .exit)) ≡ 81)
         × Tallies g (now (t .exit)) (now (tallies .exit)) ⌝ }
     ensures { λ v. ⌜ ((bears : ℕ → ℕ → ℕ → Bool) → Shown (g .marks) (g .carts) (g .h) bears (now (t .entry)) → (m : ℕ) → k < m → v ≡ andThen found
         (clauseVerdict (rowsOn (g .carts) (g .h) (g .l) bears) (g .d) n (clauseTree (now (nodes .entry)) m k))) ⌝ }
@@ -98,7 +98,7 @@ pub fn judge_lines(
         marks,
     };
     let mut nodes = [0u8; 512];
-    let mut w = [0u32; 88];
+    let mut w = [0u32; 81];
     let mut bits = [0u32; 32];
     quorum::fill_bits(&mut bits);
     let mut tallies = [255u8; 2048];

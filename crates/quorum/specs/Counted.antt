@@ -88,6 +88,7 @@ module _ (h carts : ℕ) (f : ℕ → ℕ → Bool) (before w : List ℕ) (text 
   pub carts-alone : (s : ℕ) → s < h → getD w s 0 < 2 ^ carts
   carts-alone s p = step s p .low
 
+  -- all at the step itself
   pub here : (m all : ℕ) → Row h all (λ s. eqb m 1 && every (λ i. has w i s) carts) → Row h all (λ s. eqb m 1 && every (λ i. f i s) carts)
   here m all row = record {
     low = row .low;
@@ -95,6 +96,7 @@ module _ (h carts : ℕ) (f : ℕ → ℕ → Bool) (before w : List ℕ) (text 
   }
 
   module _ (l d : ℕ) (some : l < h) where
+    -- as many all along
     pub counted-text : (s : ℕ) → throughout h l carts d (has w) s ≡ throughout h l carts d f s
     counted-text s = throughout-agrees carts h l some d _ _ (λ i q s z. step s z .at i q) s
 

@@ -10,7 +10,7 @@ ghost use Rattle.quorum.specs.Words.{has, Bits};
 
 // Of the words of the steps: from which steps on at least m carts have their bit at all of d + 1 counters.
 pub(crate) fn throughout_row(
-    w: &mut [u32; 88],
+    w: &mut [u32; 81],
     m: usize,
     carts: usize,
     h: usize,
@@ -19,10 +19,10 @@ pub(crate) fn throughout_row(
     bits: &[u32; 32],
 ) -> u64
     requires { ⌜ (l < h) × (h ≤ 64) × (d ≤ 16) × (carts ≤ 32) ⌝ }
-    requires { ⌜ length (now w) ≡ 88 ⌝ }
+    requires { ⌜ length (now w) ≡ 81 ⌝ }
     requires { ⌜ Bits (now bits) ⌝ }
     requires { ⌜ ((s : ℕ) → s < h → getD (now w) s 0 < 2 ^ carts) ⌝ }
-    ensures { λ _. ⌜ length (now (w .exit)) ≡ 88 ⌝ }
+    ensures { λ _. ⌜ length (now (w .exit)) ≡ 81 ⌝ }
     ensures { λ r. ⌜ Row h r (λ s. leb m (throughout h l carts d (has (now (w .entry))) s)) ⌝ }
 {
     let from = crate::running::windows(w, h, l, d);
@@ -39,14 +39,14 @@ pub fn joint_row(
     h: usize,
     l: usize,
     d: usize,
-    w: &mut [u32; 88],
+    w: &mut [u32; 81],
     bits: &[u32; 32],
 ) -> u64
     requires { ⌜ (l < h) × (h ≤ 64) × (d ≤ 16) × (carts ≤ 32) ⌝ }
     requires { ⌜ at + h ≤ length (now t) ⌝ }
-    requires { ⌜ length (now w) ≡ 88 ⌝ }
+    requires { ⌜ length (now w) ≡ 81 ⌝ }
     requires { ⌜ Bits (now bits) ⌝ }
-    ensures { λ _. ⌜ length (now (w .exit)) ≡ 88 ⌝ }
+    ensures { λ _. ⌜ length (now (w .exit)) ≡ 81 ⌝ }
     ensures { λ r. ⌜ Row h r (λ s. leb m (throughout h l carts d (told (now (t .entry)) at) s)) ⌝ }
 {
     crate::words::unroll(t, at, true, carts, h, w);

@@ -21,9 +21,9 @@ fn if_enough(m: u32, n: u32, bit: u32) -> u32
 }
 
 // Of the n words from `at` on, those that are x.
-fn same(w: &[u32; 88], at: usize, x: u32, n: usize, bits: &[u32; 32]) -> u32
-    requires { ⌜ length (now w) ≡ 88 ⌝ }
-    requires { ⌜ (n ≤ 32) × (at + n ≤ 88) ⌝ }
+fn same(w: &[u32; 81], at: usize, x: u32, n: usize, bits: &[u32; 32]) -> u32
+    requires { ⌜ length (now w) ≡ 81 ⌝ }
+    requires { ⌜ (n ≤ 32) × (at + n ≤ 81) ⌝ }
     requires { ⌜ Bits (now bits) ⌝ }
     ensures { λ r. ⌜ Row n r (λ j. eqb (getD (now (w .entry)) (at + j) 0) x) ⌝ }
 {
@@ -37,9 +37,9 @@ fn same(w: &[u32; 88], at: usize, x: u32, n: usize, bits: &[u32; 32]) -> u32
 }
 
 // Of the n words from `at` on, those with at least m bits.
-fn counted(w: &[u32; 88], at: usize, m: u32, n: usize, bits: &[u32; 32]) -> u32
-    requires { ⌜ length (now w) ≡ 88 ⌝ }
-    requires { ⌜ (n ≤ 32) × (at + n ≤ 88) ⌝ }
+fn counted(w: &[u32; 81], at: usize, m: u32, n: usize, bits: &[u32; 32]) -> u32
+    requires { ⌜ length (now w) ≡ 81 ⌝ }
+    requires { ⌜ (n ≤ 32) × (at + n ≤ 81) ⌝ }
     requires { ⌜ Bits (now bits) ⌝ }
     ensures { λ r. ⌜ Row n r (λ j. leb m (ones (getD (now (w .entry)) (at + j) 0))) ⌝ }
 {
@@ -53,9 +53,9 @@ fn counted(w: &[u32; 88], at: usize, m: u32, n: usize, bits: &[u32; 32]) -> u32
 }
 
 // The same, where the words have bits of carts alone: more carts than there are no word has, and all carts or at least one need no counting.
-fn part(w: &[u32; 88], at: usize, m: usize, carts: usize, n: usize, bits: &[u32; 32]) -> u32
-    requires { ⌜ length (now w) ≡ 88 ⌝ }
-    requires { ⌜ (carts ≤ 32) × (n ≤ 32) × (at + n ≤ 88) ⌝ }
+fn part(w: &[u32; 81], at: usize, m: usize, carts: usize, n: usize, bits: &[u32; 32]) -> u32
+    requires { ⌜ length (now w) ≡ 81 ⌝ }
+    requires { ⌜ (carts ≤ 32) × (n ≤ 32) × (at + n ≤ 81) ⌝ }
     requires { ⌜ Bits (now bits) ⌝ }
     requires { ⌜ ((j : ℕ) → j < n → getD (now w) (at + j) 0 < 2 ^ carts) ⌝ }
     ensures { λ r. ⌜ Row n r (λ j. leb m (ones (getD (now (w .entry)) (at + j) 0))) ⌝ }
@@ -74,15 +74,15 @@ fn part(w: &[u32; 88], at: usize, m: usize, carts: usize, n: usize, bits: &[u32;
 
 // Of the h words from `from` on, those with at least m bits, in two parts: there are 32 bits in the table.
 pub(crate) fn at_least(
-    w: &[u32; 88],
+    w: &[u32; 81],
     from: usize,
     m: usize,
     carts: usize,
     h: usize,
     bits: &[u32; 32],
 ) -> u64
-    requires { ⌜ length (now w) ≡ 88 ⌝ }
-    requires { ⌜ (carts ≤ 32) × (h ≤ 64) × (from + h ≤ 88) ⌝ }
+    requires { ⌜ length (now w) ≡ 81 ⌝ }
+    requires { ⌜ (carts ≤ 32) × (h ≤ 64) × (from + h ≤ 81) ⌝ }
     requires { ⌜ Bits (now bits) ⌝ }
     requires { ⌜ ((s : ℕ) → s < h → getD (now w) (from + s) 0 < 2 ^ carts) ⌝ }
     ensures { λ r. ⌜ Row h r (λ s. leb m (ones (getD (now (w .entry)) (from + s) 0))) ⌝ }

@@ -31,8 +31,8 @@ pub fn fill_bits(bits: &mut [u32; 32])
 }
 
 // Where all carts have their bit, if the threshold is 1: a word is full if it has as many bits as there are carts.
-pub(crate) fn all_row(w: &[u32; 88], m: usize, carts: usize, h: usize, bits: &[u32; 32]) -> u64
-    requires { ⌜ length (now w) ≡ 88 ⌝ }
+pub(crate) fn all_row(w: &[u32; 81], m: usize, carts: usize, h: usize, bits: &[u32; 32]) -> u64
+    requires { ⌜ length (now w) ≡ 81 ⌝ }
     requires { ⌜ (carts ≤ 32) × (h ≤ 64) ⌝ }
     requires { ⌜ Bits (now bits) ⌝ }
     requires { ⌜ ((s : ℕ) → s < h → getD (now w) s 0 < 2 ^ carts) ⌝ }
@@ -56,14 +56,14 @@ pub fn count_row(
     h: usize,
     l: usize,
     d: usize,
-    w: &mut [u32; 88],
+    w: &mut [u32; 81],
     bits: &[u32; 32],
 ) -> u64
     requires { ⌜ (l < h) × (h ≤ 64) × (d ≤ 16) × (carts ≤ 32) ⌝ }
     requires { ⌜ at + h ≤ length (now t) ⌝ }
-    requires { ⌜ length (now w) ≡ 88 ⌝ }
+    requires { ⌜ length (now w) ≡ 81 ⌝ }
     requires { ⌜ Bits (now bits) ⌝ }
-    ensures { λ _. ⌜ length (now (w .exit)) ≡ 88 ⌝ }
+    ensures { λ _. ⌜ length (now (w .exit)) ≡ 81 ⌝ }
     ensures { λ r. ⌜ Row h r (quorum h l carts d m (λ i s. signed p (told (now (t .entry)) at i s))) ⌝ }
 {
     words::unroll(t, at, p, carts, h, w);

@@ -13,9 +13,9 @@ ghost use Rattle.quorum.specs.Words.{has};
 ghost use Rattle.quorum.specs.Counts.{Above, Walked};
 
 // Carts that x has not lose their bits in 16 words: their counts begin again at 0.
-fn reset(w: &mut [u32; 88], at: usize, x: u32)
-    requires { ⌜ length (now w) ≡ 88 ⌝ }
-    requires { ⌜ at + 16 ≤ 88 ⌝ }
+fn reset(w: &mut [u32; 81], at: usize, x: u32)
+    requires { ⌜ length (now w) ≡ 81 ⌝ }
+    requires { ⌜ at + 16 ≤ 81 ⌝ }
     ensures { λ _. ⌜ Stored (λ j y. y ≡ bitAnd x (getD (now (w .entry)) (at + j) 0)) at 0 16 (now (w .entry)) (now (w .exit)) ⌝ }
 {
     let mut j = 0;
@@ -26,18 +26,18 @@ fn reset(w: &mut [u32; 88], at: usize, x: u32)
 }
 
 // Of carts that have their bit at j steps of the lap from l on, those that have it at one step more. Where the lap has no more they have it for ever.
-fn one_more(w: &[u32; 88], l: usize, lap: usize, j: usize, all: u32) -> u32
-    requires { ⌜ l + lap ≤ 88 ⌝ }
-    requires { ⌜ length (now w) ≡ 88 ⌝ }
+fn one_more(w: &[u32; 81], l: usize, lap: usize, j: usize, all: u32) -> u32
+    requires { ⌜ l + lap ≤ 81 ⌝ }
+    requires { ⌜ length (now w) ≡ 81 ⌝ }
     ensures { λ r. ⌜ r ≡ cond (ltb j lap) (bitAnd (getD (now (w .entry)) (l + j) 0) all) all ⌝ }
 {
     if j < lap { w[l + j] & all } else { all }
 }
 
 // Looks over the lap for its count from l on, and lays it behind the last step.
-fn lap_count(w: &mut [u32; 88], h: usize, l: usize)
+fn lap_count(w: &mut [u32; 81], h: usize, l: usize)
     requires { ⌜ (l < h) × (h ≤ 64) ⌝ }
-    requires { ⌜ length (now w) ≡ 88 ⌝ }
+    requires { ⌜ length (now w) ≡ 81 ⌝ }
     ensures { λ _. ⌜ Stored (Above (λ i. lapCount h l (has (now (w .entry)) i))) h 0 17 (now (w .entry)) (now (w .exit)) ⌝ }
 {
     let mut all = w[l];
@@ -50,9 +50,9 @@ fn lap_count(w: &mut [u32; 88], h: usize, l: usize)
 }
 
 // Walks back over step s: the counts there, and behind their words that of the carts whose count is above d.
-fn one_back(w: &mut [u32; 88], s: usize, d: usize)
+fn one_back(w: &mut [u32; 81], s: usize, d: usize)
     requires { ⌜ (s < 64) × (d ≤ 16) ⌝ }
-    requires { ⌜ length (now w) ≡ 88 ⌝ }
+    requires { ⌜ length (now w) ≡ 81 ⌝ }
     ensures { λ _. ⌜ Walked s 1 d (now (w .entry)) (now (w .exit)) ⌝ }
 {
     let x = w[s];
@@ -61,9 +61,9 @@ fn one_back(w: &mut [u32; 88], s: usize, d: usize)
 }
 
 // Walks back over steps s + 1 and s: to go over the words once for two steps costs half as much.
-fn two_back(w: &mut [u32; 88], s: usize, d: usize)
+fn two_back(w: &mut [u32; 81], s: usize, d: usize)
     requires { ⌜ (s < 63) × (d ≤ 16) ⌝ }
-    requires { ⌜ length (now w) ≡ 88 ⌝ }
+    requires { ⌜ length (now w) ≡ 81 ⌝ }
     ensures { λ _. ⌜ Walked s 2 d (now (w .entry)) (now (w .exit)) ⌝ }
 {
     let x = w[s + 1];
@@ -74,9 +74,9 @@ fn two_back(w: &mut [u32; 88], s: usize, d: usize)
 }
 
 // Walks back from the last step to step 0.
-fn walk_back(w: &mut [u32; 88], h: usize, d: usize)
+fn walk_back(w: &mut [u32; 81], h: usize, d: usize)
     requires { ⌜ (h ≤ 64) × (d ≤ 16) ⌝ }
-    requires { ⌜ length (now w) ≡ 88 ⌝ }
+    requires { ⌜ length (now w) ≡ 81 ⌝ }
     ensures { λ _. ⌜ Walked 0 h d (now (w .entry)) (now (w .exit)) ⌝ }
 {
     let mut s = h;
@@ -90,10 +90,10 @@ fn walk_back(w: &mut [u32; 88], h: usize, d: usize)
 }
 
 // Makes of the words of the steps those of the windows, and tells where they begin. Without drift they are the same.
-pub(crate) fn windows(w: &mut [u32; 88], h: usize, l: usize, d: usize) -> usize
+pub(crate) fn windows(w: &mut [u32; 81], h: usize, l: usize, d: usize) -> usize
     requires { ⌜ (l < h) × (h ≤ 64) × (d ≤ 16) ⌝ }
-    requires { ⌜ length (now w) ≡ 88 ⌝ }
-    ensures { λ r. ⌜ (r + h ≤ 88) × (length (now (w .exit)) ≡ 88) ⌝ }
+    requires { ⌜ length (now w) ≡ 81 ⌝ }
+    ensures { λ r. ⌜ (r + h ≤ 81) × (length (now (w .exit)) ≡ 81) ⌝ }
     ensures { λ r. ⌜ ((s i : ℕ) → s < h → on (getD (now (w .exit)) (r + s) 0) i ≡ window h l (has (now (w .entry)) i) d s) ⌝ }
 {
     if d == 0 {

@@ -13,9 +13,9 @@ ghost use Rattle.quorum.specs.Words.{Bits};
 ghost use Rattle.quorum.specs.Tallies.{Tallied};
 
 // The number of bits of each of h words from `from` on.
-fn put_tallies(w: &[u32; 88], from: usize, h: usize, tallies: &mut [u8; 2048], at: usize)
-    requires { ⌜ (length (now w) ≡ 88) × (length (now tallies) ≡ 2048) ⌝ }
-    requires { ⌜ (from + h ≤ 88) × (at + h ≤ 2048) ⌝ }
+fn put_tallies(w: &[u32; 81], from: usize, h: usize, tallies: &mut [u8; 2048], at: usize)
+    requires { ⌜ (length (now w) ≡ 81) × (length (now tallies) ≡ 2048) ⌝ }
+    requires { ⌜ (from + h ≤ 81) × (at + h ≤ 2048) ⌝ }
     requires { ⌜ ((s : ℕ) → s < h → getD (now w) (from + s) 0 < 2 ^ 32) ⌝ }
     ensures { λ _. ⌜ Stored (λ s x. x ≡ ones (getD (now (w .entry)) (from + s) 0)) at 0 h (now (tallies .entry)) (now (tallies .exit)) ⌝ }
 {
@@ -35,15 +35,15 @@ pub fn fill_tallies(
     h: usize,
     l: usize,
     d: usize,
-    w: &mut [u32; 88],
+    w: &mut [u32; 81],
     tallies: &mut [u8; 2048],
     at: usize,
 )
     requires { ⌜ (l < h) × (h ≤ 64) × (d ≤ 16) × (carts ≤ 32) ⌝ }
     requires { ⌜ from + h ≤ length (now t) ⌝ }
-    requires { ⌜ length (now w) ≡ 88 ⌝ }
+    requires { ⌜ length (now w) ≡ 81 ⌝ }
     requires { ⌜ (length (now tallies) ≡ 2048) × (at + h ≤ 2048) ⌝ }
-    ensures { λ _. ⌜ length (now (w .exit)) ≡ 88 ⌝ }
+    ensures { λ _. ⌜ length (now (w .exit)) ≡ 81 ⌝ }
     ensures { λ _. ⌜ Stored (λ s x. x ≡ throughout h l carts d (λ i s. signed p (told (now (t .entry)) from i s)) s) at 0 h
         (now (tallies .entry)) (now (tallies .exit)) ⌝ }
 {
@@ -108,17 +108,17 @@ pub fn tallied_row(
     m: usize,
     carts: usize,
     h: usize,
-    w: &mut [u32; 88],
+    w: &mut [u32; 81],
     tallies: &[u8; 2048],
     at: usize,
     bits: &[u32; 32],
 ) -> u64
     requires { ⌜ (h ≤ 64) × (carts ≤ 32) ⌝ }
     requires { ⌜ from + h ≤ length (now t) ⌝ }
-    requires { ⌜ length (now w) ≡ 88 ⌝ }
+    requires { ⌜ length (now w) ≡ 81 ⌝ }
     requires { ⌜ (length (now tallies) ≡ 2048) × (at + h ≤ 2048) ⌝ }
     requires { ⌜ Bits (now bits) ⌝ }
-    ensures { λ _. ⌜ length (now (w .exit)) ≡ 88 ⌝ }
+    ensures { λ _. ⌜ length (now (w .exit)) ≡ 81 ⌝ }
     ensures { λ r. ⌜ ((l d : ℕ) → Tallied h l carts d (λ i s. signed p (told (now (t .entry)) from i s)) at (now (tallies .entry))
         → Row h r (quorum h l carts d m (λ i s. signed p (told (now (t .entry)) from i s)))) ⌝ }
 {

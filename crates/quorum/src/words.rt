@@ -15,10 +15,10 @@ pub(crate) fn lowest(n: usize) -> u32
 }
 
 // The words of the steps: the carts that satisfy the text (p) or its negation, and no bit of what is no cart.
-pub(crate) fn unroll(t: &[u32], at: usize, p: bool, carts: usize, h: usize, w: &mut [u32; 88])
+pub(crate) fn unroll(t: &[u32], at: usize, p: bool, carts: usize, h: usize, w: &mut [u32; 81])
     requires { ⌜ (carts ≤ 32) × (h ≤ 64) ⌝ }
     requires { ⌜ at + h ≤ length (now t) ⌝ }
-    requires { ⌜ length (now w) ≡ 88 ⌝ }
+    requires { ⌜ length (now w) ≡ 81 ⌝ }
     ensures { λ _. ⌜ Stored (CartsAt carts (λ i s. signed p (told (now (t .entry)) at i s))) 0 0 h (now (w .entry)) (now (w .exit)) ⌝ }
 {
     let full = lowest(carts);
