@@ -8,6 +8,8 @@ use Rattle.cltl.specs.Rules.{leaves}
 use Rattle.drift.specs.Tree.{isLeaf}
 use Rattle.drift.specs.Operator.{isOr}
 use Rattle.drift.specs.Answer.{joinable}
+use Rattle.drift.specs.declared.Ground.{Ground}
+use Rattle.drift.specs.Tallies.{tallyAt}
 use Rattle.drift.specs.Places.{constantAt, leafAt, pairsEnd, otherOf}
 
 abbrev either : Clause
@@ -42,6 +44,13 @@ pub ors :
 unfolding leaves
 ors = (refl, refl, refl, refl, refl, refl, refl, refl, refl, refl, refl)
 
+-- two carts with two marks, and as many of all as there can be
+abbrev small : Ground
+small = record { carts = 2; h = 3; l = 0; d = 1; marks = 2 }
+
+abbrev full : Ground
+full = record { carts = 32; h = 64; l = 0; d = 16; marks = 32 }
+
 -- with two marks and three steps: two tables of marks, that of all, that of none, and twelve places
 pub worked :
     (leafAt 2 3 (markN 0) ≡ 0)
@@ -61,4 +70,12 @@ pub worked :
     × (otherOf 12 3 3 ≡ 12)
     -- the full block
     × (pairsEnd 32 64 ≡ 2944)
-worked = (refl, refl, refl, refl, refl, refl, refl, refl, refl, refl, refl, refl, refl)
+    -- the tallies of marks 0 and 1 lie where their tables do, those of their negations behind
+    × (tallyAt small 0 true ≡ 0)
+    × (tallyAt small 3 true ≡ 3)
+    × (tallyAt small 0 false ≡ 6)
+    × (tallyAt small 3 false ≡ 9)
+    -- with all marks and steps, the last mark's end where those of negations begin, and there is no room
+    × (tallyAt full 1984 true ≡ 1984)
+    × (tallyAt full 0 false ≡ 2048)
+worked = (refl, refl, refl, refl, refl, refl, refl, refl, refl, refl, refl, refl, refl, refl, refl, refl, refl, refl, refl)

@@ -6,8 +6,10 @@ use mathlib.Core.List.{List, [], _∷_}
 use lib.Dec.{leb}
 use Rattle.row.specs.Lasso.{stepOf}
 use Rattle.cltl.specs.Rules.{tally, every, window, throughout, quorum}
+use Rattle.cltl.specs.Running.{walk, lapCount, runningCount}
 use Rattle.mask.specs.Mask.{on, signed}
 use Rattle.table.specs.Table.{told}
+use Rattle.quorum.specs.Words.{has}
 
 -- Three steps of two carts behind a word of something else: carts 0 and 1, cart 0, carts 0 and 1. The lap begins at step 1. Bit 2 is no cart's.
 abbrev table : List ℕ
@@ -32,9 +34,17 @@ counts d m p s = quorum 3 1 2 d m (text table p) s
 abbrev along : List ℕ → (d m : ℕ) → ℕ → Bool
 along t d m s = leb m (throughout 3 1 2 d (told t 1) s)
 
+-- how many carts all along, step by step
+abbrev tallies : ℕ → Bool → List ℕ
+tallies d p = throughout 3 1 2 d (text table p) 0 ∷ throughout 3 1 2 d (text table p) 1 ∷ throughout 3 1 2 d (text table p) 2 ∷ []
+
+-- the words of the steps
+abbrev words : List ℕ
+words = 3 ∷ 1 ∷ 3 ∷ []
+
 -- the definitions that the table computes with, under one name
 computing : (d m : ℕ) → Bool → ℕ → Bool
-unfolding on tally every stepOf window quorum
+unfolding on tally every stepOf window quorum walk lapCount runningCount
 computing d m p s = counts d m p s
 
 pub worked :
@@ -65,5 +75,15 @@ pub worked :
     × (along table 1 1 2 ≡ true)
     × (along table 1 2 2 ≡ false)
     × (along table 0 3 0 ≡ false)
+    -- the tallies: of the text with drift 0 and 1, and of its negation, true of cart 1 at step 1 alone
+    × (tallies 0 true ≡ (2 ∷ 1 ∷ 2 ∷ []))
+    × (tallies 1 true ≡ (1 ∷ 1 ∷ 1 ∷ []))
+    × (tallies 0 false ≡ (0 ∷ 1 ∷ 0 ∷ []))
+    × (tallies 1 false ≡ (0 ∷ 0 ∷ 0 ∷ []))
+    -- the counts by which they are read: cart 0 has its bit for ever, cart 1 not at step 1; at steps 0 and 2 its count is above 0 and not above 1
+    × (runningCount 3 1 (has words 0) 1 ≡ 17)
+    × (runningCount 3 1 (has words 1) 1 ≡ 0)
+    × (runningCount 3 1 (has words 1) 0 ≡ 1)
+    × (runningCount 3 1 (has words 1) 2 ≡ 1)
 unfolding computing
-worked = (refl, refl, refl, refl, refl, refl, refl, refl, refl, refl, refl, refl, refl, refl, refl, refl, refl, refl, refl)
+worked = (refl, refl, refl, refl, refl, refl, refl, refl, refl, refl, refl, refl, refl, refl, refl, refl, refl, refl, refl, refl, refl, refl, refl, refl, refl, refl, refl)
