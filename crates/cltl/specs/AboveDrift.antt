@@ -8,8 +8,8 @@ use native.Mathlib.Omega.{arith}
 use lib.Dec.{T, leb, ltb, eqb, ltb→lt, lt→ltb}
 use borrow.Author.Tests.{lt-ltb, le-ltb}
 use Rattle.grammar.specs.Grammar.{Counted, Clause}
-use Rattle.row.specs.Lasso.{nextStep, stepOf}
-use Rattle.row.specs.Round.{pick, step-low, step-below, step-next, step-from, next-last}
+use Rattle.row.specs.Lasso.{stepOf}
+use Rattle.row.specs.Round.{pick, step-low, step-below, step-from, step-lap}
 use Rattle.cltl.specs.Meaning.{Rows, Proper}
 use Rattle.cltl.specs.Rules.{tally, every, window, throughout, quorum, judge, leaves, asked, text, count, slack, someText, joint, joined, rules}
 use Rattle.cltl.specs.Running.{back, walk, lapCount, runningCount, many, countRead, jointRead, rulesRead}
@@ -24,7 +24,8 @@ unfolding every
 every-first f zero = refl
 every-first f (suc n) =
     bool-ext _ _
-    (λ t. and-i (f 0) _ (every-at f (suc (suc n)) 0 (omega arith) t) (every-of (λ i. f (suc i)) (suc n) (λ i p. every-at f (suc (suc n)) (suc i) (omega arith) t)))
+    (λ t. and-i (f 0) _ (every-at f (suc (suc n)) 0 (omega arith) t)
+    (every-of (λ i. f (suc i)) (suc n) (λ i p. every-at f (suc (suc n)) (suc i) (omega arith) t)))
     (λ t. every-of f (suc (suc n)) (go t))
   where
     go : T (f 0 && every (λ i. f (suc i)) (suc n)) → (i : ℕ) → i < suc (suc n) → T (f i)
@@ -85,7 +86,9 @@ module _ (g : ℕ → Bool) where
         go false z _ =
             inr (λ j p. ap (λ (b : Bool). ltb j (back b (walk f (suc s) n c))) z ∙ le-ltb j 0 (omega arith)
             ∙ sym (first-apart s j ∙ ap (λ (b : Bool). b && every (λ i. g (suc s + i)) j) (sym here ∙ z)))
-        go true z (inl all) = inl (λ i p q. pick s i (T (f i)) (λ r. all i (omega arith) (omega arith)) (λ r. let e : s ≡ i = omega arith in subst (λ (k : ℕ). T (f k)) e (subst T (sym z) tt)))
+        go true z (inl all) =
+            inl (λ i p q. pick s i (T (f i)) (λ r. all i (omega arith) (omega arith))
+            (λ r. let e : s ≡ i = omega arith in subst (λ (k : ℕ). T (f k)) e (subst T (sym z) tt)))
         go true z (inr t) = inr (subst (λ (b : Bool). Tells g s (back b (walk f (suc s) n c))) (sym here) (tells-back s _ t))
 
   -- the whole lap true counts as 17
@@ -114,9 +117,8 @@ module _ (h l : ℕ) (some : l < h) where
   -- behind the last step the lap begins again
   step-again : (i : ℕ) → stepOf h l (l + i) ≡ stepOf h l (h + i)
   step-again i =
-      let e : h ≡ suc (h - 1) = omega arith in
-      let last : stepOf h l h ≡ l = ap (stepOf h l) e ∙ step-next h l some (h - 1) ∙ ap (nextStep h l) (step-low h l (h - 1) (omega arith)) ∙ next-last h l (h - 1) (omega arith) in
-      ap (λ (s : ℕ). stepOf h l (s + i)) (sym last) ∙ step-on h l some h i
+      let e : l + i + (h - l) ≡ h + i = omega arith in
+      sym (step-lap h l some (l + i) (omega arith)) ∙ ap (stepOf h l) e
 
   module _ (f : ℕ → Bool) where
     -- the text at the step of a counter
@@ -128,12 +130,16 @@ module _ (h l : ℕ) (some : l < h) where
 
     lap-tells : Tells at h (lapCount h l f)
     unfolding lapCount
-    lap-tells j p = ⊎-elim whole (λ t. t j p) (tells-or-all at f l (h - l) 17 (λ i _ q. same i (omega arith))) ∙ every-agrees _ _ (suc j) (λ i _. ap f (step-again i))
+    lap-tells j p =
+        ⊎-elim whole (λ t. t j p) (tells-or-all at f l (h - l) 17 (λ i _ q. same i (omega arith)))
+        ∙ every-agrees _ _ (suc j) (λ i _. ap f (step-again i))
       where
         whole : ((i : ℕ) → l ≤ i → i < l + (h - l) → T (f i)) → ltb j (walk f l (h - l) 17) ≡ every (λ i. at (l + i)) (suc j)
         whole all =
             ap (ltb j) (all-17 at f l (h - l) all)
-            ∙ bool-ext _ _ (λ _. every-of (λ i. at (l + i)) (suc j) (λ i _. all (stepOf h l (l + i)) (omega (arith, step-from h l some (l + i) (omega arith))) (omega (arith, step-below h l some (l + i)))))
+            ∙ bool-ext _ _
+            (λ _. every-of (λ i. at (l + i)) (suc j)
+            (λ i _. let below = step-below h l some (l + i) in all (stepOf h l (l + i)) (omega (arith, step-from h l some (l + i) (omega arith))) (omega arith)))
             (λ _. lt→ltb j 17 (omega arith))
 
     running-tells : (s : ℕ) → s ≤ h → Tells at s (runningCount h l f s)

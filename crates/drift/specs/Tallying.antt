@@ -40,7 +40,9 @@ module _ (g : Ground) (from from′ : ℕ) (p p′ : Bool) (at at′ : ℕ) (her
 
   same-or-apart : ((from′ ≡ from) × (p′ ≡ p)) ⊎ Apart at′ at (g .h)
   same-or-apart =
-      ⊎-elim inl (λ apart. inr (subst (λ (a : ℕ). Apart a at (g .h)) (sym (there .place)) (subst (λ (a : ℕ). Apart (tallyAt g from′ p′) a (g .h)) (sym (here .place)) apart)))
+      ⊎-elim inl
+      (λ apart. inr (subst (λ (a : ℕ). Apart a at (g .h)) (sym (there .place))
+      (subst (λ (a : ℕ). Apart (tallyAt g from′ p′) a (g .h)) (sym (here .place)) apart)))
       (by-sign p p′ tables (omega (arith, here .table, table-ends (g .h) (here .mark) (g .marks) (here .few)))
       (omega (arith, there .table, table-ends (g .h) (there .mark) (g .marks) (there .few))))
 
@@ -102,7 +104,8 @@ module _ (g : Ground) (r : InRange g) where
       this from′ p′ at′ there e e′ =
           let same : at ≡ at′ = here .place ∙ ap (λ (x : ℕ). tallyAt g x p) (sym e) ∙ ap (tallyAt g from′) (sym e′) ∙ sym (there .place) in
           inr (subst (λ (a : ℕ). TalliesOf g t from′ p′ a after) same
-          (subst (λ (x : ℕ). TalliesOf g t x p′ at after) (sym e) (subst (λ (b : Bool). TalliesOf g t from b at after) (sym e′) (λ s u. made .each s (omega arith) u))))
+          (subst (λ (x : ℕ). TalliesOf g t x p′ at after) (sym e)
+          (subst (λ (b : Bool). TalliesOf g t from b at after) (sym e′) (λ s u. made .each s (omega arith) u))))
 
       pub tallied-too : Tallies g t before → Tallies g t after
       tallied-too all = record {

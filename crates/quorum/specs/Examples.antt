@@ -86,4 +86,5 @@ pub worked :
     × (runningCount 3 1 (has words 1) 0 ≡ 1)
     × (runningCount 3 1 (has words 1) 2 ≡ 1)
 unfolding computing
-worked = (refl, refl, refl, refl, refl, refl, refl, refl, refl, refl, refl, refl, refl, refl, refl, refl, refl, refl, refl, refl, refl, refl, refl, refl, refl, refl, refl)
+worked =
+    (refl, refl, refl, refl, refl, refl, refl, refl, refl, refl, refl, refl, refl, refl, refl, refl, refl, refl, refl, refl, refl, refl, refl, refl, refl, refl, refl)

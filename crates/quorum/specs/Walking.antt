@@ -122,7 +122,8 @@ one-step s d w₀ w₁ few room r = record {
     counted count c (suc j) p i =
         let e : s + suc j ≡ s + 1 + j = omega arith in
         ap (λ (x : ℕ). on x i) (reset-at (getD w₀ s 0) (s + 1) w₀ w₁ r (s + suc j) (omega arith) (omega arith)) ∙ on-and (getD w₀ s 0) (getD w₀ (s + suc j) 0) i
-        ∙ ap (λ (b : Bool). has w₀ i s && b) (ap (λ (k : ℕ). on (getD w₀ k 0) i) e ∙ c j (omega arith) i) ∙ sym (above-more (has w₀ i s) (count i) j (omega arith))
+        ∙ ap (λ (b : Bool). has w₀ i s && b) (ap (λ (k : ℕ). on (getD w₀ k 0) i) e ∙ c j (omega arith) i)
+        ∙ sym (above-more (has w₀ i s) (count i) j (omega arith))
 
 -- over steps s + 1 and s, the word of the one further on laid aside first
 both-twice : (x y : Bool) → ((x && y) && x) ≡ (y && x)
@@ -217,6 +218,7 @@ module _ (s d : ℕ) (w₀ w₁ : List ℕ) (few : d ≤ 16) (room : s + 18 < le
           let e : 17 + v ≡ s + 17 = omega arith in
           let z : s ≡ v = omega arith in
           let n : 2 ≡ s + 2 - v = omega arith in
-          ap (λ (k : ℕ). on (getD end k 0) i) e ∙ ap (λ (z : ℕ). on z i) (getD-set-same w₁ (s + 17) _ 0 (omega (arith, r .kept, length-set w₀ (s + 18) (bitAnd x (getD w₀ (s + 1 + d) 0)))))
+          ap (λ (k : ℕ). on (getD end k 0) i) e
+          ∙ ap (λ (z : ℕ). on z i) (getD-set-same w₁ (s + 17) _ 0 (omega (arith, r .kept, length-set w₀ (s + 18) (bitAnd x (getD w₀ (s + 1 + d) 0)))))
           ∙ counted count c i d few ∙ ap₂ (λ (k n : ℕ). ltb d (walk (has w₀ i) k n (count i))) z n);
     }

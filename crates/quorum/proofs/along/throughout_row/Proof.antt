@@ -15,7 +15,10 @@ at-least-requires c κs =
       made .ensures .0 .1,
       (
         omega (arith, pre .0, made .ensures .0 .0),
-        (pre .1 .1 .0, λ s p. windows (a .h) (a .l) (a .d) (made .result) (pre .0 .0) (a .w .now) (made .last .0) (made .ensures .1) (a .carts) (pre .1 .1 .1) s p .low),
+        (
+          pre .1 .1 .0,
+          λ s p. windows (a .h) (a .l) (a .d) (made .result) (pre .0 .0) (a .w .now) (made .last .0) (made .ensures .1) (a .carts) (pre .1 .1 .1) s p .low,
+        ),
       ),
     )
 
@@ -25,8 +28,8 @@ returns c =
     let a = c .before .before .before .before .args in
     let made = c .before .before .windows in (
       made .ensures .0 .1,
-      enough (a .h) (a .l) (a .d) (made .result) (pre .0 .0) (a .w .now) (made .last .0) (made .ensures .1) (a .carts) (pre .1 .1 .1) (a .m) (c .at-least .result)
-          (c .at-least .ensures),
+      enough (a .h) (a .l) (a .d) (made .result) (pre .0 .0) (a .w .now) (made .last .0) (made .ensures .1) (a .carts) (pre .1 .1 .1) (a .m)
+          (c .at-least .result) (c .at-least .ensures),
     )
 
 pub throughout-row-spec : {M : Type 1} → statement M

@@ -46,7 +46,8 @@ turned false true z = refl
 turned false false z = refl
 
 -- one step more
-further : (w : List ℕ) (h l j x all r : ℕ) → (j < h - l → x ≡ getD w (l + j) 0) → r ≡ cond (ltb j (h - l)) (bitAnd x all) all → AllAt w h l j all → AllAt w h l (suc j) r
+further : (w : List ℕ) (h l j x all r : ℕ) → (j < h - l → x ≡ getD w (l + j) 0) → r ≡ cond (ltb j (h - l)) (bitAnd x all) all
+    → AllAt w h l j all → AllAt w h l (suc j) r
 unfolding every
 further w h l j x all r ex er a i =
     pick j (h - l) (on r i ≡ (has w i (l + 0) && first w l i (min (suc j) (h - l))))

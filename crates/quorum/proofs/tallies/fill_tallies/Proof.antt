@@ -26,7 +26,11 @@ put-tallies-requires c κs =
       (made .ensures .0 .1, s .pre .1 .1 .1 .0),
       (
         omega (arith, made .ensures .0 .0, s .pre .1 .1 .1 .1),
-        λ j p. omega (arith, room, windows (a .h) (a .l) (a .d) (made .result) (s .pre .0 .0) (text .last .1 .1 .1 .1 .1 .0) (made .last .0) (made .ensures .1) (a .carts) few j p .low),
+        λ j p. omega (
+          arith,
+          room,
+          windows (a .h) (a .l) (a .d) (made .result) (s .pre .0 .0) (text .last .1 .1 .1 .1 .1 .0) (made .last .0) (made .ensures .1) (a .carts) few j p .low,
+        ),
       ),
     )
 
@@ -39,7 +43,8 @@ returns c =
     let few = carts-alone (a .h) (a .carts) _ _ _ (text .ensures) in (
       made .ensures .0 .1,
       stored-of _ _ (a .at) 0 (a .h) _ _
-          (λ j x _ p e. e ∙ counted-windows (a .h) (a .l) (a .d) (made .result) (s .pre .0 .0) (text .last .1 .1 .1 .1 .1 .0) (made .last .0) (made .ensures .1) (a .carts) few j p
+          (λ j x _ p e. e
+          ∙ counted-windows (a .h) (a .l) (a .d) (made .result) (s .pre .0 .0) (text .last .1 .1 .1 .1 .1 .0) (made .last .0) (made .ensures .1) (a .carts) few j p
           ∙ counted-text (a .h) (a .carts) _ _ _ (text .ensures) (a .l) (a .d) (s .pre .0 .0) j)
           (c .put-tallies .ensures),
     )
