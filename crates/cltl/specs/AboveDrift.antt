@@ -12,7 +12,7 @@ use Rattle.row.specs.Lasso.{stepOf}
 use Rattle.row.specs.Round.{pick, step-low, step-below, step-from, step-lap}
 use Rattle.cltl.specs.Meaning.{Rows, Proper}
 use Rattle.cltl.specs.Rules.{tally, every, window, throughout, quorum, judge, leaves, asked, text, count, slack, someText, joint, joined, rules}
-use Rattle.cltl.specs.Running.{back, walk, lapCount, runningCount, many, countRead, jointRead, rulesRead}
+use Rattle.cltl.specs.Running.{back, walk, lapCount, runningCount, countRead, jointRead, rulesRead}
 use Rattle.cltl.specs.Basics.{and-l, and-r, and-i, bool-ext}
 use Rattle.cltl.specs.Tally.{every-at, every-of, every-agrees}
 use Rattle.cltl.specs.Agree.{tally-agrees}

@@ -1,4 +1,4 @@
--- What is claimed of cLTL+, for any rows with a cart and a lap, any clauses and drifts.
+-- What is claimed of cLTL+, for any rows with a cart and a lap, any clauses and drifts (of long windows, drifts 0 to 16).
 use Prim.Native.Nat.{ℕ, suc, _+_, _*_, _-_, _≤_, _<_, min}
 use mathlib.Core.Path.{_≡_, refl, ap, subst, _∙_}
 use mathlib.Core.Bool.{Bool, true, false, cond, _&&_, _||_}
@@ -169,19 +169,20 @@ module _ (P : Rows) (d s : ℕ) where
       release-unended f = rw (step-low (P .h) (P .l) s low) at (forever (P .h) (P .l) (proper .lap) (λ v. rules P d a v) (λ v. rules P d b v) (P .h) s f)
 
 ---- 'Long windows', in document 02's words: the window read by a running count.
--- "cut off at 17": one more where the text is true, 17 at most, and none where it is not; behind the last step comes the lap's own count
+-- "cut off at 17": one more where the text is true, 17 at most, and none where it is not; behind the last step comes the lap's own count. So a step's truth is
+-- looked at once by `running-step`, and in the lap once more by `running-lap`
 pub running-step : (h l : ℕ) (f : ℕ → Bool) (s : ℕ) → s < h → runningCount h l f s ≡ cond (f s) (min 17 (suc (runningCount h l f (suc s)))) 0
 running-step = running-back
 
 pub running-lap : (h l : ℕ) (f : ℕ → Bool) → runningCount h l f h ≡ walk f l (h - l) 17
 running-lap = running-last
 
--- "the text holds at all of counters s to s + d exactly if the count at s is above d": for every drift, at every counter
+-- "the text holds at all of counters s to s + d exactly if the count at s is above d": for every drift that a head can hold, at every counter
 pub above-drift : (h l : ℕ) → l < h → (f : ℕ → Bool) (d v : ℕ) → d ≤ 16
     → ((j : ℕ) → j ≤ d → T (f (stepOf h l (v + j)))) ↔ (d < runningCount h l f (stepOf h l v))
 above-drift = holds-above
 
--- "all verdicts stay": the rules with every window read so, those of joined ors too, are the rules
+-- "all verdicts stay": the rules with every window read so, those of joined ors too, are the rules, at every step, so that 17 names the same one
 pub same-verdicts : (P : Rows) → Proper P → (d : ℕ) → d ≤ 16 → (c : Clause) (s : ℕ) → rulesRead P d c s ≡ rules P d c s
 same-verdicts = rules-read
 

@@ -1,4 +1,4 @@
-// Most counts are over a single mark: how many carts have it, or have it not, all along each window is made once a check and kept.
+// Most counts are over a single mark. How many carts have it at all counters of each window, or at none, is counted once a check and kept, where there is room.
 use crate::Ground;
 use crate::places::chosen;
 ghost use mathlib.Core.Path.{_≡_};

@@ -1,6 +1,6 @@
 -- definitions
 pub mod Words
-pub mod Counts
+pub mod Unary
 pub mod Tallies
 -- worked cases
 pub mod Examples

@@ -15,7 +15,7 @@ use Rattle.mask.specs.Mask.{on}
 use Rattle.mask.specs.EachBit.{on-and}
 use Rattle.table.specs.Table.{Stored}
 use Rattle.quorum.specs.Words.{has}
-use Rattle.quorum.specs.Counts.{Above, Counts, Walked}
+use Rattle.quorum.specs.Unary.{Above, InUnary, WalkedBack}
 
 -- only the steps walked over count
 pub walk-agrees : (f g : ℕ → Bool) (s n c : ℕ) → ((i : ℕ) → s ≤ i → i < s + n → f i ≡ g i) → walk f s n c ≡ walk g s n c
@@ -39,18 +39,18 @@ walk-parts f s (suc n) m c =
 above-of : (f g : ℕ → ℕ) (j x y : ℕ) → y ≡ x → ((i : ℕ) → f i ≡ g i) → Above f j x → Above g j y
 above-of f g j x y e same a i = ap (λ (z : ℕ). on z i) e ∙ a i ∙ ap (ltb j) (same i)
 
-pub begun : (h d : ℕ) (w : List ℕ) → Walked h 0 d w w
+pub begun : (h d : ℕ) (w : List ℕ) → WalkedBack h 0 d w w
 unfolding walk
 begun h d w = record {
   size = refl;
   still = λ k p. refl;
   beyond = λ k p. refl;
-  counts = λ count c. let e : h + 0 ≡ h = omega arith in subst (λ (k : ℕ). Counts w k count) e c;
+  counts = λ count c. let e : h + 0 ≡ h = omega arith in subst (λ (k : ℕ). InUnary w k count) e c;
   above = λ count c v p q. absurd (omega arith);
 }
 
 -- n steps after m steps further on
-pub onward : (s n m d : ℕ) (w₀ w₁ w₂ : List ℕ) → Walked (s + n) m d w₀ w₁ → Walked s n d w₁ w₂ → Walked s (n + m) d w₀ w₂
+pub onward : (s n m d : ℕ) (w₀ w₁ w₂ : List ℕ) → WalkedBack (s + n) m d w₀ w₁ → WalkedBack s n d w₁ w₂ → WalkedBack s (n + m) d w₀ w₂
 onward s n m d w₀ w₁ w₂ a b = record {
   size = b .size ∙ a .size;
   still = λ k p. b .still k p ∙ a .still k (omega arith);
@@ -79,8 +79,8 @@ onward s n m d w₀ w₁ w₂ a b = record {
     same : (i k : ℕ) → k ≤ s + n → has w₁ i k ≡ has w₀ i k
     same i k p = ap (λ (x : ℕ). on x i) (a .still k p)
 
-    begin : (count : ℕ → ℕ) → Counts w₀ (s + (n + m)) count → Counts w₀ (s + n + m) count
-    begin count c = let e : s + (n + m) ≡ s + n + m = omega arith in subst (λ (k : ℕ). Counts w₀ k count) e c
+    begin : (count : ℕ → ℕ) → InUnary w₀ (s + (n + m)) count → InUnary w₀ (s + n + m) count
+    begin count c = let e : s + (n + m) ≡ s + n + m = omega arith in subst (λ (k : ℕ). InUnary w₀ k count) e c
 
 -- 16 words joined to x by "and"
 abbrev Reset : (x at : ℕ) (before after : List ℕ) → Type 0
@@ -94,7 +94,7 @@ reset-at x at before after r k p q =
 
 -- over step s
 pub one-step : (s d : ℕ) (w₀ w₁ : List ℕ) → d ≤ 16 → s + 17 < length w₀ → Reset (getD w₀ s 0) (s + 1) w₀ w₁
-    → Walked s 1 d w₀ (set w₁ (s + 17) (getD w₁ (s + d) 0))
+    → WalkedBack s 1 d w₀ (set w₁ (s + 17) (getD w₁ (s + d) 0))
 unfolding walk
 one-step s d w₀ w₁ few room r = record {
   size = simp length-set (r .kept);
@@ -115,7 +115,7 @@ one-step s d w₀ w₁ few room r = record {
     other′ : (k : ℕ) → s + 17 < k → getD (set w₁ (s + 17) (getD w₁ (s + d) 0)) k 0 ≡ getD w₁ k 0
     other′ k p = getD-set-other w₁ (s + 17) k _ 0 (λ e. omega arith)
 
-    counted : (count : ℕ → ℕ) → Counts w₀ (s + 1) count → (j : ℕ) → j ≤ 16 → (i : ℕ) → on (getD w₁ (s + j) 0) i ≡ ltb j (back (has w₀ i s) (count i))
+    counted : (count : ℕ → ℕ) → InUnary w₀ (s + 1) count → (j : ℕ) → j ≤ 16 → (i : ℕ) → on (getD w₁ (s + j) 0) i ≡ ltb j (back (has w₀ i s) (count i))
     counted count c zero p i =
         let e : s + 0 ≡ s = omega arith in
         ap (λ (k : ℕ). on (getD w₁ k 0) i) e ∙ ap (λ (x : ℕ). on x i) (r .below s (omega arith)) ∙ sym (above-none (has w₀ i s) (count i))
@@ -165,7 +165,7 @@ module _ (s d : ℕ) (w₀ w₁ : List ℕ) (few : d ≤ 16) (room : s + 18 < le
     other : (k : ℕ) → (k ≡ s + 17 → ⊥) → getD end k 0 ≡ getD w₁ k 0
     other k p = getD-set-other w₁ (s + 17) k (getD w₁ (s + d) 0) 0 p
 
-    module _ (count : ℕ → ℕ) (c : Counts w₀ (s + 2) count) (i : ℕ) where
+    module _ (count : ℕ → ℕ) (c : InUnary w₀ (s + 2) count) (i : ℕ) where
       -- a word of the 17, before and after
       joined : (j : ℕ) → j < 16 → on (getD w₁ (s + suc j) 0) i ≡ ((on x i && on y i) && on (getD w₀ (s + suc j) 0) i)
       joined j p =
@@ -199,7 +199,7 @@ module _ (s d : ℕ) (w₀ w₁ : List ℕ) (few : d ≤ 16) (room : s + 18 < le
           ap₂ (λ (a b : Bool). a && b) (later i) (ap (λ (k : ℕ). on (getD w₀ k 0) i) e ∙ c j (omega arith) i)
           ∙ sym (above-more (has w₀ i (suc s)) (count i) j (omega arith))
 
-    pub two-steps : Walked s 2 d w₀ end
+    pub two-steps : WalkedBack s 2 d w₀ end
     unfolding walk
     two-steps = record {
       size = simp length-set (r .kept ∙ length-set w₀ (s + 18) (bitAnd x (getD w₀ (s + 1 + d) 0)));

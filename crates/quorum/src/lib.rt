@@ -18,7 +18,7 @@ ghost use Rattle.mask.specs.Mask.{Row, signed};
 ghost use Rattle.table.specs.Table.{told};
 ghost use Rattle.quorum.specs.Words.{has, Bits};
 
-// The table of the bits that count_row and joint_row ask for.
+// The table of the bits that count_row, joint_row and tallied_row ask for.
 pub fn fill_bits(bits: &mut [u32; 32])
     requires { ⌜ length (now bits) ≡ 32 ⌝ }
     ensures { λ _. ⌜ Bits (now (bits .exit)) ⌝ }

@@ -10,7 +10,7 @@ ghost use Rattle.cltl.specs.Running.{lapCount};
 ghost use Rattle.mask.specs.Mask.{on};
 ghost use Rattle.table.specs.Table.{Stored};
 ghost use Rattle.quorum.specs.Words.{has};
-ghost use Rattle.quorum.specs.Counts.{Above, Walked};
+ghost use Rattle.quorum.specs.Unary.{Above, WalkedBack};
 
 // Carts that x has not lose their bits in 16 words: their counts begin again at 0.
 fn reset(w: &mut [u32; 81], at: usize, x: u32)
@@ -43,9 +43,9 @@ fn lap_count(w: &mut [u32; 81], h: usize, l: usize)
     let mut all = w[l];
     let mut j = 0;
     while j < 17 {
-        all = one_more(w, l, h - l, j, all);
         w[h + j] = all;
         j += 1;
+        all = one_more(w, l, h - l, j, all);
     }
 }
 
@@ -53,18 +53,18 @@ fn lap_count(w: &mut [u32; 81], h: usize, l: usize)
 fn one_back(w: &mut [u32; 81], s: usize, d: usize)
     requires { ⌜ (s < 64) × (d ≤ 16) ⌝ }
     requires { ⌜ length (now w) ≡ 81 ⌝ }
-    ensures { λ _. ⌜ Walked s 1 d (now (w .entry)) (now (w .exit)) ⌝ }
+    ensures { λ _. ⌜ WalkedBack s 1 d (now (w .entry)) (now (w .exit)) ⌝ }
 {
     let x = w[s];
     reset(w, s + 1, x);
     w[s + 17] = w[s + d];
 }
 
-// Walks back over steps s + 1 and s: to go over the words once for two steps costs half as much.
+// Walks back over steps s + 1 and s: going over the 16 words once for both costs half as much as once for each.
 fn two_back(w: &mut [u32; 81], s: usize, d: usize)
     requires { ⌜ (s < 63) × (d ≤ 16) ⌝ }
     requires { ⌜ length (now w) ≡ 81 ⌝ }
-    ensures { λ _. ⌜ Walked s 2 d (now (w .entry)) (now (w .exit)) ⌝ }
+    ensures { λ _. ⌜ WalkedBack s 2 d (now (w .entry)) (now (w .exit)) ⌝ }
 {
     let x = w[s + 1];
     let y = w[s];
@@ -77,7 +77,7 @@ fn two_back(w: &mut [u32; 81], s: usize, d: usize)
 fn walk_back(w: &mut [u32; 81], h: usize, d: usize)
     requires { ⌜ (h ≤ 64) × (d ≤ 16) ⌝ }
     requires { ⌜ length (now w) ≡ 81 ⌝ }
-    ensures { λ _. ⌜ Walked 0 h d (now (w .entry)) (now (w .exit)) ⌝ }
+    ensures { λ _. ⌜ WalkedBack 0 h d (now (w .entry)) (now (w .exit)) ⌝ }
 {
     let mut s = h;
     while 1 < s {

@@ -13,7 +13,7 @@ use Rattle.cltl.specs.AboveDrift.{window-above}
 use Rattle.mask.specs.Mask.{on}
 use Rattle.table.specs.Table.{Stored}
 use Rattle.quorum.specs.Words.{has}
-use Rattle.quorum.specs.Counts.{Above, Counts, Walked}
+use Rattle.quorum.specs.Unary.{Above, InUnary, WalkedBack}
 use Rattle.quorum.specs.Walking.{walk-agrees}
 use Rattle.quorum.proofs.running.windows.Statement.{statement}
 use Rattle.quorum.proofs.running.windows.Tie as tie
@@ -40,7 +40,7 @@ walk-back-requires c κs =
     ((s .pre .0 .1, s .pre .0 .2), c .before .lap-count .ensures .kept ∙ s .pre .1)
 
 -- the lap's own count walked back over all steps is the running count
-running : (h l d : ℕ) (w₀ w₁ w₂ : List ℕ) → l < h → d ≤ 16 → Stored (Above (λ i. lapCount h l (has w₀ i))) h 0 17 w₀ w₁ → Walked 0 h d w₁ w₂
+running : (h l d : ℕ) (w₀ w₁ w₂ : List ℕ) → l < h → d ≤ 16 → Stored (Above (λ i. lapCount h l (has w₀ i))) h 0 17 w₀ w₁ → WalkedBack 0 h d w₁ w₂
     → (s i : ℕ) → s < h → on (getD w₂ (17 + s) 0) i ≡ window h l (has w₀ i) d s
 unfolding runningCount
 running h l d w₀ w₁ w₂ some few lap walked s i p =
@@ -53,7 +53,7 @@ running h l d w₀ w₁ w₂ some few lap walked s i p =
     count : ℕ → ℕ
     count i = lapCount h l (has w₀ i)
 
-    start : Counts w₁ (0 + h) count
+    start : InUnary w₁ (0 + h) count
     start j q = let e : h + j ≡ 0 + h + j = omega arith in subst (λ (k : ℕ). Above count j (getD w₁ k 0)) e (lap .each j (omega arith) (omega arith))
 
 returns-2 : tie.Need-returns-2
