@@ -1,5 +1,4 @@
 use mathlib.Core.Logic.{⊎-elim}
-use native.Mathlib.Omega.{arith}
 use Rattle.drift.specs.Tallies.{KeptAt}
 use borrow.Author.Needs.{needs}
 use Rattle.drift.proofs.tallies.count_told.Statement.{statement}
