@@ -50,7 +50,12 @@ onward j row bit f r e =
     moved true = omega arith
     moved false = omega arith
 
-pub halves : (h low high up : ℕ) (f : ℕ → Bool) → 32 ≤ h → up ≡ high * 2 ^ 32 → Row 32 low f → Row (h - 32) high (λ j. f (32 + j)) → Row h (bitOr low up) f
-halves h low high up f p e a b =
+-- of h numbers from `at` on, the first 32 and those behind them
+pub halves : (h low high up at : ℕ) (f : ℕ → Bool) → 32 ≤ h → up ≡ high * 2 ^ 32 → Row 32 low (λ j. f (at + j)) → Row (h - 32) high (λ j. f (at + 32 + j))
+    → Row h (bitOr low up) (λ j. f (at + j))
+halves h low high up at f p e a b =
+    let g : ℕ → Bool = λ j. f (at + j) in
     let n : h - 32 + 32 ≡ h = omega arith in
-    subst (λ (y : ℕ). Row h (bitOr low y) f) (sym e) (subst (λ (k : ℕ). Row k (bitOr low (high * 2 ^ 32)) f) n (parts 32 (h - 32) low high f a b))
+    let behind : Row (h - 32) high (λ j. g (32 + j)) =
+    record { low = b .low; at = λ j q. let z : at + 32 + j ≡ at + (32 + j) = omega arith in b .at j q ∙ ap f z } in
+    subst (λ (y : ℕ). Row h (bitOr low y) g) (sym e) (subst (λ (k : ℕ). Row k (bitOr low (high * 2 ^ 32)) g) n (parts 32 (h - 32) low high g a behind))

@@ -1,7 +1,7 @@
 -- Words of windows counted are the rule for a count.
 use Prim.Native.Nat.{ℕ, _+_, _^_, _≤_, _<_}
 use mathlib.Core.Path.{_≡_, refl, sym, ap, ap₂, subst, _∙_}
-use mathlib.Core.Bool.{Bool, true, false, _&&_, _||_}
+use mathlib.Core.Bool.{Bool, false, _&&_, _||_}
 use mathlib.Core.List.{List}
 use native.Mathlib.Omega.{arith}
 use lib.Bits.{bitOr, or-lt}
@@ -12,6 +12,7 @@ use borrow.Author.Tests.{eq-eqb, ne-eqb}
 use Rattle.row.specs.Lasso.{stepOf}
 use Rattle.row.specs.Round.{step-below}
 use Rattle.cltl.specs.Rules.{every, window, throughout, quorum}
+use Rattle.cltl.specs.Basics.{bool-ext}
 use Rattle.cltl.specs.Tally.{every-agrees}
 use Rattle.cltl.specs.Quorum.{window-at}
 use Rattle.cltl.specs.Agree.{throughout-agrees}
@@ -50,14 +51,10 @@ module _ (h l d from : ℕ) (some : l < h) (w₀ w₁ : List ℕ)
     (along : (s i : ℕ) → s < h → on (getD w₁ (from + s) 0) i ≡ window h l (has w₀ i) d s) (carts : ℕ) (low : (s : ℕ) → s < h → getD w₀ s 0 < 2 ^ carts) where
   -- no bit of what is no cart
   no-cart : (s i : ℕ) → s < h → carts ≤ i → on (getD w₁ (from + s) 0) i ≡ false
-  no-cart s i p q = along s i p ∙ never (window h l (has w₀ i) d s) (λ t. missing (window-at h l (has w₀ i) d s 0 (omega arith) t))
-    where
-      never : (b : Bool) → (T b → ⊥) → b ≡ false
-      never true f = absurd (f tt)
-      never false f = refl
-
-      missing : T (has w₀ i (stepOf h l (s + 0))) → ⊥
-      missing t = subst T (on-beyond _ carts i (low (stepOf h l (s + 0)) (step-below h l some (s + 0))) q) t
+  no-cart s i p q =
+      along s i p
+      ∙ bool-ext _ _
+      (λ t. subst T (on-beyond _ carts i (low (stepOf h l (s + 0)) (step-below h l some (s + 0))) q) (window-at h l (has w₀ i) d s 0 (omega arith) t)) absurd
 
   -- the carts that have their bit all along
   pub windows : (s : ℕ) → s < h → Row carts (getD w₁ (from + s) 0) (λ i. window h l (has w₀ i) d s)

@@ -8,7 +8,6 @@ use lib.Arith.{lt-one, bin-ind}
 use lib.Count.{ones, ones-step, ones-ones, ones-le}
 use lib.Dec.{T, leb, eqb, leb→le, le→leb, eqb→eq, eqb-refl, not-T}
 use lib.Pow.{pow-pos}
-use borrow.Author.Tests.{lt-leb}
 use Rattle.row.specs.Round.{pick}
 use Rattle.cltl.specs.Rules.{tally, every}
 use Rattle.cltl.specs.Basics.{bool-ext}
@@ -88,7 +87,3 @@ bits-left x =
     go : (b : Bool) → (x ≡ 0 → T b) → T (not b) → 1 ≤ ones x
     go true f t = absurd t
     go false f t = pick (ones x) 1 (1 ≤ ones x) (λ q. absurd (f (none x (omega arith)))) (λ q. q)
-
--- more bits than there is room for
-pub too-many : (k m x : ℕ) → x < 2 ^ k → k < m → leb m (ones x) ≡ false
-too-many k m x p q = lt-leb m (ones x) (omega (arith, ones-le k x p))

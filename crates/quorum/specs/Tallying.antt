@@ -7,27 +7,12 @@ use native.Mathlib.Omega.{arith}
 use lib.Bits.{bitOr}
 use lib.Dec.{leb, eqb}
 use lib.ListN.{getD}
-use borrow.Author.Tests.{lt-leb, ne-eqb}
+use borrow.Author.Tests.{ne-eqb}
 use Rattle.cltl.specs.Rules.{every, window, throughout, quorum}
 use Rattle.cltl.specs.Tally.{tally-le}
 use Rattle.mask.specs.Mask.{Row}
-use Rattle.mask.specs.Combined.{all-false}
 use Rattle.quorum.specs.Tallies.{Tallied}
 use Rattle.quorum.specs.Counted.{either}
-
--- none reaches what is above all of them
-pub too-high : (h m most : ℕ) (f : ℕ → ℕ) → ((s : ℕ) → s < h → f s ≤ most) → most < m → Row h 0 (λ s. leb m (f s))
-too-high h m most f low p =
-    let none = all-false h in
-    record { low = none .low; at = λ s q. none .at s q ∙ sym (lt-leb m (f s) (omega (arith, low s q))) }
-
--- steps by their numbers from another one on
-pub from-step : (tallies : List ℕ) (at base k m n r : ℕ) → base ≡ at + k → Row n r (λ j. leb m (getD tallies (base + j) 0))
-    → Row n r (λ j. leb m (getD tallies (at + (k + j)) 0))
-from-step tallies at base k m n r e row = record {
-  low = row .low;
-  at = λ j p. let same : base + j ≡ at + (k + j) = omega arith in row .at j p ∙ ap (λ (i : ℕ). leb m (getD tallies i 0)) same;
-}
 
 module _ (h l carts d : ℕ) (f : ℕ → ℕ → Bool) (at : ℕ) (tallies : List ℕ) (told : Tallied h l carts d f at tallies) where
   -- no more than there are carts

@@ -1,7 +1,7 @@
 -- Walking back in parts, and over a step or two.
 use Prim.Native.Nat.{ℕ, zero, suc, _+_, _-_, _≤_, _<_}
 use mathlib.Core.Path.{_≡_, refl, sym, ap, ap₂, subst, _∙_}
-use mathlib.Core.Bool.{Bool, true, false, _&&_}
+use mathlib.Core.Bool.{Bool, _&&_, and-self, and-assoc}
 use mathlib.Core.List.{List}
 use native.Mathlib.Omega.{arith}
 use lib.Bits.{bitAnd}
@@ -56,8 +56,7 @@ onward s n m d w₀ w₁ w₂ a b = record {
   still = λ k p. b .still k p ∙ a .still k (omega arith);
   beyond = λ k p. b .beyond k (omega arith) ∙ a .beyond k (omega arith);
   counts = λ count c j p. above-of _ _ j _ _ refl
-      (λ i. let z : s ≡ s + 0 = omega arith in
-      walk-agrees (has w₁ i) (has w₀ i) s n _ (λ k _ q. same i k (omega arith)) ∙ sym (walk-parts (has w₀ i) s n m (count i)))
+      (λ i. walk-agrees (has w₁ i) (has w₀ i) s n _ (λ k _ q. same i k (omega arith)) ∙ sym (walk-parts (has w₀ i) s n m (count i)))
       (b .counts (behind count) (a .counts count (begin count c)) j p);
   above = λ count c v p q. pick v (s + n) (Above (λ i. walk (has w₀ i) v (s + (n + m) - v) (count i)) d (getD w₂ (17 + v) 0))
       (λ r. above-of _ _ d _ _ refl
@@ -98,9 +97,9 @@ pub one-step : (s d : ℕ) (w₀ w₁ : List ℕ) → d ≤ 16 → s + 17 < leng
 unfolding walk
 one-step s d w₀ w₁ few room r = record {
   size = simp length-set (r .kept);
-  still = λ k p. other k (omega arith) ∙ r .below k (omega arith);
-  beyond = λ k p. other′ k (omega arith) ∙ r .above k (omega arith);
-  counts = λ count c j p i. ap (λ (x : ℕ). on x i) (other (s + j) (omega arith)) ∙ counted count c j p i;
+  still = λ k p. other k (λ e. omega arith) ∙ r .below k (omega arith);
+  beyond = λ k p. other k (λ e. omega arith) ∙ r .above k (omega arith);
+  counts = λ count c j p i. ap (λ (x : ℕ). on x i) (other (s + j) (λ e. omega arith)) ∙ counted count c j p i;
   above = λ count c v p q i.
       let e : 17 + v ≡ s + 17 = omega arith in
       let z : v ≡ s = omega arith in
@@ -109,11 +108,8 @@ one-step s d w₀ w₁ few room r = record {
       ∙ counted count c d few i ∙ ap₂ (λ (k n : ℕ). ltb d (walk (has w₀ i) k n (count i))) (sym z) n;
 }
   where
-    other : (k : ℕ) → k < s + 17 → getD (set w₁ (s + 17) (getD w₁ (s + d) 0)) k 0 ≡ getD w₁ k 0
-    other k p = getD-set-other w₁ (s + 17) k _ 0 (λ e. omega arith)
-
-    other′ : (k : ℕ) → s + 17 < k → getD (set w₁ (s + 17) (getD w₁ (s + d) 0)) k 0 ≡ getD w₁ k 0
-    other′ k p = getD-set-other w₁ (s + 17) k _ 0 (λ e. omega arith)
+    other : (k : ℕ) → (k ≡ s + 17 → ⊥) → getD (set w₁ (s + 17) (getD w₁ (s + d) 0)) k 0 ≡ getD w₁ k 0
+    other k p = getD-set-other w₁ (s + 17) k (getD w₁ (s + d) 0) 0 p
 
     counted : (count : ℕ → ℕ) → InUnary w₀ (s + 1) count → (j : ℕ) → j ≤ 16 → (i : ℕ) → on (getD w₁ (s + j) 0) i ≡ ltb j (back (has w₀ i s) (count i))
     counted count c zero p i =
@@ -125,22 +121,7 @@ one-step s d w₀ w₁ few room r = record {
         ∙ ap (λ (b : Bool). has w₀ i s && b) (ap (λ (k : ℕ). on (getD w₀ k 0) i) e ∙ c j (omega arith) i)
         ∙ sym (above-more (has w₀ i s) (count i) j (omega arith))
 
--- over steps s + 1 and s, the word of the one further on laid aside first
-both-twice : (x y : Bool) → ((x && y) && x) ≡ (y && x)
-both-twice true true = refl
-both-twice true false = refl
-both-twice false true = refl
-both-twice false false = refl
-
-both-then : (x y z : Bool) → ((x && y) && z) ≡ (y && (x && z))
-both-then true y z = refl
-both-then false true z = refl
-both-then false false z = refl
-
-twice : (x : Bool) → (x && x) ≡ x
-twice true = refl
-twice false = refl
-
+-- over steps s + 1 and s, the window of the later one laid aside first
 module _ (s d : ℕ) (w₀ w₁ : List ℕ) (few : d ≤ 16) (room : s + 18 < length w₀) where
   -- the words of both steps
   abbrev x : ℕ
@@ -158,7 +139,7 @@ module _ (s d : ℕ) (w₀ w₁ : List ℕ) (few : d ≤ 16) (room : s + 18 < le
   later : (i : ℕ) → on x i ≡ has w₀ i (suc s)
   later i = let e : s + 1 ≡ suc s = omega arith in ap (λ (k : ℕ). on (getD w₀ k 0) i) e
 
-  module _ (r : Reset (bitAnd x y) (s + 1) aside w₁) where
+  module _ (r : Reset (bitAnd y x) (s + 1) aside w₁) where
     abbrev end : List ℕ
     end = set w₁ (s + 17) (getD w₁ (s + d) 0)
 
@@ -167,11 +148,11 @@ module _ (s d : ℕ) (w₀ w₁ : List ℕ) (few : d ≤ 16) (room : s + 18 < le
 
     module _ (count : ℕ → ℕ) (c : InUnary w₀ (s + 2) count) (i : ℕ) where
       -- a word of the 17, before and after
-      joined : (j : ℕ) → j < 16 → on (getD w₁ (s + suc j) 0) i ≡ ((on x i && on y i) && on (getD w₀ (s + suc j) 0) i)
+      joined : (j : ℕ) → j < 16 → on (getD w₁ (s + suc j) 0) i ≡ ((on y i && on x i) && on (getD w₀ (s + suc j) 0) i)
       joined j p =
-          ap (λ (z : ℕ). on z i) (reset-at (bitAnd x y) (s + 1) aside w₁ r (s + suc j) (omega arith) (omega arith))
-          ∙ on-and (bitAnd x y) (getD aside (s + suc j) 0) i
-          ∙ ap₂ (λ (a b : Bool). a && b) (on-and x y i) (ap (λ (z : ℕ). on z i) (aside-other (s + suc j) (λ e. omega arith)))
+          ap (λ (z : ℕ). on z i) (reset-at (bitAnd y x) (s + 1) aside w₁ r (s + suc j) (omega arith) (omega arith))
+          ∙ on-and (bitAnd y x) (getD aside (s + suc j) 0) i
+          ∙ ap₂ (λ (a b : Bool). a && b) (on-and y x i) (ap (λ (z : ℕ). on z i) (aside-other (s + suc j) (λ e. omega arith)))
 
       counted : (j : ℕ) → j ≤ 16 → on (getD w₁ (s + j) 0) i ≡ ltb j (back (has w₀ i s) (back (has w₀ i (suc s)) (count i)))
       counted zero p =
@@ -179,11 +160,11 @@ module _ (s d : ℕ) (w₀ w₁ : List ℕ) (few : d ≤ 16) (room : s + 18 < le
           ap (λ (k : ℕ). on (getD w₁ k 0) i) e ∙ ap (λ (z : ℕ). on z i) (r .below s (omega arith) ∙ aside-other s (λ e. omega arith))
           ∙ sym (above-none (has w₀ i s) _)
       counted (suc zero) p =
-          joined 0 (omega arith) ∙ both-twice (on x i) (on y i)
+          joined 0 (omega arith) ∙ and-assoc (on y i) (on x i) (on x i) ∙ ap (λ (b : Bool). on y i && b) (and-self (on x i))
           ∙ ap (λ (b : Bool). has w₀ i s && b) (later i ∙ sym (above-none (has w₀ i (suc s)) (count i))) ∙ sym (above-more (has w₀ i s) _ 0 (omega arith))
       counted (suc (suc j)) p =
           let e : s + suc (suc j) ≡ s + 2 + j = omega arith in
-          joined (suc j) (omega arith) ∙ both-then (on x i) (on y i) _
+          joined (suc j) (omega arith) ∙ and-assoc (on y i) (on x i) _
           ∙ ap (λ (b : Bool). has w₀ i s && b)
           (ap₂ (λ (a b : Bool). a && b) (later i) (ap (λ (k : ℕ). on (getD w₀ k 0) i) e ∙ c j (omega arith) i)
           ∙ sym (above-more (has w₀ i (suc s)) (count i) j (omega arith)))
@@ -193,7 +174,7 @@ module _ (s d : ℕ) (w₀ w₁ : List ℕ) (few : d ≤ 16) (room : s + 18 < le
       aside-above : (j : ℕ) → j ≤ 16 → (on x i && on (getD w₀ (s + 1 + j) 0) i) ≡ ltb j (back (has w₀ i (suc s)) (count i))
       aside-above zero p =
           let e : s + 1 + 0 ≡ s + 1 = omega arith in
-          ap (λ (k : ℕ). on x i && on (getD w₀ k 0) i) e ∙ twice (on x i) ∙ later i ∙ sym (above-none (has w₀ i (suc s)) (count i))
+          ap (λ (k : ℕ). on x i && on (getD w₀ k 0) i) e ∙ and-self (on x i) ∙ later i ∙ sym (above-none (has w₀ i (suc s)) (count i))
       aside-above (suc j) p =
           let e : s + 1 + suc j ≡ s + 2 + j = omega arith in
           ap₂ (λ (a b : Bool). a && b) (later i) (ap (λ (k : ℕ). on (getD w₀ k 0) i) e ∙ c j (omega arith) i)

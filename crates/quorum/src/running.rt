@@ -69,7 +69,7 @@ fn two_back(w: &mut [u32; 81], s: usize, d: usize)
     let x = w[s + 1];
     let y = w[s];
     w[s + 18] = x & w[s + 1 + d];
-    reset(w, s + 1, x & y);
+    reset(w, s + 1, y & x);
     w[s + 17] = w[s + d];
 }
 

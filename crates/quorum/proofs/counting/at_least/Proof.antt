@@ -1,6 +1,5 @@
 use Prim.Native.Nat.{ℕ, _+_, _^_, _<_}
-use mathlib.Core.Path.{_≡_, ap, subst, _∙_}
-use mathlib.Core.Bool.{Bool}
+use mathlib.Core.Path.{_≡_, subst}
 use native.Mathlib.Omega.{arith}
 use borrow.Author.Needs.{needs}
 use lib.Count.{ones}
@@ -59,11 +58,8 @@ returns-2 c =
     let a = c .before .before .before .args in
     let low = c .before .part2 in
     let high = c .part3 in
-    let enough : ℕ → Bool = λ k. leb (a .m) (ones (getD (a .w .now) k 0)) in
-    halves (a .h) (low .result) (high .result) _ (λ s. enough (a .from + s)) (omega arith) (omega arith) (low .ensures) (record {
-      low = high .ensures .low;
-      at = λ j p. let e : a .from + 32 + j ≡ a .from + (32 + j) = omega arith in high .ensures .at j p ∙ ap enough e;
-    })
+    halves (a .h) (low .result) (high .result) _ (a .from) (λ k. leb (a .m) (ones (getD (a .w .now) k 0))) (omega arith) (omega arith) (low .ensures)
+    (high .ensures)
 
 pub at-least-spec : {M : Type 1} → statement M
 at-least-spec =

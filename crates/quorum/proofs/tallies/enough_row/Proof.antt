@@ -4,7 +4,7 @@ use lib.Dec.{leb}
 use lib.ListN.{getD}
 use Prim.Native.Nat.{_+_}
 use Rattle.quorum.specs.BitByBit.{halves}
-use Rattle.quorum.specs.Tallying.{too-high, from-step}
+use Rattle.quorum.specs.WithoutCounting.{too-high}
 use borrow.Author.Needs.{needs}
 use Rattle.quorum.proofs.tallies.enough_row.Statement.{statement}
 use Rattle.quorum.proofs.tallies.enough_row.Tie as tie
@@ -12,7 +12,7 @@ use Rattle.quorum.proofs.tallies.enough_row.Tie as tie
 returns : tie.Need-returns
 returns c =
     let a = c .before .args in
-    λ few. too-high (a .h) (a .m) (a .carts) (λ s. getD (a .tallies .now) (a .at + s) 0) few (omega arith)
+    λ few. too-high (a .h) (a .m) (a .carts) 0 (λ s. getD (a .tallies .now) (a .at + s) 0) few (omega arith) refl
 
 cast-enough : tie.Need-cast-enough
 cast-enough c = search needs
@@ -55,8 +55,8 @@ returns-3 c =
     let a = c .before .before .before .before .args in
     let low = c .before .enough2 in
     let high = c .enough3 in
-    λ few. halves (a .h) (low .result) (high .result) _ (λ s. leb (a .m) (getD (a .tallies .now) (a .at + s) 0)) (omega arith) (omega arith)
-    (low .ensures) (from-step (a .tallies .now) (a .at) _ 32 (a .m) _ (high .result) refl (high .ensures))
+    λ few. halves (a .h) (low .result) (high .result) _ (a .at) (λ k. leb (a .m) (getD (a .tallies .now) k 0)) (omega arith) (omega arith) (low .ensures)
+    (high .ensures)
 
 pub enough-row-spec : {M : Type 1} → statement M
 enough-row-spec =
