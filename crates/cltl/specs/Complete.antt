@@ -7,7 +7,7 @@ use native.Mathlib.Omega.{arith}
 use native.Mathlib.Nat.{eq-or-lt-of-le, le-refl}
 use lib.Dec.{T, eqb, eqb→eq, T-not}
 use lib.Ieee.Fits.{eq→eqb}
-use Rattle.grammar.specs.Grammar.{Inner, Counted, counted}
+use Rattle.grammar.specs.Grammar.{Inner, Counted, amount, counted}
 use Rattle.row.specs.Lasso.{stepOf}
 use Rattle.row.specs.Round.{step-low, step-below}
 use Rattle.cltl.specs.Threshold.{threshold, quota}
@@ -168,7 +168,7 @@ module _ (P : Rows) (proper : Proper P) (d : ℕ) where
         tally-least (λ i. inner P i true a (stepOf (P .h) (P .l) (K i))) _ (P .carts) (λ i _ t. inner-sound P proper i true a (K i) t) m (omega arith)
 
   same-standing : (p : Bool) (a : Inner) (k : ℕ) (percent : Bool) (K : ℕ → ℕ) (r : Run (P .carts) d) (t : ℕ) → ((i : ℕ) → i < P .carts → r .at t i ≡ K i)
-      → Val p (AtLeast (λ i. Satisfies P i a (K i)) (threshold k percent (P .carts)) (P .carts)) → Val p (Counts P (r .at) (counted a k percent) t)
+      → Val p (AtLeast (λ i. Satisfies P i a (K i)) (threshold k percent (P .carts)) (P .carts)) → Val p (Counts P (r .at) (counted a (amount k percent)) t)
   same-standing true a k percent K r t e x =
       at-least-map _ _ (P .carts) (λ i p. subst (λ (v : ℕ). Satisfies P i a v) (sym (e i p))) (threshold k percent (P .carts)) x
   same-standing false a k percent K r t e x =
@@ -176,7 +176,7 @@ module _ (P : Rows) (proper : Proper P) (d : ℕ) where
 
   pub count-complete : (p : Bool) (x : Counted) (s : ℕ) → s < P .h → (T (count P d p x s) → ⊥) → Broken P d p x s
   unfolding count
-  count-complete p (counted a k percent) s low broken =
+  count-complete p (counted a (amount k percent)) s low broken =
       let b = breaks (P .h) (P .l) (P .carts) d _ (proper .some) (λ i. inner P i p a) s low broken in
       let K : ℕ → ℕ = b .0 .counter in
       let spread : (i j : ℕ) → i < P .carts → j < P .carts → K i ≤ K j + d = (λ i j p q. let x = b .0 .ahead i p in let y = b .0 .behind j q in omega arith) in

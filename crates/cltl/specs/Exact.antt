@@ -5,7 +5,7 @@ use mathlib.Core.Bool.{Bool, true, false, not, Bool·not-not}
 use mathlib.Core.Logic.{_⊎_, ⊎-elim, _↔_}
 use native.Mathlib.Omega.{arith}
 use lib.Dec.{T}
-use Rattle.grammar.specs.Grammar.{Inner, Counted, counted, Clause}
+use Rattle.grammar.specs.Grammar.{Inner, Counted, amount, counted, Clause}
 use Rattle.row.specs.Lasso.{stepOf}
 use Rattle.row.specs.Round.{step-below}
 use Rattle.cltl.specs.Threshold.{threshold, quota}
@@ -27,8 +27,8 @@ module _ (P : Rows) (proper : Proper P) where
   having p a s = tally (λ i. inner P i p a s) (P .carts)
 
   count-none : (p : Bool) (a : Inner) (k : ℕ) (percent : Bool) (s : ℕ) → s < P .h
-      → (T (count P 0 p (counted a k percent) s) → quota p (threshold k percent (P .carts)) (P .carts) ≤ having p a s)
-      × (quota p (threshold k percent (P .carts)) (P .carts) ≤ having p a s → T (count P 0 p (counted a k percent) s))
+      → (T (count P 0 p (counted a (amount k percent)) s) → quota p (threshold k percent (P .carts)) (P .carts) ≤ having p a s)
+      × (quota p (threshold k percent (P .carts)) (P .carts) ≤ having p a s → T (count P 0 p (counted a (amount k percent)) s))
   unfolding count
   count-none p a k percent s q = (
     λ y. quorum-none (P .h) (P .l) (P .carts) _ (λ i. inner P i p a) s (proper .some) y q,
@@ -37,12 +37,12 @@ module _ (P : Rows) (proper : Proper P) where
 
   count-opp : (x : Counted) (s : ℕ) → s < P .h → count P 0 false x s ≡ not (count P 0 true x s)
   unfolding quota
-  count-opp (counted a k percent) s q =
+  count-opp (counted a (amount k percent)) s q =
       let m : ℕ = threshold k percent (P .carts) in
       let e : having false a s + having true a s ≡ P .carts = tally-not _ _ (λ i. inner-opp P proper i a s q) (P .carts) in
       let yes = count-none true a k percent s q in
       let no = count-none false a k percent s q in
-      bool-opp (count P 0 false (counted a k percent) s) (count P 0 true (counted a k percent) s)
+      bool-opp (count P 0 false (counted a (amount k percent)) s) (count P 0 true (counted a (amount k percent)) s)
       (λ x y. let x′ = no .0 x in let y′ = yes .0 y in omega arith)
       (λ f. no .1 (⊎-elim (λ g. omega arith) (λ g. absurd (f (yes .1 g))) (lt-or-le (having true a s) m)))
 

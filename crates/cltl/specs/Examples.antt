@@ -5,7 +5,7 @@ use mathlib.Core.Path.{_≡_, refl}
 use mathlib.Core.Bool.{Bool, true, false, not, cond, _&&_}
 use mathlib.Core.Logic.{_⊎_, inl, inr}
 use lib.Dec.{eqb, leb}
-use Rattle.grammar.specs.Grammar.{top, leaf, neg, and, next, until, release, ev, gl, counted, Clause}
+use Rattle.grammar.specs.Grammar.{top, leaf, neg, and, next, until, release, ev, gl, amount, counted, Clause}
 use Rattle.row.specs.Lasso.{nextStep, stepOf}
 use Rattle.cltl.specs.Threshold.{threshold, quota}
 use Rattle.cltl.specs.Meaning.{Rows, Run, Bears, Satisfies}
@@ -31,11 +31,11 @@ places = record { carts = 2; h = 4; l = 0; bears = λ i s k. eqb k (cond (leb (i
 
 -- `[mk,m]`
 abbrev atLeast : ℕ → ℕ → Clause
-atLeast k m = leaf (counted (leaf k) m false)
+atLeast k m = leaf (counted (leaf k) (amount m false))
 
 -- `[mk,p%]`
 abbrev share : ℕ → ℕ → Clause
-share k p = leaf (counted (leaf k) p true)
+share k p = leaf (counted (leaf k) (amount p true))
 
 -- whether it is kept with drift d, and the step that a refusal has
 abbrev judged : ℕ → Clause → Bool × ℕ
@@ -90,7 +90,7 @@ pub worked :
     × (hasNext (neg (gl (until top (next (atLeast 1 1))))) ≡ true)
     × (hasNext (ev (release (next (atLeast 1 1)) top)) ≡ true)
     × (hasNext (neg (and top (until (atLeast 0 0) (release (atLeast 0 3) (atLeast 0 0))))) ≡ false)
-    × (hasNext (leaf (counted (next (leaf 1)) 1 false)) ≡ false)
+    × (hasNext (leaf (counted (next (leaf 1)) (amount 1 false))) ≡ false)
     -- "The step is the lowest where the body fails if the clause's outermost operator is G, else 0."
     × (judged 0 (gl (atLeast 0 1)) ≡ (false, 2))
     × (judged 1 (gl (atLeast 0 1)) ≡ (false, 1))

@@ -4,7 +4,7 @@ use mathlib.Core.Path.{_≡_, refl}
 use mathlib.Core.Bool.{Bool, true, false, cond, _&&_}
 use lib.ListN.{length}
 use lib.Dec.{eqb, leb}
-use Rattle.grammar.specs.Grammar.{top, leaf, neg, and, or, next, until, release, ev, gl, counted, Clause}
+use Rattle.grammar.specs.Grammar.{top, leaf, neg, and, or, next, until, release, ev, gl, amount, counted, Clause}
 use Rattle.row.specs.Lasso.{nextStep, stepOf}
 use Rattle.cltl.specs.Threshold.{threshold, quota}
 use Rattle.cltl.specs.Meaning.{Rows}
@@ -21,7 +21,7 @@ once = record { carts = 2; h = 2; l = 1; bears = λ i s k. eqb s 0 && eqb k (i +
 
 -- `[mk,m]`; m3 is nowhere
 abbrev atLeast : ℕ → ℕ → Clause
-atLeast k m = leaf (counted (leaf k) m false)
+atLeast k m = leaf (counted (leaf k) (amount m false))
 
 abbrev a : Clause
 a = atLeast 1 2
@@ -73,7 +73,7 @@ pub worked :
     × (kept 1 (neg (and (atLeast 1 1) b)) ≡ false)
     × (rules (tables 3 2) 2 (neg (and a b)) 0 ≡ true)
     -- a share is a threshold like any other
-    × (kept 1 (or (leaf (counted (leaf 1) 67 true)) b) ≡ true)
+    × (kept 1 (or (leaf (counted (leaf 1) (amount 67 true))) b) ≡ true)
     -- a written or under one negation is an and
     × (kept 1 (neg (or a b)) ≡ false)
     × (kept 1 (and a b) ≡ false)

@@ -33,7 +33,7 @@ ask-is-or also a b x = ⊎-elim (λ z. or-l also (a || b) z) (λ z. or-r also (a
 module _ (P : Rows) where
   -- cart i satisfies the text of a count, or of its negation, at counter v
   abbrev pub Text : ℕ → Bool × Counted → ℕ → Type 0
-  Text i (p, counted a k percent) v = Val p (Satisfies P i a v)
+  Text i (p, counted a x) v = Val p (Satisfies P i a v)
 
   -- the thresholds together
   abbrev pub total : List (Bool × Counted) → ℕ
@@ -70,7 +70,7 @@ module _ (P : Rows) where
 
   module _ (proper : Proper P) where
     text-exact : (i : ℕ) (x : Bool × Counted) (v : ℕ) → T (text P i x (stepOf (P .h) (P .l) v)) ↔ Text i x v
-    text-exact i (p, counted a k percent) v = (inner-sound P proper i p a v, inner-complete P proper i p a v)
+    text-exact i (p, counted a x) v = (inner-sound P proper i p a v, inner-complete P proper i p a v)
 
     -- the or of the texts is exact
     some-exact : (xs : List (Bool × Counted)) (i v : ℕ) → T (someText P xs i (stepOf (P .h) (P .l) v)) ↔ Some (λ x. Text i x v) xs

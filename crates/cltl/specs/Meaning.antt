@@ -5,7 +5,7 @@ use mathlib.Core.Bool.{Bool}
 use mathlib.Core.Logic.{_⊎_, inr}
 use native.Mathlib.Omega.{arith}
 use lib.Dec.{T}
-use Rattle.grammar.specs.Grammar.{Form, top, leaf, neg, and, or, next, until, release, ev, gl, Inner, Counted, counted, Clause}
+use Rattle.grammar.specs.Grammar.{Form, top, leaf, neg, and, or, next, until, release, ev, gl, Inner, Counted, amount, counted, Clause}
 use Rattle.row.specs.Lasso.{stepOf}
 use Rattle.cltl.specs.Threshold.{threshold}
 
@@ -82,7 +82,7 @@ module _ (P : Rows) where
 
   -- "A count holds if at least its threshold of carts satisfy the inner text at their counters of moment t."
   abbrev pub Counts : (ℕ → ℕ → ℕ) → Counted → ℕ → Type 0
-  Counts at (counted a k percent) t = AtLeast (λ i. Satisfies i a (at t i)) (threshold k percent (P .carts)) (P .carts)
+  Counts at (counted a (amount k percent)) t = AtLeast (λ i. Satisfies i a (at t i)) (threshold k percent (P .carts)) (P .carts)
 
   abbrev pub TrueAt : (ℕ → ℕ → ℕ) → Clause → ℕ → Type 0
   TrueAt at c t = Holds (Counts at) c t

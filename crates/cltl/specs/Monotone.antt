@@ -4,7 +4,7 @@ use mathlib.Core.Bool.{Bool, true}
 use mathlib.Core.List.{List, _∷_}
 use native.Mathlib.Omega.{arith}
 use lib.Dec.{T, leb→le, le→leb}
-use Rattle.grammar.specs.Grammar.{Counted, counted, Clause}
+use Rattle.grammar.specs.Grammar.{Counted, amount, counted, Clause}
 use Rattle.cltl.specs.Meaning.{Rows}
 use Rattle.cltl.specs.Rules.{throughout, leaves, count, slack, someText, joint, joined, rules}
 use Rattle.cltl.specs.Operators.{judge-mono}
@@ -13,7 +13,7 @@ use Rattle.cltl.specs.Quorum.{throughout-mono, quorum-mono}
 module _ (P : Rows) (d d′ : ℕ) (less : d′ ≤ d) where
   count-mono : (p : Bool) (x : Counted) (s : ℕ) → T (count P d p x s) → T (count P d′ p x s)
   unfolding count
-  count-mono p (counted a k percent) s y = quorum-mono (P .h) (P .l) (P .carts) _ _ d d′ s less y
+  count-mono p (counted a (amount k percent)) s y = quorum-mono (P .h) (P .l) (P .carts) _ _ d d′ s less y
 
   joint-mono : (xs : List (Bool × Counted)) (s : ℕ) → T (joint P d xs s) → T (joint P d′ xs s)
   unfolding joint

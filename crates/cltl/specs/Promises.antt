@@ -8,7 +8,7 @@ use native.Mathlib.Omega.{arith}
 use lib.Dec.{T}
 use lib.ListN.{length}
 use Rattle.cltl.specs.Globally.{globally-broken}
-use Rattle.grammar.specs.Grammar.{top, leaf, neg, and, or, next, until, release, ev, gl, Inner, Counted, counted, Clause}
+use Rattle.grammar.specs.Grammar.{top, leaf, neg, and, or, next, until, release, ev, gl, Inner, Counted, amount, counted, Clause}
 use Rattle.row.specs.Lasso.{nextStep, stepOf}
 use Rattle.row.specs.Round.{step-low}
 use Rattle.cltl.specs.Threshold.{threshold, Nearest, quota}
@@ -71,7 +71,7 @@ module _ (P : Rows) (d s : ℕ) where
 
   -- "Then !`[a,m]` becomes `[!a,N+1−m]`, N being the carts, never below 0."
   pub negated-count : (a : Inner) (k : ℕ) (percent : Bool)
-      → Here (neg (leaf (counted a k percent))) ≡ Here (leaf (counted (neg a) (suc (P .carts) - threshold k percent (P .carts)) false))
+      → Here (neg (leaf (counted a (amount k percent)))) ≡ Here (leaf (counted (neg a) (amount (suc (P .carts) - threshold k percent (P .carts)) false)))
   unfolding rules judge count quota threshold inner
   negated-count a k true = refl
   negated-count a k false = refl
@@ -92,8 +92,8 @@ module _ (P : Rows) (d s : ℕ) where
   mixed-or a b none = ap (λ (z : Bool). z || (Here a || Here b)) (mixed-none P d s a b none)
 
   -- a negated count in an or is joined as what it becomes
-  pub negated-joined : (a : Inner) (k : ℕ) (percent : Bool) (xs : List (Bool × Counted)) → joint P d ((false, counted a k percent) ∷ xs) s
-      ≡ joint P d ((true, counted (neg a) (suc (P .carts) - threshold k percent (P .carts)) false) ∷ xs) s
+  pub negated-joined : (a : Inner) (k : ℕ) (percent : Bool) (xs : List (Bool × Counted)) → joint P d ((false, counted a (amount k percent)) ∷ xs) s
+      ≡ joint P d ((true, counted (neg a) (amount (suc (P .carts) - threshold k percent (P .carts)) false)) ∷ xs) s
   unfolding joint slack someText quota threshold inner judge
   negated-joined a k true xs = refl
   negated-joined a k false xs = refl
@@ -123,7 +123,7 @@ module _ (P : Rows) (d s : ℕ) where
     -- "a count with threshold m is true if at least m carts satisfy the inner text at all of counters s to s + d; with m = 1 also if all N carts satisfy
     -- it at s itself"
     pub count-rule : (a : Inner) (k : ℕ) (percent : Bool) → let m = threshold k percent (P .carts) in
-        T (Here (leaf (counted a k percent)))
+        T (Here (leaf (counted a (amount k percent))))
         ↔
         (AtLeast (λ i. (j : ℕ) → j ≤ d → Satisfies P i a (s + j)) m (P .carts) ⊎
         ((m ≡ 1) × ((i : ℕ) → i < P .carts → Satisfies P i a s)))
@@ -137,7 +137,7 @@ module _ (P : Rows) (d s : ℕ) where
 
     -- a count that asks for no cart, as a share of less than half a cart does, is true always, and its negation never
     pub no-carts : (a : Inner) (k : ℕ) (percent : Bool) → threshold k percent (P .carts) ≡ 0
-        → T (Here (leaf (counted a k percent))) × (T (Here (neg (leaf (counted a k percent)))) → ⊥)
+        → T (Here (leaf (counted a (amount k percent)))) × (T (Here (neg (leaf (counted a (amount k percent))))) → ⊥)
     no-carts a k percent none = asks-none P proper d s low a k percent none
 
     module _ (a b : Clause) where
@@ -190,7 +190,7 @@ same-verdicts = rules-read
 -- "A count holds if at least its threshold of carts satisfy the inner text at their counters of moment t": for a
 -- percentage, if at least the nearest number of carts do
 pub share-holds : (P : Rows) (at : ℕ → ℕ → ℕ) (a : Inner) (k t : ℕ)
-    → Counts P at (counted a k true) t ↔ ((m : ℕ) × Nearest k (P .carts) m × AtLeast (λ i. Satisfies P i a (at t i)) m (P .carts))
+    → Counts P at (counted a (amount k true)) t ↔ ((m : ℕ) × Nearest k (P .carts) m × AtLeast (λ i. Satisfies P i a (at t i)) m (P .carts))
 share-holds P at a k t = (
   λ x. (threshold k true (P .carts), percentage k (P .carts) (threshold k true (P .carts)) .0 refl, x),
   λ x. subst (λ (m : ℕ). AtLeast (λ i. Satisfies P i a (at t i)) m (P .carts)) (percentage k (P .carts) (x .0) .1 (x .1)) (x .2),

@@ -4,7 +4,7 @@ use Prim.Native.Nat.{ℕ, zero, suc, _+_, _-_}
 use mathlib.Core.Bool.{Bool, true, false, not, cond, _&&_, _||_}
 use mathlib.Core.List.{List, [], _∷_, _++_}
 use lib.Dec.{leb, ltb, eqb}
-use Rattle.grammar.specs.Grammar.{Form, top, leaf, neg, and, or, next, until, release, ev, gl, Inner, Counted, counted, Clause}
+use Rattle.grammar.specs.Grammar.{Form, top, leaf, neg, and, or, next, until, release, ev, gl, Inner, Counted, amount, counted, Clause}
 use Rattle.row.specs.Lasso.{nextStep, stepOf}
 use Rattle.cltl.specs.Threshold.{threshold, quota}
 use Rattle.cltl.specs.Meaning.{Rows}
@@ -99,10 +99,10 @@ module _ (P : Rows) where
 
   -- a count, or its negation: its threshold, and whether cart i satisfies its text
   abbrev pub asked : Bool × Counted → ℕ
-  asked (p, counted a k percent) = quota p (threshold k percent (P .carts)) (P .carts)
+  asked (p, counted a (amount k percent)) = quota p (threshold k percent (P .carts)) (P .carts)
 
   abbrev pub text : ℕ → Bool × Counted → ℕ → Bool
-  text i (p, counted a k percent) s = inner i p a s
+  text i (p, counted a x) s = inner i p a s
 
   unfoldable pub count : ℕ → Bool → Counted → ℕ → Bool
   count d p x s = quorum (P .h) (P .l) (P .carts) d (asked (p, x)) (λ i. text i (p, x)) s

@@ -3,7 +3,7 @@ use Prim.Native.Nat.{ℕ, suc, _+_}
 use mathlib.Core.Path.{_≡_, refl}
 use mathlib.Core.Bool.{Bool, true, false, not, cond, _&&_}
 use lib.Dec.{eqb, leb, ltb}
-use Rattle.grammar.specs.Grammar.{leaf, or, counted, Clause}
+use Rattle.grammar.specs.Grammar.{leaf, or, amount, counted, Clause}
 use Rattle.row.specs.Lasso.{nextStep, stepOf}
 use Rattle.cltl.specs.Threshold.{threshold, quota}
 use Rattle.cltl.specs.Meaning.{Rows}
@@ -22,7 +22,7 @@ abbrev rows : Rows
 rows = record { carts = 2; h = 3; l = 1; bears = λ i s k. eqb k 0 && not (eqb i 0 && eqb s 0) }
 
 abbrev atLeast : ℕ → ℕ → Clause
-atLeast k m = leaf (counted (leaf k) m false)
+atLeast k m = leaf (counted (leaf k) (amount m false))
 
 -- document 002's example 3: of three carts one always bears m1, one m1 once and then m2, one always m2
 abbrev three : Rows

@@ -6,7 +6,7 @@ use mathlib.Core.List.{List}
 use mathlib.Core.Logic.{⊎-elim}
 use native.Mathlib.Omega.{arith}
 use lib.Dec.{T}
-use Rattle.grammar.specs.Grammar.{and, or, Inner, Counted, counted, Clause}
+use Rattle.grammar.specs.Grammar.{and, or, Inner, Counted, amount, counted, Clause}
 use Rattle.row.specs.Lasso.{stepOf}
 use Rattle.row.specs.Round.{step-low}
 use Rattle.cltl.specs.Threshold.{threshold, quota}
@@ -43,21 +43,21 @@ module _ (P : Rows) (proper : Proper P) (d : ℕ) (r : Run (P .carts) d) where
 
   -- where enough carts satisfy its text, or its negation, a count holds, or does not
   enough : (p : Bool) (a : Inner) (k : ℕ) (percent : Bool) (t : ℕ) (f : ℕ → Bool) → ((i : ℕ) → i < P .carts → T (f i) → Val p (Satisfies P i a (r .at t i)))
-      → asked P (p, counted a k percent) ≤ tally f (P .carts) → Val p (Counts P (r .at) (counted a k percent) t)
+      → asked P (p, counted a (amount k percent)) ≤ tally f (P .carts) → Val p (Counts P (r .at) (counted a (amount k percent)) t)
   unfolding quota
   enough true a k percent t f g z = tally-least f _ (P .carts) g (threshold k percent (P .carts)) z
   enough false a k percent t f g z = λ many. let b = tally-most f _ (P .carts) g (threshold k percent (P .carts)) many in omega arith
 
   pub count-sound : (p : Bool) (x : Counted) (t : ℕ) → T (count P d p x (S t)) → Val p (Counts P (r .at) x t)
   unfolding count quota
-  count-sound p (counted a k percent) t y =
+  count-sound p (counted a (amount k percent)) t y =
       ⊎-elim (λ z. enough p a k percent t _ (λ i h. cart-sound p a t i h) z) (λ z. one p (z .0) (last-sound p a t (z .1)))
       (quorum-cases (P .h) (P .l) (P .carts) _ (λ i. inner P i p a) d (S t) y)
     where
       Sat : ℕ → Type 0
       Sat i = Satisfies P i a (r .at t i)
 
-      one : (p : Bool) → asked P (p, counted a k percent) ≡ 1 → ((i : ℕ) × (i < P .carts) × Val p (Sat i)) → Val p (Counts P (r .at) (counted a k percent) t)
+      one : (p : Bool) → asked P (p, counted a (amount k percent)) ≡ 1 → ((i : ℕ) × (i < P .carts) × Val p (Sat i)) → Val p (Counts P (r .at) (counted a (amount k percent)) t)
       one true e b = subst (λ (m : ℕ). AtLeast Sat m (P .carts)) (sym e) (one-of Sat (P .carts) (b .0) (b .1) (b .2))
       one false e b = λ many. let c = not-all Sat (P .carts) (b .0) (b .1) (b .2) (threshold k percent (P .carts)) many in omega arith
 
@@ -80,7 +80,7 @@ module _ (P : Rows) (proper : Proper P) (d : ℕ) (r : Run (P .carts) d) where
       some-map _ _ reached xs (pigeonhole P at (P .carts) xs (omega arith))
     where
       reached : (x : Bool × Counted) → asked P x ≤ tally (λ i. text P i x (stepOf (P .h) (P .l) (r .at t i))) (P .carts) → LeafHolds (Counts P (r .at)) t x
-      reached (p, counted a k percent) z = enough p a k percent t _ (λ i _. inner-sound P proper i p a (r .at t i)) z
+      reached (p, counted a (amount k percent)) z = enough p a k percent t _ (λ i _. inner-sound P proper i p a (r .at t i)) z
 
   pub rules-sound : (c : Clause) → (T (hasNext c) → ⊥) → T (rules P d c 0) → TrueOf P r c
   unfolding rules

@@ -5,7 +5,7 @@ use mathlib.Core.Bool.{Bool, true, false, not, Bool·not-not}
 use mathlib.Core.Logic.{_⊎_, inl, inr, ⊎-elim, _↔_}
 use native.Mathlib.Omega.{arith}
 use lib.Dec.{T, T-not}
-use Rattle.grammar.specs.Grammar.{leaf, neg, Inner, counted}
+use Rattle.grammar.specs.Grammar.{leaf, neg, Inner, amount, counted}
 use Rattle.row.specs.Lasso.{stepOf}
 use Rattle.row.specs.Round.{step-low}
 use Rattle.cltl.specs.Threshold.{threshold, distance, Nearest, quota}
@@ -67,7 +67,7 @@ module _ (P : Rows) (proper : Proper P) (d s : ℕ) (low : s < P .h) (a : Inner)
   along =
       throughout-holds (P .h) (P .l) (P .carts) at (λ i. Satisfies P i a) (λ i v. (inner-sound P proper i true a v, inner-complete P proper i true a v)) d s m
 
-  pub count-holds : T (rules P d (leaf (counted a k percent)) s)
+  pub count-holds : T (rules P d (leaf (counted a (amount k percent))) s)
       ↔ (AtLeast (λ i. (j : ℕ) → j ≤ d → Satisfies P i a (s + j)) m (P .carts) ⊎ ((m ≡ 1) × ((i : ℕ) → i < P .carts → Satisfies P i a s)))
   unfolding rules judge count quota
   count-holds = (
@@ -81,7 +81,7 @@ module _ (P : Rows) (proper : Proper P) (d s : ℕ) (low : s < P .h) (a : Inner)
   )
 
   -- asking for no cart: there are enough always, and the negation asks for one more than there are
-  pub asks-none : m ≡ 0 → T (rules P d (leaf (counted a k percent)) s) × (T (rules P d (neg (leaf (counted a k percent))) s) → ⊥)
+  pub asks-none : m ≡ 0 → T (rules P d (leaf (counted a (amount k percent))) s) × (T (rules P d (neg (leaf (counted a (amount k percent)))) s) → ⊥)
   unfolding rules judge count quota
   asks-none e = (
     throughout-quorum (P .h) (P .l) (P .carts) m at d s (omega (arith, e)),

@@ -8,7 +8,7 @@ use native.Mathlib.Omega.{arith}
 use lib.Dec.{eqb, ltb, eqb·suc-zero}
 use lib.ListN.{length}
 use borrow.Author.Tests.{ne-eqb}
-use Rattle.grammar.specs.Grammar.{Form, top, leaf, Counted, counted, Clause}
+use Rattle.grammar.specs.Grammar.{Form, top, leaf, Amount, amount, Counted, counted, Clause}
 use Rattle.grammar.specs.Nodes.{countN, Op₁, neg₁, next₁, ev₁, gl₁, Op₂, and₂, or₂, until₂, release₂}
 use Rattle.cltl.specs.Meaning.{Rows, Proper}
 use Rattle.cltl.specs.Rules.{both, leaves, judge, quorum, asked, text, count, joint, joined}
@@ -17,7 +17,7 @@ use Rattle.cltl.specs.Operators.{judge-plain}
 use Rattle.cltl.specs.Exact.{joining-plain}
 use Rattle.mask.specs.Mask.{on, Row}
 use Rattle.drift.specs.declared.Judged.{Judged}
-use Rattle.drift.specs.Tree.{kindAt, firstAt, secondAt, thirdAt, one, two, oneOf, twoOf, Ordered, innerTree, clauseTree}
+use Rattle.drift.specs.Tree.{kindAt, firstAt, secondAt, thirdAt, one, two, oneOf, twoOf, amountBy, Ordered, innerTree, clauseTree}
 use Rattle.drift.specs.Operator.{isOr, orOf, oneRule, twoRule}
 use Rattle.drift.specs.Answer.{ClauseRow, PartRow, joinable, joinedWithDrift, Gathered, ClauseJudged}
 use Rattle.drift.specs.Kinds.{kind-count}
@@ -113,8 +113,8 @@ module _ (P : Rows) (d : ℕ) (nodes : List ℕ) (proper : Proper P) (p : Bool) 
   abbrev none : ℕ → Form Counted
   none m = top
 
-  abbrev counts : ℕ → ℕ → Bool → Form Counted
-  counts i m percent = leaf (counted (innerTree nodes (length nodes) i) m percent)
+  abbrev counts : ℕ → Amount → Form Counted
+  counts i y = leaf (counted (innerTree nodes (length nodes) i) y)
 
   -- by the tree of the node, however deep the look
   gathered : (xs : ℕ → List (Bool × Counted)) → ((n : ℕ) → k ≤ n → joinable d p (clauseTree nodes (suc n) k) ≡ xs n) → ((n : ℕ) → k ≤ n → Gathered P (xs n) t r)
@@ -137,13 +137,13 @@ module _ (P : Rows) (d : ℕ) (nodes : List ℕ) (proper : Proper P) (p : Bool) 
 
   module _ (m : ℕ) (em : m ≡ secondAt nodes k + 256 * thirdAt nodes k) (q : 10 ≤ kind) where
     abbrev this : Counted
-    this = counted (innerTree nodes (length nodes) x) m (eqb kind 11)
+    this = counted (innerTree nodes (length nodes) x) (amount m (eqb kind 11))
 
     count-tree : (n : ℕ) → clauseTree nodes (suc n) k ≡ leaf this
     count-tree n =
-        looked-up nodes n k (countN (firstAt nodes k) (secondAt nodes k + 256 * thirdAt nodes k) (eqb (kindAt nodes k) 11))
+        looked-up nodes n k (countN (firstAt nodes k) (amountBy (kindAt nodes k) (secondAt nodes k) (thirdAt nodes k)))
         (kind-count (kindAt nodes k) _ _ _ (omega arith))
-        ∙ ap₂ (λ (i j : ℕ). counts i j (eqb (kindAt nodes k) 11)) (sym ex) (sym em) ∙ ap (λ (o : ℕ). counts x m (eqb o 11)) (sym ek)
+        ∙ ap₂ (λ (i j : ℕ). counts i (amount j (eqb (kindAt nodes k) 11))) (sym ex) (sym em) ∙ ap (λ (o : ℕ). counts x (amount m (eqb o 11))) (sym ek)
 
     pub count-judged : Row (P .h) (r .row) (quorum (P .h) (P .l) (P .carts) d (asked P (p, this)) (λ i. text P i (p, this)))
         → Gathered P (cond (eqb d 0) [] ((p, this) ∷ [])) t r

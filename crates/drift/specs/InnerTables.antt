@@ -4,7 +4,7 @@ use mathlib.Core.Path.{_≡_, refl, sym, ap, _∙_}
 use mathlib.Core.Bool.{Bool, true, false, not}
 use mathlib.Core.List.{List}
 use lib.ListN.{length}
-use Rattle.grammar.specs.Grammar.{Form, top, leaf}
+use Rattle.grammar.specs.Grammar.{Form, top, leaf, Amount}
 use Rattle.grammar.specs.Nodes.{Op₁, neg₁, next₁, ev₁, gl₁}
 use Rattle.cltl.specs.Meaning.{Rows, Proper}
 use Rattle.cltl.specs.Rules.{judge, nothing, mark, inner, quorum}
@@ -39,8 +39,8 @@ module _ (P : Rows) (proper : Proper P) (nodes t : List ℕ) (k at kind x : ℕ)
   abbrev marks : ℕ → Form ℕ
   marks m = leaf m
 
-  abbrev none : ℕ → ℕ → Bool → Form ℕ
-  none i m percent = top
+  abbrev none : ℕ → Amount → Form ℕ
+  none i y = top
 
   abbrev Is : (ℕ → ℕ → Bool) → Type 0
   Is f = (i : ℕ) → i < P .carts → Same (P .h) (told t at i) (f i)

@@ -33,13 +33,13 @@ abbrev pub markNeed : ℕ → ℕ
 markNeed m = 0
 
 abbrev pub countNeed : Counted → ℕ
-countNeed (counted a k percent) = need markNeed a
+countNeed (counted a x) = need markNeed a
 
 -- the same of a node, by the needs of its operands
 abbrev pub needNode : List ℕ → Node → ℕ
 needNode needs topN = 0
 needNode needs (markN m) = 0
-needNode needs (countN i m percent) = getD needs i 0
+needNode needs (countN i x) = getD needs i 0
 needNode needs (oneN o i) = max 1 (getD needs i 0)
 needNode needs (twoN o i j) = more (getD needs i 0) (getD needs j 0)
 

@@ -40,7 +40,7 @@ more-by P a b f g = go (eqb a b) refl
 pub need-below : (needs : List ℕ) (k : ℕ) (x : Node) → OperandsBelow k x → ((j : ℕ) → j < k → getD needs j 0 ≤ j) → needNode needs x ≤ k
 need-below needs k topN b f = omega arith
 need-below needs k (markN m) b f = omega arith
-need-below needs k (countN i m percent) b f = omega (arith, f i b)
+need-below needs k (countN i x) b f = omega (arith, f i b)
 need-below needs k (oneN o i) b f = omega (arith, f i b)
 need-below needs k (twoN o i j) b f =
     more-by (λ (n : ℕ). n ≤ k) (getD needs i 0) (getD needs j 0) (λ e. omega (arith, b .0, f i (b .0)))
@@ -65,7 +65,7 @@ up-to block needs k i q r = (ordered-less block (k + 1) (i + 1) (omega arith) (r
 need-agrees : (f g : List ℕ) (k : ℕ) → ((i : ℕ) → i < k → getD f i 0 ≡ getD g i 0) → (x : Node) → OperandsBelow k x → needNode f x ≡ needNode g x
 need-agrees f g k e topN b = refl
 need-agrees f g k e (markN m) b = refl
-need-agrees f g k e (countN i m percent) b = e i b
+need-agrees f g k e (countN i x) b = e i b
 need-agrees f g k e (oneN o i) b = ap (max 1) (e i b)
 need-agrees f g k e (twoN o i j) b = ap₂ more (e i (b .0)) (e j (b .1))
 
@@ -127,10 +127,10 @@ module _ {L : Type 0} (leafNeed leafNodes : L → ℕ) (some : (x : L) → 1 ≤
   need-few (gl a) = one-few a (need-few a)
 
 count-some : (x : Counted) → 1 ≤ countNodes x
-count-some (counted a k percent) = omega arith
+count-some (counted a x) = omega arith
 
 count-few : (x : Counted) → 3 * 2 ^ countNeed x ≤ 2 * (countNodes x + 1)
-count-few (counted a k percent) = omega (arith, need-few markNeed markNodes (λ m. le-refl 1) (λ m. omega arith) a)
+count-few (counted a x) = omega (arith, need-few markNeed markNodes (λ m. le-refl 1) (λ m. omega arith) a)
 
 -- so six pairs do for 128 nodes
 pub six-pairs : (c : Clause) → nodes countNodes c ≤ 128 → need countNeed c ≤ 6

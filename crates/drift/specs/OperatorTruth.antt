@@ -4,7 +4,7 @@ use mathlib.Core.Path.{_≡_, refl, sym, _∙_}
 use mathlib.Core.Bool.{Bool, not, _||_}
 use mathlib.Core.List.{List}
 use native.Mathlib.Omega.{arith}
-use Rattle.grammar.specs.Grammar.{Form, top}
+use Rattle.grammar.specs.Grammar.{Form, top, Amount}
 use Rattle.grammar.specs.Nodes.{Node, oneN, twoN, Op₁, neg₁, next₁, ev₁, gl₁, Op₂, and₂, or₂, until₂, release₂}
 use Rattle.row.specs.Lasso.{nextStep}
 use Rattle.row.specs.Round.{next-below}
@@ -51,7 +51,7 @@ abbrev pub Same : ℕ → (f g : ℕ → Bool) → Type 0
 Same h f g = (s : ℕ) → s < h → f s ≡ g s
 
 module _ (h l : ℕ) (ok : l < h) (block : List ℕ) {L : Type 0} (rule : Bool → L → ℕ → Bool) (also : Bool → Form L → ℕ → Bool)
-    (mark : ℕ → Form L) (count : ℕ → ℕ → Bool → Form L) where
+    (mark : ℕ → Form L) (count : ℕ → Amount → Form L) where
   -- f is the truth of node k, or of its negation, however deep the look
   abbrev pub TruthIs : Bool → ℕ → (ℕ → Bool) → Type 0
   TruthIs p k f = (n : ℕ) → k < n → Same h f (judge h l rule also p (tree mark count block n k))

@@ -16,7 +16,7 @@ module _ (marks h : ℕ) where
   abbrev pub leafAt : Node → ℕ
   leafAt topN = allAt marks h
   leafAt (markN m) = markAt marks h m
-  leafAt (countN i m percent) = allAt marks h
+  leafAt (countN i x) = allAt marks h
   leafAt (oneN o i) = allAt marks h
   leafAt (twoN o i j) = allAt marks h
 

@@ -8,6 +8,7 @@ use native.Mathlib.Omega.{arith}
 use native.Mathlib.Nat.{add-mul, suc-mul, mul-le-mul, le-refl}
 use lib.Dec.{eqb, ltb}
 use borrow.Author.Tests.{lt-ltb, le-ltb, eqb-true, eqb-false, ne-eqb}
+use Rattle.grammar.specs.Grammar.{Amount}
 use Rattle.grammar.specs.Nodes.{Node, topN, markN, countN, oneN, twoN, Op₁, Op₂}
 use Rattle.table.specs.Table.{told, Apart}
 use Rattle.table.specs.Layout.{allAt, noneAt, pairsAt, markAt, Constants}
@@ -48,7 +49,7 @@ module _ (marks h : ℕ) where
   pub leaf-ends : (x : Node) → leafAt marks h x + h ≤ pairsAt marks h
   leaf-ends topN = all-ends marks h
   leaf-ends (markN m) = mark-ends marks h m
-  leaf-ends (countN i m percent) = all-ends marks h
+  leaf-ends (countN i x) = all-ends marks h
   leaf-ends (oneN o i) = all-ends marks h
   leaf-ends (twoN o i j) = all-ends marks h
 
@@ -56,14 +57,14 @@ module _ (marks h : ℕ) where
   pub leaf-else : (nodes : List ℕ) (k : ℕ) → (kindAt nodes k ≡ 1 → ⊥) → allAt marks h ≡ leafAt marks h (nodeAt nodes k)
   leaf-else nodes k n =
       rw (ne-eqb (kindAt nodes k) 1 n)
-      (rest (oneOf (kindAt nodes k)) (twoOf (kindAt nodes k)) _ _ _ _ (eqb (kindAt nodes k) 0) (ltb (kindAt nodes k) 6) (ltb (kindAt nodes k) 10))
+      (rest (oneOf (kindAt nodes k)) (twoOf (kindAt nodes k)) _ _ _ (eqb (kindAt nodes k) 0) (ltb (kindAt nodes k) 6) (ltb (kindAt nodes k) 10))
     where
-      rest : (o : Op₁) (o′ : Op₂) (x y z : ℕ) (p a b c : Bool)
-          → allAt marks h ≡ leafAt marks h (cond a topN (cond b (oneN o x) (cond c (twoN o′ x y) (countN x z p))))
-      rest o o′ x y z p true b c = refl
-      rest o o′ x y z p false true c = refl
-      rest o o′ x y z p false false true = refl
-      rest o o′ x y z p false false false = refl
+      rest : (o : Op₁) (o′ : Op₂) (x y : ℕ) (z : Amount) (a b c : Bool)
+          → allAt marks h ≡ leafAt marks h (cond a topN (cond b (oneN o x) (cond c (twoN o′ x y) (countN x z))))
+      rest o o′ x y z true b c = refl
+      rest o o′ x y z false true c = refl
+      rest o o′ x y z false false true = refl
+      rest o o′ x y z false false false = refl
 
   -- six pairs lie behind the tables that are there already
   pub six-end : (n : ℕ) → n ≤ 6 → pairsAt marks h + n * (2 * h) ≤ pairsEnd marks h

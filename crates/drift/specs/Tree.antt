@@ -4,7 +4,7 @@ use mathlib.Core.Bool.{Bool, cond, _||_}
 use mathlib.Core.List.{List}
 use lib.Dec.{eqb, ltb}
 use lib.ListN.{getD, length}
-use Rattle.grammar.specs.Grammar.{Form, top, leaf, neg, and, or, next, until, release, ev, gl, Inner, counted, Clause}
+use Rattle.grammar.specs.Grammar.{Form, top, leaf, neg, and, or, next, until, release, ev, gl, Inner, Amount, amount, counted, Clause}
 use Rattle.grammar.specs.Nodes.{Node, topN, markN, countN, oneN, twoN, Op₁, neg₁, next₁, ev₁, gl₁, Op₂, and₂, or₂, until₂, release₂}
 
 abbrev pub oneOf : ℕ → Op₁
@@ -13,11 +13,15 @@ oneOf kind = cond (eqb kind 2) neg₁ (cond (eqb kind 3) next₁ (cond (eqb kind
 abbrev pub twoOf : ℕ → Op₂
 twoOf kind = cond (eqb kind 6) and₂ (cond (eqb kind 7) or₂ (cond (eqb kind 8) until₂ release₂))
 
+-- a count's amount, by its kind and the last two bytes
+abbrev pub amountBy : ℕ → ℕ → ℕ → Amount
+amountBy kind y z = amount (y + 256 * z) (eqb kind 11)
+
 -- by its kind (0 true, 1 a mark, 2 to 5 ! X F G, 6 to 9 & | U R, 10 a count, 11 one by percentage) and the three bytes behind it
 abbrev pub nodeOf : ℕ → ℕ → ℕ → ℕ → Node
 nodeOf kind x y z =
     cond (eqb kind 0) topN
-    (cond (eqb kind 1) (markN x) (cond (ltb kind 6) (oneN (oneOf kind) x) (cond (ltb kind 10) (twoN (twoOf kind) x y) (countN x (y + 256 * z) (eqb kind 11)))))
+    (cond (eqb kind 1) (markN x) (cond (ltb kind 6) (oneN (oneOf kind) x) (cond (ltb kind 10) (twoN (twoOf kind) x y) (countN x (amountBy kind y z)))))
 
 -- `true`, a mark or a count: no operator
 abbrev pub isLeaf : ℕ → Bool
@@ -46,7 +50,7 @@ OperandsBelow k topN = Unit {0}
 OperandsBelow k (markN m) = m < 32
 OperandsBelow k (oneN o i) = i < k
 OperandsBelow k (twoN o i j) = (i < k) × (j < k)
-OperandsBelow k (countN i m percent) = i < k
+OperandsBelow k (countN i x) = i < k
 
 -- n nodes
 pub record Ordered (block : List ℕ) (n : ℕ) : Type 0 where
@@ -66,22 +70,22 @@ two until₂ a b = until a b
 two release₂ a b = release a b
 
 -- a text whose operands are given by their numbers, over what a mark and a count stand for
-abbrev pub formOf : {L : Type 0} → (ℕ → Form L) → (ℕ → ℕ → Bool → Form L) → (ℕ → Form L) → Node → Form L
+abbrev pub formOf : {L : Type 0} → (ℕ → Form L) → (ℕ → Amount → Form L) → (ℕ → Form L) → Node → Form L
 formOf mark count operand topN = top
 formOf mark count operand (markN m) = mark m
-formOf mark count operand (countN i m percent) = count i m percent
+formOf mark count operand (countN i x) = count i x
 formOf mark count operand (oneN o i) = one o (operand i)
 formOf mark count operand (twoN o i j) = two o (operand i) (operand j)
 
 -- what node k stands for, looked up at most n nodes deep
-unfoldable pub tree : {L : Type 0} → (ℕ → Form L) → (ℕ → ℕ → Bool → Form L) → List ℕ → ℕ → ℕ → Form L
+unfoldable pub tree : {L : Type 0} → (ℕ → Form L) → (ℕ → Amount → Form L) → List ℕ → ℕ → ℕ → Form L
 tree mark count block zero k = top
 tree mark count block (suc n) k = formOf mark count (λ i. tree mark count block n i) (nodeAt block k)
 
 -- inner text has marks and no counts
 unfoldable pub innerTree : List ℕ → ℕ → ℕ → Inner
-innerTree block n k = tree (λ m. leaf m) (λ i m percent. top) block n k
+innerTree block n k = tree (λ m. leaf m) (λ i x. top) block n k
 
 -- a clause has counts and no marks outside them; a count's text is looked up deeper than any number of a node
 unfoldable pub clauseTree : List ℕ → ℕ → ℕ → Clause
-clauseTree block n k = tree (λ m. top) (λ i m percent. leaf (counted (innerTree block (length block) i) m percent)) block n k
+clauseTree block n k = tree (λ m. top) (λ i x. leaf (counted (innerTree block (length block) i) x)) block n k

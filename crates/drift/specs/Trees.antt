@@ -16,13 +16,13 @@ use Rattle.cltl.specs.Basics.{lt-or-le}
 use Rattle.cltl.specs.Step.{lowest, failing}
 use Rattle.drift.specs.Tree.{isLeaf, nodeAt, one, two, oneOf, twoOf, formOf, tree, innerTree, clauseTree, Ordered}
 use Rattle.drift.specs.Kinds.{kind-top, kind-mark, kind-one, kind-two, kind-count}
-use Rattle.drift.specs.Tree.{kindAt, firstAt, secondAt, thirdAt}
+use Rattle.drift.specs.Tree.{kindAt, firstAt, secondAt, thirdAt, amountBy}
 use Rattle.drift.specs.NodeIs.{of-leaf}
 use Rattle.drift.specs.NodeTruth.{one-low, two-low}
 
 module _ (block : List ℕ) (n k : ℕ) where
   abbrev form : Node → Clause
-  form x = formOf (λ m. top) (λ i m percent. leaf (counted (innerTree block (length block) i) m percent)) (λ i. clauseTree block n i) x
+  form x = formOf (λ m. top) (λ i x. leaf (counted (innerTree block (length block) i) x)) (λ i. clauseTree block n i) x
 
   pub looked-up : (x : Node) → nodeAt block k ≡ x → clauseTree block (suc n) k ≡ form x
   unfolding clauseTree tree
@@ -62,7 +62,7 @@ module _ (block : List ℕ) (k : ℕ) where
   pub leaf-tells : (kind : ℕ) → kind ≡ kindAt block k → isLeaf kind ≡ true → Tells false
   leaf-tells kind ek e =
       tells false
-      (λ n z. of-leaf (λ x. hasNext (form block n k x)) block k kind ek false refl (λ m. refl) (λ i m percent. refl) e
+      (λ n z. of-leaf (λ x. hasNext (form block n k x)) block k kind ek false refl (λ m. refl) (λ i x. refl) e
       ∙ sym (ap hasNext (looked-up block n k (nodeAt block k) refl)))
 
   has-one : (kind : ℕ) (a : Clause) → (kind ≡ 3 → ⊥) → hasNext a ≡ hasNext (one (oneOf kind) a)
@@ -148,4 +148,4 @@ module _ (P : Rows) (d : ℕ) (block : List ℕ) (k : ℕ) where
       count-at z =
           sym
           (ap (failing P d)
-          (looked-up block n k (countN (firstAt block k) (secondAt block k + 256 * thirdAt block k) (eqb (kindAt block k) 11)) (kind-count _ _ _ _ z)))
+          (looked-up block n k (countN (firstAt block k) (amountBy (kindAt block k) (secondAt block k) (thirdAt block k))) (kind-count _ _ _ _ z)))

@@ -9,21 +9,18 @@ use native.Mathlib.Omega.{arith}
 use lib.ListN.{length, take, drop}
 use lib.Dec.{leb, ltb, eqb}
 use borrow.Author.Tests.{ltb-false, leb-true, leb-false, eqb-true}
-use Rattle.grammar.specs.Grammar.{Form, top, Spaces, none, Number, nought, Percent, without, Rank, small, Part, word, one-small, one-until, one-and, Mark, mark, Inner, Counted, counted, Count, count, Clause, Sheet, done, line}
+use Rattle.grammar.specs.Grammar.{Form, top, Spaces, none, Number, nought, without, Rank, small, Part, word, one-small, one-until, one-and, Mark, mark, Inner, Amount, amount, AmountText, written, Counted, counted, Count, count, Clause, Sheet, done, line}
 use Rattle.grammar.specs.Limits.{level, nodes, InRange, markLevel, markNodes, MarkOk, countLevel, countNodes, CountOk, most, Ranged, Fits}
-use Rattle.grammar.specs.Reader.{Got, no, bind, skip, expect, number, percent, ors, markBy, marks, inners, countEnd, countBy, counts, clauses, clauseLine, lines, accepted, refused, outcome, start, readSheet}
-use Rattle.grammar.specs.Answers.{AcceptedSheet, InSheet, Begins, BeginsInRange, Token, Allowed, Large, OutOfRange}
-use Rattle.grammar.specs.Ends.{Swap, here, there, Mode, near, whole, not-near, Keeps, keeps-near, keeps-13, keeps-14, keeps-15, swap-trans, swap-short, Framed, frame-spaces, frame-token, frame-number, frame-percent, frame, frame-mark, frame-count}
-use Rattle.grammar.specs.Each.{Each, gives, denies, each-bind, each-map, each-node, either, never, skip-spaces, each-expect, each-number, each-percent}
+use Rattle.grammar.specs.Reader.{Got, no, bind, skip, expect, number, ors, markBy, marks, inners, amounts, countEnd, countBy, counts, clauses, clauseLine, lines, accepted, refused, outcome, start, readSheet}
+use Rattle.grammar.specs.Answers.{AcceptedSheet, InSheet, Begins, BeginsInRange, WholeNumber, WholePercent, Token, Allowed, Large, OutOfRange}
+use Rattle.grammar.specs.Ends.{Swap, here, there, Mode, near, whole, not-near, Keeps, keeps-near, keeps-13, keeps-14, keeps-15, swap-trans, swap-short, Framed, frame-spaces, frame-token, frame-number, frame-percent, frame-amount, amount-short, frame, frame-mark, frame-count}
+use Rattle.grammar.specs.Each.{Each, gives, denies, each-bind, each-map, each-node, either, never, skip-spaces, each-expect, each-number, AmountOn, nought-on, each-amount}
 use Rattle.grammar.specs.Sound.{spaces-short, Refuses, Completed, modes, Good, LeafReads, GoodLeaf, byte-refuses, true-near, true-refuses, part-short, ors-good}
 use Rattle.grammar.specs.Ranges.{Tail, tail-swap, Fine, sheet-fine, mark-never, count-never}
 
 ---- Marks.
 number-short : {n : ℕ} {s r : List ℕ} → Number s r n → length r ≤ length s
 number-short {r = r} x = swap-short (frame-number x r .1)
-
-percent-short : {p : Bool} {s r : List ℕ} → Percent s r p → length r ≤ length s
-percent-short {r = r} x = swap-short (frame-percent x r .1)
 
 abbrev LateMark : List ℕ → ℕ → List ℕ → Type 0
 LateMark = Refuses Mark markLevel markNodes MarkOk small
@@ -84,37 +81,56 @@ GivesCount = LeafReads Count countLevel countNodes CountOk
 abbrev LateCount : List ℕ → ℕ → List ℕ → Type 0
 LateCount = Refuses Count countLevel countNodes CountOk small
 
+-- the least text of an amount
+abbrev nil : Amount
+nil = amount 0 false
+
+nil-text : {r : List ℕ} → AmountText (48 ∷ r) r nil
+nil-text = written nought without
+
 bracket-refuses : (b : ℕ) {s r : List ℕ} → Spaces s (b ∷ r) → b ≡ 91 → LateCount s 14 (b ∷ r)
 bracket-refuses b {r = r} x e =
     byte-refuses Count countLevel countNodes CountOk small b x (subst (λ (c : ℕ). Token (c ∷ r) r) (sym e) Token.bracket)
-    (λ t. 116 ∷ 114 ∷ 117 ∷ 101 ∷ 44 ∷ 48 ∷ 93 ∷ t) (Form.leaf (counted top 0 false)) (tt, omega arith)
+    (λ t. 116 ∷ 114 ∷ 117 ∷ 101 ∷ 44 ∷ 48 ∷ 93 ∷ t) (Form.leaf (counted top nil)) (tt, omega arith)
     (λ s' t z. Part.leaf (count (subst (λ (c : ℕ). Spaces s' (c ∷ 116 ∷ 114 ∷ 117 ∷ 101 ∷ 44 ∷ 48 ∷ 93 ∷ t)) e z)
-    (one-and (one-until (one-small (word none)))) none none nought without none))
+    (one-and (one-until (one-small (word none)))) none none nil-text none))
 
--- a count up to its number
+-- a count up to its amount
 module _ (a : Inner) (s s₁ s₂ s₃ s₄ : List ℕ) (o : Spaces s (91 ∷ s₁)) (p : Part Mark Rank.ors s₁ s₂ a) (c : Spaces s₂ (44 ∷ s₃)) (d : Spaces s₃ s₄) where
-  ahead : Framed (λ s' t. (s₅ s₆ r : List ℕ) (n : ℕ) (q : Bool) → Number t s₅ n → Percent s₅ s₆ q → Spaces s₆ (93 ∷ r) → Count s' r (counted a n q)) s s₄
+  ahead : Framed (λ s' t. (s₅ r : List ℕ) (x : Amount) → AmountText t s₅ x → Spaces s₅ (93 ∷ r) → Count s' r (counted a x)) s s₄
   ahead t =
       let d' = frame-spaces d t in
       let c' = frame-token c (d' .0) in
       let p' = frame Mark frame-mark p (c' .0) in
       let o' = frame-token o (p' .0) in
-      (o' .0, swap-trans (o' .1) (swap-trans (p' .1) (swap-trans (c' .1) (d' .1))), λ s₅ s₆ r n q e f g. count (o' .2) (p' .2) (c' .2) (d' .2) e f g)
+      (o' .0, swap-trans (o' .1) (swap-trans (p' .1) (swap-trans (c' .1) (d' .1))), λ s₅ r x e g. count (o' .2) (p' .2) (c' .2) (d' .2) e g)
 
-  -- the number 0 may follow
-  nought-next : {w : ℕ} {m : Mode} → InRange MarkOk a → ((v : List ℕ) → Keeps m w s₄ s₄ v) → (t : List ℕ)
-      → Completed Count countLevel countNodes CountOk small s w s₄ t m
-  nought-next ok k t =
-      let b = ahead (48 ∷ 93 ∷ t) in (
-        s₄,
-        48 ∷ 93 ∷ t,
-        b .0,
-        Form.leaf (counted a 0 false),
-        b .1,
-        Part.leaf (b .2 (93 ∷ t) (93 ∷ t) t 0 false nought without none),
-        k
-            (48 ∷ 93 ∷ t),
-        λ e. (ok, omega arith),
+  -- some amount goes on
+  amount-next : {w : ℕ} {m : Mode} {r : List ℕ} → InRange MarkOk a → AmountOn s₄ r → ((v : List ℕ) → Keeps m w r r v) → (t : List ℕ)
+      → Completed Count countLevel countNodes CountOk small s w r t m
+  amount-next {r = r} ok f k t =
+      let y = f (93 ∷ t) in
+      let b = ahead (y .1) in
+      (r, y .0, b .0, Form.leaf (counted a (y .2)), swap-trans (b .1) (y .3), Part.leaf (b .2 (93 ∷ t) t (y .2) (y .4) none), k (y .0), λ e. (ok, y .5))
+
+  -- one out of range stands there
+  amount-wide : {k : ℕ} {q : Bool} {s₅ s₆ : List ℕ} → WholeNumber s₄ s₅ k → WholePercent s₅ s₆ q → most q < k → (t : List ℕ)
+      → Completed Count countLevel countNodes CountOk small s 15 s₄ t whole
+  amount-wide {k} {q} y z i t =
+      let z' = frame-percent (z .percent) (93 ∷ t) in
+      let y' = frame-number (y .number) (z' .0) in
+      let d' = frame-spaces d (y' .0) in
+      let c' = frame-spaces c (44 ∷ d' .0) in
+      let p' = frame Mark frame-mark p (c' .0) in
+      let o' = frame-token o (p' .0) in (
+        44 ∷ s₃,
+        44 ∷ d' .0,
+        o' .0,
+        Form.leaf (counted a (amount k q)),
+        swap-trans (o' .1) (swap-trans (p' .1) (c' .1)),
+        Part.leaf (count (o' .2) (p' .2) (c' .2) (d' .2) (written (y' .2) (z' .2)) none),
+        keeps-15 refl refl (Large.count d y z i) (there (swap-trans (d' .1) (swap-trans (y' .1) (z' .1)))),
+        not-near,
       )
 
   count-rest : (l n m : ℕ) → level Mark markLevel p ≤ l → n ≡ suc (m + nodes markNodes a) → InRange MarkOk a
@@ -122,57 +138,35 @@ module _ (a : Inner) (s s₁ s₂ s₃ s₄ : List ℕ) (o : Spaces s (91 ∷ s�
   unfolding countEnd
   count-rest l n m h e ok =
       let h₄ = swap-short (ahead [] .1) in
-      each-bind (number m s₄) _
-      (each-number m s₄
-      (λ k s₅ y.
-      let h₅ = number-short (y .number) in
-      each-bind (percent m s₅) _
-      (each-percent m s₅
-      (λ q s₆ z.
-      let h₆ = percent-short (z .percent) in
-      either (Each (GivesCount (suc l) n s) (LateCount s)) (leb k (most q)) (expect 93 (counted a k q) m s₆) _
-      (λ i. each-expect 93 (counted a k q) m s₆
-      (λ r g. record { leaf = count o p c d (y .number) (z .percent) g; low = omega arith; used = omega arith; ok = (ok, leb-true k (most q) i) })
+      each-bind (amounts m s₄) _
+      (each-amount m s₄
+      (λ x s₅ y y-ok.
+      let h₅ = amount-short y in
+      each-expect 93 (counted a x) m s₅
+      (λ r g. record { leaf = count o p c d y g; low = omega arith; used = omega arith; ok = (ok, y-ok) })
       (λ r g. record {
-        short = let h₇ = spaces-short g in omega arith;
+        short = let h₆ = spaces-short g in omega arith;
         goes = λ t m.
             let g' = frame-spaces g (93 ∷ t) in
-            let z' = frame-percent (z .percent) (g' .0) in
-            let y' = frame-number (y .number) (z' .0) in
+            let y' = frame-amount y (g' .0) in
             let b = ahead (y' .0) in (
               r,
               93 ∷ t,
               b .0,
-              Form.leaf (counted a k q),
-              swap-trans (b .1) (swap-trans (y' .1) (swap-trans (z' .1) (g' .1))),
-              Part.leaf
-                  (b .2 (z' .0) (g' .0) t k q (y' .2) (z' .2) (g' .2)),
+              Form.leaf (counted a x),
+              swap-trans (b .1) (swap-trans (y' .1) (g' .1)),
+              Part.leaf (b .2 (g' .0) t x (y' .2) (g' .2)),
               keeps-13 refl,
-              λ e. (ok, leb-true k (most q) i),
+              λ e. (ok, y-ok),
             );
       }))
-      (λ i. denies (record {
+      (λ k q s₅ s₆ y z i. record {
         short = omega arith;
-        goes = modes Count countLevel countNodes CountOk small s 15 s₄ (nought-next ok (λ v. keeps-near refl)) (λ t.
-            let z' = frame-percent (z .percent) (93 ∷ t) in
-            let y' = frame-number (y .number) (z' .0) in
-            let d' = frame-spaces d (y' .0) in
-            let c' = frame-spaces c (44 ∷ d' .0) in
-            let p' = frame Mark frame-mark p (c' .0) in
-            let o' = frame-token o (p' .0) in (
-              44 ∷ s₃,
-              44 ∷ d' .0,
-              o' .0,
-              Form.leaf (counted a k q),
-              swap-trans (o' .1) (swap-trans (p' .1) (c' .1)),
-              Part.leaf (count (o' .2) (p' .2) (c' .2) (d' .2) (y' .2) (z' .2) none),
-              keeps-15 refl refl (Large.count d y z (leb-false k (most q) i)) (there (swap-trans (d' .1) (swap-trans (y' .1) (z' .1)))),
-              not-near,
-            ));
-      })))))
-      (record {
+        goes = modes Count countLevel countNodes CountOk small s 15 s₄ (amount-next ok (nought-on s₄) (λ v. keeps-near refl)) (amount-wide y z i);
+      })
+      (λ r h f. record {
         short = omega arith;
-        goes = λ t m. nought-next ok (λ v. keeps-13 refl) t;
+        goes = λ t m. amount-next ok f (λ v. keeps-13 refl) t;
       }))
 
 count-by : (l : ℕ) (q : Bool) (n b : ℕ) (s r : List ℕ) → (q ≡ true → b ≡ 91) → Spaces s (b ∷ r) → Each (GivesCount l n s) (LateCount s) (countBy l q n b r)
@@ -200,10 +194,10 @@ count-by (suc l) true n b s r e x =
             r₂,
             44 ∷ 48 ∷ 93 ∷ t,
             o' .0,
-            Form.leaf (counted a 0 false),
+            Form.leaf (counted a nil),
             swap-trans (o' .1) (swap-trans (p' .1) (c' .1)),
             Part.leaf
-                (count (o' .2) (p' .2) (c' .2) none nought without none),
+                (count (o' .2) (p' .2) (c' .2) none nil-text none),
             keeps-13 refl,
             λ e. (p .ok, omega arith),
           );
@@ -216,10 +210,10 @@ count-by (suc l) true n b s r e x =
             p' .0,
             p' .1,
             o' .0,
-            Form.leaf (counted (p' .3) 0 false),
+            Form.leaf (counted (p' .3) nil),
             swap-trans (o' .1) (p' .4),
             Part.leaf
-                (count (o' .2) (p' .5) none none nought without none),
+                (count (o' .2) (p' .5) none none nil-text none),
             p' .6,
             λ e. (p' .7 e, omega arith),
           );

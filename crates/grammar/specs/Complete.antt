@@ -8,9 +8,9 @@ use native.Mathlib.Omega.{arith}
 use lib.ListN.{length, take}
 use lib.Dec.{leb, ltb, eqb}
 use borrow.Author.Tests.{ltb-true, leb-false, ne-eqb, le-ltb, lt-ltb}
-use Rattle.grammar.specs.Grammar.{Spaces, Number, nought, other, Percent, without, sign, Rank, Part, Mark, mark, Inner, counted, Count, count, Clause, Sheet, done, line}
-use Rattle.grammar.specs.Limits.{level, nodes, InRange, markLevel, markNodes, MarkOk, countLevel, countNodes, CountOk, most, Sized, Ranged, Fits, FewLines, FewBytes}
-use Rattle.grammar.specs.Reader.{pick, Got, got, no, bind, skip, isDigit, expect, number, percent, ors, markBy, marks, inners, countEnd, countBy, counts, clauses, clauseLine, lines, accepted, refused, outcome, start, readSheet}
+use Rattle.grammar.specs.Grammar.{Spaces, Number, nought, other, Percent, without, sign, Rank, Part, Mark, mark, Inner, Amount, amount, AmountText, written, counted, Count, count, Clause, Sheet, done, line}
+use Rattle.grammar.specs.Limits.{level, nodes, InRange, markLevel, markNodes, MarkOk, countLevel, countNodes, AmountOk, CountOk, most, Sized, Ranged, Fits, FewLines, FewBytes}
+use Rattle.grammar.specs.Reader.{pick, Got, got, no, bind, skip, isDigit, expect, number, percent, ors, markBy, marks, inners, amounts, countEnd, countBy, counts, clauses, clauseLine, lines, accepted, refused, outcome, start, readSheet}
 use Rattle.grammar.specs.Answers.{RefusedBy, InSheet, Never, Beyond}
 use Rattle.grammar.specs.Ends.{Swap, here, there, whole, not-near, keeps-near, keeps-13, keeps-14, keeps-15, swap-short, token-in, frame-count}
 use Rattle.grammar.specs.Each.{Each, gives, denies, each-bind, each-map, each-both, each-node, either, number-keeps}
@@ -22,6 +22,9 @@ use Rattle.grammar.specs.Agree.{SameHead, neither, both, near-step, near
 number-head : {s t : List ℕ} {k : ℕ} → Number s t k → HeadNot (λ b. eqb b 32) s
 number-head (nought {r = r}) = (48, r, refl, refl)
 number-head (other {b = b} {s = s} h i x) = (b, s, refl, ne-eqb b 32 (λ e. omega arith))
+
+amount-head : {s t : List ℕ} {x : Amount} → AmountText s t x → HeadNot (λ b. eqb b 32) s
+amount-head (written n p) = number-head n
 
 percent-head : {s t r : List ℕ} {p : Bool} → Percent s t p → Spaces t (93 ∷ r) → HeadNot isDigit s
 percent-head without g = head-not isDigit refl refl g
@@ -63,51 +66,58 @@ module _ (u u' : List ℕ) (same : SameHead u u') where
   unfolding inners
   inners-agrees l = ors-agrees u u' same Mark markLevel markNodes MarkOk (λ i. marks) marks-agrees (λ i. marks-short) l
 
-  -- a count from its number on
-  threshold-agrees : {F G : Type 0} (a : Inner) (n m : ℕ) (s s₄' s₅' s₆' t' : List ℕ) (k : ℕ) (p : Bool) → Number s₄' s₅' k → Percent s₅' s₆' p
-      → Spaces s₆' (93 ∷ t') → Close u u' same s s₄'
-      → n ≡ suc (m + nodes markNodes a) → (G → k ≤ most p)
-      → Each (Match u u' same n (counted a k p) (suc (nodes markNodes a)) t') (Fault u u' same F G) (countEnd a m s)
-  unfolding countEnd
-  threshold-agrees {F} {G} a n m s s₄' s₅' s₆' t' k p e f g close h ok =
-      let c : ℕ = suc (nodes markNodes a) in
-      each-bind (number m s) _
-      (each-map (number-agrees u u' same m s s₄' s₅' k e close (percent-head f g))
-      (λ k₁ m₁ r i.
-      each-bind (percent m₁ r) _
+  -- an amount, up to the `]` behind it
+  amount-agrees : {F G : Type 0} (n : ℕ) (s s' t' r' : List ℕ) (x : Amount) → AmountText s' t' x → Spaces t' (93 ∷ r') → Close u u' same s s'
+      → (G → AmountOk x) → Each (Match u u' same n x 0 t') (Fault u u' same F G) (amounts n s)
+  unfolding amounts
+  amount-agrees {F} {G} n s s' t' r' x (written {s₁ = s₁'} {n = k} {p = p} e f) g close ok =
+      each-bind (number n s) _
+      (each-map (number-agrees u u' same n s s' s₁' k e close (percent-head f g))
+      (λ k₁ m r i.
+      each-bind (percent m r) _
       (⊎-elim
       (λ j.
-      each-map (percent-agrees u u' same m₁ r s₅' s₆' p f (j .2) (head-not (λ b. eqb b 37) refl refl g))
-      (λ p₁ m₂ r₂ x.
-      either (Each (Match u u' same n (counted a k p) c t') (Fault u u' same F G)) (leb k₁ (most p₁)) (expect 93 (counted a k₁ p₁) m₂ r₂) (no 15 s)
-      (λ q.
-      ⊎-elim
-      (λ y.
-      each-map (expect-agrees u u' same 93 (λ z. omega arith) (counted a k₁ p₁) m₂ r₂ s₆' t' (y .2) g)
-      (λ v m₃ r₃ z. ⊎-elim (λ w. inl ((let kk = j .0 in let pp = y .0 in let vv = w .0 in cc), omega (arith, j .1, y .1, w .1), w .2))
-      (λ w. inr (skipped u u' same r₃ w)) z)
-      (λ w r₃ z. z))
-      (λ y. let o = skip-short r₂ in beyond u u' same c (length r₂) y (expect-short 93 (counted a k₁ p₁) (length r₂) m₂ r₂ o))
-      x)
-      (λ q. denies (range u u' same (λ v. ⊎-elim (λ y. omega (arith, ok v, j .0, ap most (y .0), leb-false k₁ (most p₁) q)) (λ y. omega arith) x))))
-      (λ w r₂ x. x))
+      each-map (percent-agrees u u' same m r s₁' t' p f (j .2) (head-not (λ b. eqb b 37) refl refl g))
+      (λ p₁ m₁ r₁ y.
+      either (Each (Match u u' same n (amount k p) 0 t') (Fault u u' same F G)) (leb k₁ (most p₁)) (got (amount k₁ p₁) m₁ r₁) (no 15 s)
+      (λ q. gives (⊎-elim (λ z. inl ((let kk = j .0 in let pp = z .0 in cc), omega (arith, j .1, z .1), z .2)) (λ z. inr (skipped u u' same r₁ z)) y))
+      (λ q. denies (range u u' same (λ v. ⊎-elim (λ z. omega (arith, ok v, j .0, ap most (z .0), leb-false k₁ (most p₁) q)) (λ z. omega arith) y))))
+      (λ w r₁ y. y))
       (λ j.
-      each-map (percent-short (length r) m₁ r (omega arith))
-      (λ p₁ m₂ r₂ x.
-      either (Each (Match u u' same n (counted a k p) c t') (Fault u u' same F G)) (leb k₁ (most p₁)) (expect 93 (counted a k₁ p₁) m₂ r₂) (no 15 s)
-      (λ q. let o = skip-short r₂ in beyond u u' same c (length r) j (expect-short 93 (counted a k₁ p₁) (length r) m₂ r₂ (omega arith)))
-      (λ q. denies (range u u' same (λ v. omega arith))))
-      (λ w r₂ x. let h = x .0 in gone u u' same (omega arith)))
+      each-map (percent-short (length r) m r (omega arith))
+      (λ p₁ m₁ r₁ y.
+      either (Each (Match u u' same n (amount k p) 0 t') (Fault u u' same F G)) (leb k₁ (most p₁)) (got (amount k₁ p₁) m₁ r₁) (no 15 s)
+      (λ q. gives (inr (skipped u u' same r₁ (omega arith)))) (λ q. denies (range u u' same (λ v. omega arith))))
+      (λ w r₁ y. let h = y .0 in gone u u' same (omega arith)))
       i))
       (λ w r i. i))
 
-  bracket-agrees : (l n : ℕ) (t s₁' s₂' s₃' s₄' s₅' s₆' t' : List ℕ) (a : Inner) (k : ℕ) (p : Bool) (i : Part Mark Rank.ors s₁' s₂' a)
-      → Spaces s₂' (44 ∷ s₃') → Spaces s₃' s₄' → Number s₄' s₅' k → Percent s₅' s₆' p → Spaces s₆' (93 ∷ t') → Close u u' same t s₁'
-      → Each (Match u u' same n (counted a k p) (suc (nodes markNodes a)) t')
-      (Fault u u' same ((suc (level Mark markLevel i) ≤ l) × (suc (nodes markNodes a) ≤ n)) (InRange MarkOk a × (k ≤ most p))) (countBy l true n 91 t)
+  -- a count from its amount on
+  threshold-agrees : {F G : Type 0} (a : Inner) (n m : ℕ) (s s₄' s₅' t' : List ℕ) (x : Amount) → AmountText s₄' s₅' x → Spaces s₅' (93 ∷ t')
+      → Close u u' same s s₄' → n ≡ suc (m + nodes markNodes a) → (G → AmountOk x)
+      → Each (Match u u' same n (counted a x) (suc (nodes markNodes a)) t') (Fault u u' same F G) (countEnd a m s)
+  unfolding countEnd
+  threshold-agrees {F} {G} a n m s s₄' s₅' t' x e g close h ok =
+      let c : ℕ = suc (nodes markNodes a) in
+      each-bind (amounts m s) _
+      (each-map (amount-agrees m s s₄' s₅' t' x e g close ok)
+      (λ x₁ m₁ r i.
+      ⊎-elim
+      (λ j.
+      each-map (expect-agrees u u' same 93 (λ z. omega arith) (counted a x₁) m₁ r s₅' t' (j .2) g)
+      (λ v m₂ r₂ z. ⊎-elim (λ w. inl ((let xx = j .0 in let vv = w .0 in cc), omega (arith, j .1, w .1), w .2)) (λ w. inr (skipped u u' same r₂ w)) z)
+      (λ w r₂ z. z))
+      (λ j. beyond u u' same c (length (skip r)) j (expect-short 93 (counted a x₁) (length (skip r)) m₁ r (omega arith)))
+      i)
+      (λ w r i. i))
+
+  bracket-agrees : (l n : ℕ) (t s₁' s₂' s₃' s₄' s₅' t' : List ℕ) (a : Inner) (y : Amount) (i : Part Mark Rank.ors s₁' s₂' a)
+      → Spaces s₂' (44 ∷ s₃') → Spaces s₃' s₄' → AmountText s₄' s₅' y → Spaces s₅' (93 ∷ t') → Close u u' same t s₁'
+      → Each (Match u u' same n (counted a y) (suc (nodes markNodes a)) t')
+      (Fault u u' same ((suc (level Mark markLevel i) ≤ l) × (suc (nodes markNodes a) ≤ n)) (InRange MarkOk a × AmountOk y)) (countBy l true n 91 t)
   unfolding countBy
-  bracket-agrees zero n t s₁' s₂' s₃' s₄' s₅' s₆' t' a k p i c d e f g close = denies (limit u u' same (λ v. omega (arith, v .0)))
-  bracket-agrees (suc l) n t s₁' s₂' s₃' s₄' s₅' s₆' t' a k p i c d e f g (inl near) =
+  bracket-agrees zero n t s₁' s₂' s₃' s₄' s₅' t' a y i c d e g close = denies (limit u u' same (λ v. omega (arith, v .0)))
+  bracket-agrees (suc l) n t s₁' s₂' s₃' s₄' s₅' t' a y i c d e g (inl near) =
       let cost : ℕ = suc (nodes markNodes a) in
       each-node (91 ∷ t) n _
       (λ m j.
@@ -116,27 +126,27 @@ module _ (u u' : List ℕ) (same : SameHead u u') where
       (each-map (inners-agrees l m t s₁' s₂' a i near (record { byte = 44; rest = s₃'; spaces = c; ends = refl; plain = refl }))
       (λ a₁ m₁ r z.
       ⊎-elim
-      (λ y.
-      each-map (expect-agrees u u' same 44 (λ q. omega arith) a₁ m₁ r s₂' s₃' (y .2) c)
+      (λ v.
+      each-map (expect-agrees u u' same 44 (λ q. omega arith) a₁ m₁ r s₂' s₃' (v .2) c)
       (λ a₂ m₂ r₂ x.
       ⊎-elim
       (λ w.
       subst
-      (λ (b : Inner). Each (Match u u' same n (counted a k p) cost t')
-      (Fault u u' same ((suc (level Mark markLevel i) ≤ suc l) × (cost ≤ n)) (InRange MarkOk a × (k ≤ most p))) (countEnd b m₂ (skip r₂)))
-      (sym (w .0 ∙ y .0))
-      (threshold-agrees a n m₂ (skip r₂) s₄' s₅' s₆' t' k p e f g (arrive u u' same (number-head e) (w .2) d) (omega (arith, w .1, y .1)) (λ v. v .1)))
+      (λ (b : Inner). Each (Match u u' same n (counted a y) cost t')
+      (Fault u u' same ((suc (level Mark markLevel i) ≤ suc l) × (cost ≤ n)) (InRange MarkOk a × AmountOk y)) (countEnd b m₂ (skip r₂)))
+      (sym (w .0 ∙ v .0))
+      (threshold-agrees a n m₂ (skip r₂) s₄' s₅' t' y e g (arrive u u' same (amount-head e) (w .2) d) (omega (arith, w .1, v .1)) (λ o. o .1)))
       (λ w. let o = skip-short r₂ in beyond u u' same cost (length r₂) w (threshold-short a₂ (length r₂) m₂ (skip r₂) o))
       x)
       (λ w r₂ x. x))
-      (λ y.
+      (λ v.
       each-map (expect-short 44 a₁ (length (skip r)) m₁ r (omega arith))
-      (λ a₂ m₂ r₂ x. beyond u u' same cost (length (skip r)) y (threshold-short a₂ (length (skip r)) m₂ (skip r₂) x))
+      (λ a₂ m₂ r₂ x. beyond u u' same cost (length (skip r)) v (threshold-short a₂ (length (skip r)) m₂ (skip r₂) x))
       (λ w r₂ x. gone u u' same (omega arith)))
       z)
       (λ w r z. fault-map u u' same (λ v. (omega (arith, v .0), omega (arith, v .1))) (λ v. v .0) z))))
       (λ j. limit u u' same (λ v. omega (arith, v .1)))
-  bracket-agrees (suc l) n t s₁' s₂' s₃' s₄' s₅' s₆' t' a k p i c d e f g (inr past) =
+  bracket-agrees (suc l) n t s₁' s₂' s₃' s₄' s₅' t' a y i c d e g (inr past) =
       let cost : ℕ = suc (nodes markNodes a) in
       let h = skip-short t in
       each-node (91 ∷ t) n _
@@ -151,8 +161,8 @@ module _ (u u' : List ℕ) (same : SameHead u u') where
 
   counts-agrees : (l : ℕ) → AgreesLeaf u u' same Count countLevel countNodes CountOk l (counts l)
   unfolding counts
-  counts-agrees l n s s' t' x (count {s₁ = s₁'} {s₂ = s₂'} {s₃ = s₃'} {s₄ = s₄'} {s₅ = s₅'} {s₆ = s₆'} {a = a} {n = k} {p = p} o i c d e f g) near fo =
-      ⊎-elim (λ z. inl (91, z .0, z .1, refl, bracket-agrees l n (z .0) s₁' s₂' s₃' s₄' s₅' s₆' t' a k p i c d e f g (z .2))) (λ z. inr z)
+  counts-agrees l n s s' t' x (count {s₁ = s₁'} {s₂ = s₂'} {s₃ = s₃'} {s₄ = s₄'} {s₅ = s₅'} {a = a} {x = y} o i c d e g) near fo =
+      ⊎-elim (λ z. inl (91, z .0, z .1, refl, bracket-agrees l n (z .0) s₁' s₂' s₃' s₄' s₅' t' a y i c d e g (z .2))) (λ z. inr z)
       (token u u' same (λ q. omega arith) near o)
 
   pub clauses-agrees : (l : ℕ) → Agrees u u' same Count countLevel countNodes CountOk Rank.ors l (clauses l)

@@ -1,14 +1,15 @@
 -- What holds of each outcome of a reading, and of the small readers' outcomes.
-use Prim.Native.Nat.{ℕ, zero, suc, _+_, _*_, _-_, _≤_}
+use Prim.Native.Nat.{ℕ, zero, suc, _+_, _*_, _-_, _≤_, _<_}
 use mathlib.Core.Path.{_≡_, refl, ap, subst, sym, _∙_}
 use mathlib.Core.Bool.{Bool, true, false, _&&_}
 use mathlib.Core.List.{List, [], _∷_, _++_}
 use native.Mathlib.Omega.{arith}
 use lib.ListN.{length}
 use lib.Dec.{leb, eqb}
-use borrow.Author.Tests.{leb-true, le-leb, eqb-true, eqb-false}
-use Rattle.grammar.specs.Grammar.{Spaces, none, space, Digits, end, digit, Number, nought, other, Percent, without, sign}
-use Rattle.grammar.specs.Reader.{pick, Got, got, no, Reader, bind, node, skip, expectAt, expect, literal, isDigit, digits, number, percent}
+use borrow.Author.Tests.{leb-true, leb-false, le-leb, eqb-true, eqb-false}
+use Rattle.grammar.specs.Grammar.{Spaces, none, space, Digits, end, digit, Number, nought, other, Percent, without, sign, Amount, amount, AmountText, written}
+use Rattle.grammar.specs.Limits.{most, AmountOk}
+use Rattle.grammar.specs.Reader.{pick, Got, got, no, Reader, bind, node, skip, expectAt, expect, literal, isDigit, digits, number, percent, amounts}
 use Rattle.grammar.specs.Answers.{WholeNumber, WholePercent}
 use Rattle.grammar.specs.Ends.{Swap, here, there}
 
@@ -153,6 +154,31 @@ each-percent {P} {Q} n (b ∷ s) y =
     (λ e. gives
     (y true s (subst (λ (x : ℕ). WholePercent (x ∷ s) s true) (sym (eqb-true b 37 e)) (record { percent = sign; longest = λ r' p' x. sign-far x }))))
     (λ e. gives (y false (b ∷ s) (record { percent = without; longest = λ r' p' x. without-far (eqb-false b 37 e) x })))
+
+-- with what stands before r some amount in range goes on, whatever is to stand behind it
+abbrev pub AmountOn : List ℕ → List ℕ → Type 0
+AmountOn s r = (t : List ℕ) → (v s' : List ℕ) × (x : Amount) × Swap r v s s' × AmountText s' t x × AmountOk x
+
+pub nought-on : (s : List ℕ) → AmountOn s s
+nought-on s t = (48 ∷ t, 48 ∷ t, amount 0 false, here, written nought without, omega arith)
+
+-- an amount; or 15 for a whole number out of range, or 13 where an amount goes on
+pub each-amount : {P : Amount → ℕ → List ℕ → Type 0} {Q : ℕ → List ℕ → Type 0} (n : ℕ) (s : List ℕ)
+    → ((x : Amount) (r : List ℕ) → AmountText s r x → AmountOk x → P x n r)
+    → ((k : ℕ) (p : Bool) (s₁ r : List ℕ) → WholeNumber s s₁ k → WholePercent s₁ r p → most p < k → Q 15 s)
+    → ((r : List ℕ) → length r ≤ length s → AmountOn s r → Q 13 r) → Each P Q (amounts n s)
+unfolding amounts
+each-amount {P} {Q} n s f g h =
+    each-bind (number n s) _
+    (each-number n s
+    (λ k s₁ y.
+    each-bind (percent n s₁) _
+    (each-percent n s₁
+    (λ p r z.
+    either (Each P Q) (leb k (most p)) (got (amount k p) n r) _
+    (λ i. gives (f (amount k p) r (written (y .number) (z .percent)) (leb-true k (most p) i)))
+    (λ i. denies (g k p s₁ r y z (leb-false k (most p) i))))))
+    (h s (omega arith) (nought-on s)))
 
 -- these count no nodes
 pub literal-keeps : {A : Type 0} (w : List ℕ) (a : A) (n : ℕ) (s : List ℕ) → Each (λ a₁ m r. n ≡ m) (λ k r. Unit {0}) (literal w a n s)

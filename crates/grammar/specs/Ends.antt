@@ -5,7 +5,7 @@ use mathlib.Core.Bool.{Bool}
 use mathlib.Core.List.{List, [], _∷_, _++_}
 use native.Mathlib.Omega.{arith}
 use lib.ListN.{length}
-use Rattle.grammar.specs.Grammar.{Form, Spaces, none, space, Digits, end, digit, Number, nought, other, Percent, without, sign, Rank, Part, word, parens, prefix, one-small, reach, one-until, one-and, Mark, mark, Counted, Count, count}
+use Rattle.grammar.specs.Grammar.{Form, Spaces, none, space, Digits, end, digit, Number, nought, other, Percent, without, sign, AmountText, written, Rank, Part, word, parens, prefix, one-small, reach, one-until, one-and, Mark, mark, Amount, Counted, Count, count}
 use Rattle.grammar.specs.Answers.{Token, Large}
 
 -- the second text is the first with its end u replaced by v
@@ -46,6 +46,15 @@ frame-number (other {b = b} h k x) t = let y = frame-digits x t in (b ∷ y .0, 
 pub frame-percent : {p : Bool} {s r : List ℕ} → Percent s r p → Framed (λ s r. Percent s r p) s r
 frame-percent without t = (t, here, without)
 frame-percent sign t = (37 ∷ t, there here, sign)
+
+pub frame-amount : {x : Amount} {s r : List ℕ} → AmountText s r x → Framed (λ s r. AmountText s r x) s r
+frame-amount (written n p) t =
+    let b = frame-percent p t in
+    let a = frame-number n (b .0) in
+    (a .0, swap-trans (a .1) (b .1), written (a .2) (b .2))
+
+pub amount-short : {x : Amount} {s r : List ℕ} → AmountText s r x → length r ≤ length s
+amount-short {r = r} x = swap-short (frame-amount x r .1)
 
 -- a token is some bytes
 pub token-in : {q t : List ℕ} → Token q t → length t < length q
@@ -105,15 +114,14 @@ unfoldable pub frame-mark : (s r : List ℕ) (k : ℕ) → Mark s r k → Framed
 frame-mark s r k (mark x n) t = let b = frame-number n t in let a = frame-token x (b .0) in (a .0, swap-trans (a .1) (b .1), mark (a .2) (b .2))
 
 unfoldable pub frame-count : (s r : List ℕ) (x : Counted) → Count s r x → Framed (λ s r. Count s r x) s r
-frame-count s r x (count o p c d e f g) t =
+frame-count s r x (count o p c d e g) t =
     let g' = frame-token g t in
-    let f' = frame-percent f (g' .0) in
-    let e' = frame-number e (f' .0) in
+    let e' = frame-amount e (g' .0) in
     let d' = frame-spaces d (e' .0) in
     let c' = frame-token c (d' .0) in
     let p' = frame Mark frame-mark p (c' .0) in
     let o' = frame-token o (p' .0) in (
       o' .0,
-      swap-trans (o' .1) (swap-trans (p' .1) (swap-trans (c' .1) (swap-trans (d' .1) (swap-trans (e' .1) (swap-trans (f' .1) (g' .1)))))),
-      count (o' .2) (p' .2) (c' .2) (d' .2) (e' .2) (f' .2) (g' .2),
+      swap-trans (o' .1) (swap-trans (p' .1) (swap-trans (c' .1) (swap-trans (d' .1) (swap-trans (e' .1) (g' .1))))),
+      count (o' .2) (p' .2) (c' .2) (d' .2) (e' .2) (g' .2),
     )

@@ -5,10 +5,10 @@ use mathlib.Core.Path.{_≡_, refl}
 use mathlib.Core.Bool.{true, false}
 use mathlib.Core.List.{List, [], _∷_, _++_}
 use lib.ListN.{length}
-use Rattle.grammar.specs.Grammar.{bytes, Part, word, parens, one-small, one-until, one-and, Spaces.none, Rank, top, leaf, neg, and, or, until, release, Inner, counted, Count, Clause}
+use Rattle.grammar.specs.Grammar.{bytes, Part, word, parens, one-small, one-until, one-and, Spaces.none, Rank, top, leaf, neg, and, or, until, release, Inner, amount, counted, Count, Clause}
 use Rattle.grammar.specs.Limits.{level, countLevel}
 use Rattle.grammar.specs.Begun.{begun}
-use Rattle.grammar.specs.Reader.{bind, node, skip, expectAt, expect, literal, digits, number, percent, chainAt, chainMore, chain, andChain, orChain, byKind, smallAt, smallOf, byOnward, untilAt, untilOf, deeper, smalls, untils, ors, markBy, marks, inners, countEnd, countBy, counts, clauses, clauseLine, lines, Read, accepted, refused, outcome, start, readSheet}
+use Rattle.grammar.specs.Reader.{bind, node, skip, expectAt, expect, literal, digits, number, percent, chainAt, chainMore, chain, andChain, orChain, byKind, smallAt, smallOf, byOnward, untilAt, untilOf, deeper, smalls, untils, ors, markBy, marks, inners, amounts, countEnd, countBy, counts, clauses, clauseLine, lines, Read, accepted, refused, outcome, start, readSheet}
 
 -- the bytes of s, k times
 abbrev times : ℕ → String → List ℕ
@@ -19,11 +19,11 @@ times (suc k) s = bytes s ++ times k s
 reading : List ℕ → Read
 unfolding
     bind node skip expectAt expect literal digits number percent chainAt chainMore chain andChain orChain byKind smallAt smallOf byOnward untilAt untilOf
-    deeper smalls untils ors markBy marks inners countEnd countBy counts clauses clauseLine lines outcome start readSheet
+    deeper smalls untils ors markBy marks inners amounts countEnd countBy counts clauses clauseLine lines outcome start readSheet
 reading s = readSheet s
 
 abbrev one : Inner → Read
-one a = accepted (leaf (counted a 1 false) ∷ [])
+one a = accepted (leaf (counted a (amount 1 false)) ∷ [])
 
 -- `true` in a chain of k `&`, behind k `!`, and on k lines
 abbrev ands : ℕ → Clause
@@ -48,10 +48,10 @@ pub worked :
     × (readSheet (bytes "[m0 & m1 & m2,1]\n") ≡ one (and (and (leaf 0) (leaf 1)) (leaf 2)))
     × (readSheet (bytes "[m0 | m1 | m2,1]\n") ≡ one (or (or (leaf 0) (leaf 1)) (leaf 2)))
     × (readSheet (bytes "[m0 | m1 & m2 U m3,1]\n") ≡ one (or (leaf 0) (and (leaf 1) (until (leaf 2) (leaf 3)))))
-    × (readSheet (bytes "[m31,999]\n[m31,100%]\n") ≡ accepted (leaf (counted (leaf 31) 999 false) ∷ leaf (counted (leaf 31) 100 true) ∷ [])))
+    × (readSheet (bytes "[m31,999]\n[m31,100%]\n") ≡ accepted (leaf (counted (leaf 31) (amount 999 false)) ∷ leaf (counted (leaf 31) (amount 100 true)) ∷ [])))
     -- exactly 128 nodes, level 32, 32 lines and 16,384 bytes are taken, and one more is refused at its first byte: 63 times `true&` are 126 nodes,
     -- and `[`, `!` and `U` count at their own byte. A mark out of range that is a node too many is 14, one without its number 13, a 33rd line 14 by any byte.
-    × ((readSheet (times 63 "true&" ++ bytes "[m1,1]\n") ≡ accepted (and (ands 62) (leaf (counted (leaf 1) 1 false)) ∷ []))
+    × ((readSheet (times 63 "true&" ++ bytes "[m1,1]\n") ≡ accepted (and (ands 62) (leaf (counted (leaf 1) (amount 1 false))) ∷ []))
     × (readSheet (times 63 "true&" ++ bytes "[!m1,1]\n") ≡ refused 14 317)
     × (readSheet (times 63 "true&" ++ bytes "[!m32,1]\n") ≡ refused 14 317)
     × (readSheet (times 63 "true&" ++ bytes "[!m,1]\n") ≡ refused 13 318)

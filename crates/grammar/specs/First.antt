@@ -8,7 +8,7 @@ use native.Mathlib.Omega.{arith}
 use lib.ListN.{length, take, drop, getD, length-drop}
 use lib.Seq.{take-length}
 use lib.Dec.{ltb}
-use Rattle.grammar.specs.Grammar.{Form, Spaces, none, space, Digits, end, digit, Number, nought, other, Percent, without, sign, prefixByte, reachByte, Rank, Part, word, parens, prefix, one-small, reach, one-until, one-and, Mark, mark, Counted, Count, count, Clause, Sheet, done, line}
+use Rattle.grammar.specs.Grammar.{Form, Spaces, none, space, Digits, end, digit, Number, nought, other, Percent, without, sign, Amount, AmountText, written, prefixByte, reachByte, Rank, Part, word, parens, prefix, one-small, reach, one-until, one-and, Mark, mark, Counted, Count, count, Clause, Sheet, done, line}
 use Rattle.grammar.specs.Limits.{nodes, markNodes, countNodes}
 use Rattle.grammar.specs.Begun.{isNode, opensLevel, Begun, onBy, after, begun, TooMany}
 use Rattle.grammar.specs.Reader.{Got, lines, accepted, refused, outcome, start, readSheet}
@@ -36,6 +36,9 @@ number-after x (other {b = b} {s = s} h k y) = ap (λ (z : Begun). after z s) (q
 percent-after : {p : Bool} {s r : List ℕ} (x : Begun) → Percent s r p → after x s ≡ after x r
 percent-after x without = refl
 percent-after x sign = refl
+
+amount-after : {a : Amount} {s r : List ℕ} (x : Begun) → AmountText s r a → after x s ≡ after x r
+amount-after x (written n p) = number-after x n ∙ percent-after x p
 
 record Adds (x : Begun) (s r : List ℕ) (n : ℕ) : Type 0 where
   to : Begun
@@ -86,12 +89,12 @@ mark-adds : (s r : List ℕ) (k : ℕ) → Mark s r k → (x : Begun) → Adds x
 mark-adds s r k (mark y n) x = record { to = onBy 109 x; same = spaces-after x y ∙ number-after (onBy 109 x) n; lines = refl; nodes = omega arith }
 
 count-adds : (s r : List ℕ) (y : Counted) → Count s r y → (x : Begun) → Adds x s r (countNodes y)
-count-adds s r y (count o p c d e f g) x =
+count-adds s r y (count o p c d e g) x =
     let u = part-adds Mark markNodes mark-adds p (onBy 91 x) in
     let v : Begun = onBy 44 (u .to) in
     record {
       to = onBy 93 v;
-      same = spaces-after x o ∙ u .same ∙ spaces-after (u .to) c ∙ spaces-after v d ∙ number-after v e ∙ percent-after v f ∙ spaces-after v g;
+      same = spaces-after x o ∙ u .same ∙ spaces-after (u .to) c ∙ spaces-after v d ∙ amount-after v e ∙ spaces-after v g;
       lines = u .lines;
       nodes = let k = u .nodes in omega arith;
     }

@@ -43,7 +43,7 @@ mark-level s r k m t = refl
 count-level : (s r : List ℕ) (x : Counted) (p : Count s r x) (t : List ℕ)
     → countLevel (frame-count s r x p t .0) t x (frame-count s r x p t .2) ≡ countLevel s r x p
 unfolding frame-count
-count-level s r x (count o p c d e f g) t = ap suc (frame-level Mark markLevel frame-mark mark-level p _)
+count-level s r x (count o p c d e g) t = ap suc (frame-level Mark markLevel frame-mark mark-level p _)
 
 -- the text with u behind its end
 swap-append : {r s t : List ℕ} (u : List ℕ) → Swap r (r ++ u) s t → t ≡ s ++ u

@@ -3,7 +3,7 @@ use Prim.Native.Nat.{ℕ, suc, _+_, _≤_, max}
 use mathlib.Core.Bool.{Bool, true, false}
 use mathlib.Core.List.{List}
 use lib.ListN.{length}
-use Rattle.grammar.specs.Grammar.{Form, top, leaf, neg, and, or, next, until, release, ev, gl, Rank, Part, word, parens, prefix, one-small, reach, one-until, one-and, Mark, Counted, counted, Count, count, Clause, Sheet, done, line}
+use Rattle.grammar.specs.Grammar.{Form, top, leaf, neg, and, or, next, until, release, ev, gl, Rank, Part, word, parens, prefix, one-small, reach, one-until, one-and, Mark, Amount, amount, Counted, counted, Count, count, Clause, Sheet, done, line}
 
 -- The level: open `(` and `[`, prefix operators awaiting their operand, U/R awaiting the end of their right side.
 module _ {L : Type 0} (Leaf : List ℕ → List ℕ → L → Type 0) (leafLevel : (s r : List ℕ) (x : L) → Leaf s r x → ℕ) where
@@ -59,17 +59,20 @@ MarkOk k = k ≤ 31
 
 -- counts
 abbrev pub countLevel : (s r : List ℕ) (x : Counted) → Count s r x → ℕ
-countLevel s r x (count o p c d e f g) = suc (level Mark markLevel p)
+countLevel s r x (count o p c d e g) = suc (level Mark markLevel p)
 
 abbrev pub countNodes : Counted → ℕ
-countNodes (counted a n p) = suc (nodes markNodes a)
+countNodes (counted a x) = suc (nodes markNodes a)
 
 abbrev pub most : Bool → ℕ
 most false = 999
 most true = 100
 
+abbrev pub AmountOk : Amount → Type 0
+AmountOk (amount n p) = n ≤ most p
+
 abbrev pub CountOk : Counted → Type 0
-CountOk (counted a n p) = InRange MarkOk a × (n ≤ most p)
+CountOk (counted a x) = InRange MarkOk a × AmountOk x
 
 -- a sheet's clauses: "128 nodes in each", "nesting level 32", and numbers
 abbrev pub Sized : {s : List ℕ} {cs : List Clause} → Sheet s cs → Type 0

@@ -1,10 +1,9 @@
 -- A text's nodes, numbered in the order in which they end: an operand has a smaller number than its operator.
 use Prim.Native.Nat.{ℕ, _+_, _-_, _<_}
 use mathlib.Core.Path.{_≡_}
-use mathlib.Core.Bool.{Bool}
 use mathlib.Core.List.{List, [], _∷_, _++_}
 use lib.ListN.{getD}
-use Rattle.grammar.specs.Grammar.{Form, top, leaf, neg, and, or, next, until, release, ev, gl, Inner, Counted, counted, Clause}
+use Rattle.grammar.specs.Grammar.{Form, top, leaf, neg, and, or, next, until, release, ev, gl, Inner, Amount, Counted, counted, Clause}
 use Rattle.grammar.specs.Limits.{nodes, markNodes, countNodes}
 
 pub data Op₁ : Type 0 where
@@ -13,11 +12,11 @@ pub data Op₁ : Type 0 where
 pub data Op₂ : Type 0 where
   and₂ or₂ until₂ release₂ : Op₂
 
--- operators hold their operands' numbers, a count its inner text's
+-- operators hold their operands' numbers, a count its inner text's and its amount
 pub data Node : Type 0 where
   topN : Node
   markN : ℕ → Node
-  countN : ℕ → ℕ → Bool → Node
+  countN : ℕ → Amount → Node
   oneN : Op₁ → ℕ → Node
   twoN : Op₂ → ℕ → ℕ → Node
 
@@ -45,7 +44,7 @@ unfoldable pub flatInner : Inner → ℕ → List Node
 flatInner a b = flat markNodes flatMark a b
 
 unfoldable pub flatCount : Counted → ℕ → List Node
-flatCount (counted a n p) b = flatInner a b ++ (countN ((b + nodes markNodes a) - 1) n p ∷ [])
+flatCount (counted a x) b = flatInner a b ++ (countN ((b + nodes markNodes a) - 1) x ∷ [])
 
 unfoldable pub flatClause : Clause → ℕ → List Node
 flatClause c b = flat countNodes flatCount c b
@@ -71,4 +70,4 @@ abbrev pub StandsMark : List Node → ℕ → ℕ → Type 0
 StandsMark ns i k = node ns i ≡ markN k
 
 abbrev pub StandsCount : List Node → ℕ → Counted → Type 0
-StandsCount ns i (counted a n p) = (j : ℕ) × (j < i) × (node ns i ≡ countN j n p) × Stands StandsMark ns j a
+StandsCount ns i (counted a x) = (j : ℕ) × (j < i) × (node ns i ≡ countN j x) × Stands StandsMark ns j a

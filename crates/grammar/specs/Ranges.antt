@@ -5,8 +5,8 @@ use mathlib.Core.Logic.{_⊎_, inl, inr, ⊎-elim}
 use mathlib.Core.Bool.{Bool, true, false}
 use mathlib.Core.List.{List, [], _∷_}
 use native.Mathlib.Omega.{arith}
-use Rattle.grammar.specs.Grammar.{Form, Spaces, none, space, Digits, end, digit, Number, nought, other, Percent, without, sign, Prefix, not, next, finally, globally, prefixByte, Reach, U, R, reachByte, Rank, Part, word, parens, prefix, one-small, reach, one-until, one-and, Mark, mark, Counted, Count, count, Clause, Sheet, done, line}
-use Rattle.grammar.specs.Limits.{InRange, MarkOk, CountOk, most, Ranged}
+use Rattle.grammar.specs.Grammar.{Form, Spaces, none, space, Digits, end, digit, Number, nought, other, Percent, without, sign, Amount, AmountText, written, Prefix, not, next, finally, globally, prefixByte, Reach, U, R, reachByte, Rank, Part, word, parens, prefix, one-small, reach, one-until, one-and, Mark, mark, Counted, Count, count, Clause, Sheet, done, line}
+use Rattle.grammar.specs.Limits.{InRange, MarkOk, AmountOk, CountOk, most, Ranged}
 use Rattle.grammar.specs.Reader.{skip, isDigit}
 use Rattle.grammar.specs.Ends.{Swap, here, there}
 use Rattle.grammar.specs.Each.{never, is-digit}
@@ -33,7 +33,7 @@ plain e (space x) = refl
 -- what stands behind an m or a comma of a sheet whose numbers are in range
 pub data Fine (u : List ℕ) : Type 0 where
   in-mark : {x r : List ℕ} {n : ℕ} → u ≡ 109 ∷ x → Number x r n → Plain r → n ≤ 31 → Fine u
-  in-count : {q x r r₁ r₂ : List ℕ} {n : ℕ} {p : Bool} → u ≡ 44 ∷ q → Spaces q x → Number x r n → Percent r r₁ p → Spaces r₁ (93 ∷ r₂) → n ≤ most p → Fine u
+  in-count : {q x r r₁ : List ℕ} {a : Amount} → u ≡ 44 ∷ q → Spaces q x → AmountText x r a → Spaces r (93 ∷ r₁) → AmountOk a → Fine u
 
 prefix-bytes : (o : Prefix) → (prefixByte o ≡ 109 → ⊥) × (prefixByte o ≡ 44 → ⊥)
 prefix-bytes not = (λ e. omega arith, λ e. omega arith)
@@ -73,6 +73,9 @@ module _ (h : ℕ) (x : List ℕ) (key : (h ≡ 109) ⊎ (h ≡ 44)) where
   percent-past without t = t
   percent-past sign t = step (λ e. omega arith) (λ e. omega arith) t
 
+  amount-past : {a : Amount} {s r : List ℕ} → AmountText s r a → Behind s → Behind r
+  amount-past (written n p) t = percent-past p (number-past n t)
+
   -- it stands behind the part, or is fine
   abbrev Passes : List ℕ → Type 0
   Passes r = Behind r ⊎ Fine (h ∷ x)
@@ -104,11 +107,11 @@ module _ (h : ℕ) (x : List ℕ) (key : (h ≡ 109) ⊎ (h ≡ 44)) where
   mark-fine s r k (mark y n) d ok t = ⊎-elim (λ e. inr (in-mark e n d ok)) (λ t₁. inl (number-past n t₁)) (spaces-past y t)
 
   count-fine : (s r : List ℕ) (y : Counted) → Count s r y → Plain r → CountOk y → Behind s → Passes r
-  count-fine s r y (count o p c a e f g) d ok t =
+  count-fine s r y (count o p c a e g) d ok t =
       ⊎-elim
       (λ t₁.
-      ⊎-elim (λ i. inr (in-count i a e f g (ok .1)))
-      (λ t₂. inl (token-past (λ e. omega arith) (λ e. omega arith) g (percent-past f (number-past e (spaces-past a t₂))))) (spaces-past c t₁))
+      ⊎-elim (λ i. inr (in-count i a e g (ok .1)))
+      (λ t₂. inl (token-past (λ e. omega arith) (λ e. omega arith) g (amount-past e (spaces-past a t₂)))) (spaces-past c t₁))
       (λ i. inr i)
       (part-fine Mark MarkOk mark-fine p (plain refl c) (ok .0) (token-past (λ e. omega arith) (λ e. omega arith) o t))
 
@@ -155,6 +158,9 @@ spaces-number none (nought {r = r}) = skip-at 48 r (λ e. omega arith)
 spaces-number none (other {b = b} {s = s} h i y) = skip-at b s (λ e. omega arith)
 spaces-number (space {s = s} y) n = skip-space s ∙ spaces-number y n
 
+spaces-amount : {q x r : List ℕ} {a : Amount} → Spaces q x → AmountText x r a → skip q ≡ x
+spaces-amount y (written n p) = spaces-number y n
+
 spaces-head : {c : ℕ} {s r : List ℕ} → Spaces s (c ∷ r) → (b : ℕ) (t : List ℕ) → s ≡ b ∷ t → (b ≡ 32) ⊎ (b ≡ c)
 spaces-head {c} {s} {r} none b t e = let z : c ∷ r ≡ b ∷ t = e in inr (cc)
 spaces-head (space {s = s} x) b t e = let z : 32 ∷ s ≡ b ∷ t = e in inl (cc)
@@ -172,20 +178,20 @@ mark-never {x} y h (in-mark {x = x₁} {r = r} {n = n} e z d l) =
     let i : x₁ ≡ x = cc in
     let k = number-most (subst (λ (w : List ℕ). Number w r n) i z) d y in
     omega arith
-mark-never y h (in-count e a z f g l) = let i : _≡_ {A = ℕ} 109 44 = cc in omega arith
+mark-never y h (in-count e a z g l) = let i : _≡_ {A = ℕ} 109 44 = cc in omega arith
 
-threshold-never : {x t₁ t r r₁ r₂ : List ℕ} {n m : ℕ} {p q : Bool} → Number x t₁ n → Percent t₁ t p → most p < n → Number x r m → Percent r r₁ q
-    → Spaces r₁ (93 ∷ r₂) → m ≤ most q → ⊥
-threshold-never {q = q} y without h z f g l = let k = number-most z (percent-plain f g) y in let o = most-least q in omega arith
-threshold-never {r₁ = r₁} {q = q} y (sign {s = s}) h z f g l =
+amount-never : {x t₁ t r r₁ : List ℕ} {n : ℕ} {p : Bool} {a : Amount} → Number x t₁ n → Percent t₁ t p → most p < n → AmountText x r a
+    → Spaces r (93 ∷ r₁) → AmountOk a → ⊥
+amount-never y without h (written {p = q} z f) g l = let k = number-most z (percent-plain f g) y in let o = most-least q in omega arith
+amount-never {r = r} y (sign {s = s}) h (written {p = q} z f) g l =
     let e = number-same z (percent-plain f g) y refl in
     let k = e .1 in
-    let o = ap most (signed (subst (λ (w : List ℕ). Percent w r₁ q) (e .0) f) g) in
+    let o = ap most (signed (subst (λ (w : List ℕ). Percent w r q) (e .0) f) g) in
     omega arith
 
 pub count-never : {q x t₁ t : List ℕ} {n : ℕ} {p : Bool} → Spaces q x → Number x t₁ n → Percent t₁ t p → most p < n → Fine (44 ∷ q) → ⊥
 count-never c y f h (in-mark e z d l) = let i : _≡_ {A = ℕ} 44 109 = cc in omega arith
-count-never {q} {x} c y f h (in-count {q = q₁} {x = x₁} {r = r} {n = n} e a z b g l) =
+count-never {q} {x} c y f h (in-count {q = q₁} {x = x₁} {r = r} {a = b} e a z g l) =
     let i : q₁ ≡ q = cc in
-    let j : x₁ ≡ x = sym (spaces-number a z) ∙ ap skip i ∙ spaces-number c y in
-    threshold-never y f h (subst (λ (w : List ℕ). Number w r n) j z) b g l
+    let j : x₁ ≡ x = sym (spaces-amount a z) ∙ ap skip i ∙ spaces-number c y in
+    amount-never y f h (subst (λ (w : List ℕ). AmountText w r b) j z) g l

@@ -5,7 +5,7 @@ use mathlib.Core.Bool.{Bool, true, false, _&&_}
 use mathlib.Core.List.{List, [], _∷_}
 use lib.ListN.{length}
 use lib.Dec.{leb, ltb, eqb}
-use Rattle.grammar.specs.Grammar.{bytes, Form, top, leaf, and, or, Prefix, not, next, finally, globally, prefixed, Reach, U, R, reached, Inner, Counted, counted, Clause}
+use Rattle.grammar.specs.Grammar.{bytes, Form, top, leaf, and, or, Prefix, not, next, finally, globally, prefixed, Reach, U, R, reached, Inner, Amount, amount, Counted, counted, Clause}
 use Rattle.grammar.specs.Limits.{most}
 
 abbrev pub pick : {A : Type 0} → Bool → A → A → A
@@ -169,9 +169,13 @@ marks n (b ∷ r) = markBy (eqb b (code "m")) n b r
 unfoldable pub inners : ℕ → Reader Inner
 inners l = ors (λ i. marks) l
 
--- a number at its first byte, and the `]`
+-- an amount, at its number's first byte
+unfoldable pub amounts : Reader Amount
+amounts n s = bind (number n s) (λ k m r. bind (percent m r) (λ p m₁ r₁. pick (leb k (most p)) (got (amount k p) m₁ r₁) (no 15 s)))
+
+-- an amount and the `]`
 unfoldable pub countEnd : Inner → Reader Counted
-countEnd a n s = bind (number n s) (λ k m r. bind (percent m r) (λ p m₁ r₁. pick (leb k (most p)) (expect (code "]") (counted a k p) m₁ r₁) (no 15 s)))
+countEnd a n s = bind (amounts n s) (λ x m r. expect (code "]") (counted a x) m r)
 
 -- a count, at its first byte
 unfoldable pub countBy : ℕ → Bool → ℕ → ℕ → List ℕ → Got Counted

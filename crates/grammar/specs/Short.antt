@@ -7,9 +7,9 @@ use mathlib.Core.List.{List, [], _∷_}
 use native.Mathlib.Omega.{arith}
 use lib.ListN.{length}
 use lib.Dec.{leb, eqb}
-use Rattle.grammar.specs.Grammar.{Form, Inner, Counted, counted}
+use Rattle.grammar.specs.Grammar.{Form, Inner, Amount, amount, counted}
 use Rattle.grammar.specs.Limits.{most}
-use Rattle.grammar.specs.Reader.{Got, got, no, Reader, bind, node, skip, expectAt, expect, literal, isDigit, digits, number, percent, Kind, kind, Onward, stop, onward, Deeper, shut, open', chainAt, chainMore, chain, andChain, orChain, byKind, smallAt, smallOf, byOnward, untilAt, untilOf, deeper, smalls, untils, ors, markBy, marks, inners, countEnd, countBy, counts, clauses, clauseLine, lines}
+use Rattle.grammar.specs.Reader.{Got, got, no, Reader, bind, node, skip, expectAt, expect, literal, isDigit, digits, number, percent, Kind, kind, Onward, stop, onward, Deeper, shut, open', chainAt, chainMore, chain, andChain, orChain, byKind, smallAt, smallOf, byOnward, untilAt, untilOf, deeper, smalls, untils, ors, markBy, marks, inners, amounts, countEnd, countBy, counts, clauses, clauseLine, lines}
 use Rattle.grammar.specs.Answers.{InSheet}
 use Rattle.grammar.specs.Each.{Each, gives, denies, each-bind, each-map, each-node, either, skip-spaces}
 use Rattle.grammar.specs.Sound.{spaces-short}
@@ -208,19 +208,24 @@ pub inners-short : (l : ℕ) → Shrinks (inners l)
 unfolding inners
 inners-short l = ors-short (λ i. marks) (λ i. marks-short) l
 
-pub threshold-short : (a : Inner) → Shrinks₁ (countEnd a)
-unfolding countEnd
-threshold-short a N n s h =
+pub amounts-short : (N n : ℕ) (s : List ℕ) → length s ≤ N → Inside N (amounts n s)
+unfolding amounts
+amounts-short N n s h =
     each-bind (number n s) _
     (each-map (number-short N n s h)
     (λ k m r i.
     each-bind (percent m r) _
     (each-map (percent-short N m r i)
     (λ p m₁ r₁ j.
-    either (λ (g : Got Counted). Within N g) (leb k (most p)) (expect 93 (counted a k p) m₁ r₁) (no 15 s)
-    (λ e. expect-short 93 (counted a k p) N m₁ r₁ (let z = skip-short r₁ in omega arith)) (λ e. denies {r = s} (h, c15)))
+    either (λ (g : Got Amount). Inside N g) (leb k (most p)) (got (amount k p) m₁ r₁) (no 15 s) (λ e. gives j) (λ e. denies {r = s} (h, c15)))
     (λ w r₁ j. j)))
     (λ w r i. i))
+
+pub threshold-short : (a : Inner) → Shrinks₁ (countEnd a)
+unfolding countEnd
+threshold-short a N n s h =
+    each-bind (amounts n s) _
+    (each-map (amounts-short N n s h) (λ x m r i. expect-short 93 (counted a x) N m r (let z = skip-short r in omega arith)) (λ w r i. i))
 
 count-by-short : (l : ℕ) (q : Bool) (N n b : ℕ) (r : List ℕ) → suc (length r) ≤ N → Within N (countBy l q n b r)
 unfolding countBy

@@ -153,17 +153,17 @@ inner-stands a p q = flat-stands markNodes flatMark StandsMark (λ k. omega arit
 
 count-length : (x : Counted) (b : ℕ) → length (flatCount x b) ≡ countNodes x
 unfolding flatCount flatInner
-count-length (counted a n c) b =
+count-length (counted a y) b =
     one-length markNodes flatMark StandsMark (λ k. omega arith) mark-length mark-stands a b _
     (flat-length markNodes flatMark StandsMark (λ k. omega arith) mark-length mark-stands a b)
 
 count-some : (x : Counted) → 1 ≤ countNodes x
-count-some (counted a n c) = omega arith
+count-some (counted a y) = omega arith
 
 count-stands : (x : Counted) (p q : List Node) → StandsCount ((p ++ flatCount x (length p)) ++ q) ((length p + countNodes x) - 1) x
 unfolding flatCount flatInner
-count-stands (counted a n c) p q =
-    one-stands markNodes flatMark StandsMark (λ k. omega arith) mark-length mark-stands (λ j. countN j n c) a p q
+count-stands (counted a y) p q =
+    one-stands markNodes flatMark StandsMark (λ k. omega arith) mark-length mark-stands (λ j. countN j y) a p q
     (flat-stands markNodes flatMark StandsMark (λ k. omega arith) mark-length mark-stands a)
 
 -- the last of a clause's nodes stands for the clause, and there are as many as the limit counts

@@ -9,9 +9,9 @@ use native.Mathlib.Omega.{arith}
 use lib.ListN.{length}
 use lib.Dec.{leb, eqb}
 use borrow.Author.Tests.{leb-true, eqb-true, eqb-false, ne-eqb}
-use Rattle.grammar.specs.Grammar.{bytes, Form, Spaces, none, space, Number, nought, other, Prefix, not, next, finally, globally, prefixByte, Reach, U, R, reachByte, Inner, counted}
+use Rattle.grammar.specs.Grammar.{bytes, Form, Spaces, none, space, Number, nought, other, Prefix, not, next, finally, globally, prefixByte, Reach, U, R, reachByte, Inner, Amount, amount, counted}
 use Rattle.grammar.specs.Limits.{most}
-use Rattle.grammar.specs.Reader.{Got, got, no, Reader, bind, node, skip, expect, literal, isDigit, digits, number, percent, Kind, kind, Onward, stop, onward, Deeper, shut, open', chainAt, chainMore, chain, andChain, orChain, byKind, smallAt, smallOf, byOnward, untilAt, untilOf, deeper, smalls, untils, ors, markBy, marks, inners, countEnd, countBy, counts, clauses, clauseLine, lines}
+use Rattle.grammar.specs.Reader.{Got, got, no, Reader, bind, node, skip, expect, literal, isDigit, digits, number, percent, Kind, kind, Onward, stop, onward, Deeper, shut, open', chainAt, chainMore, chain, andChain, orChain, byKind, smallAt, smallOf, byOnward, untilAt, untilOf, deeper, smalls, untils, ors, markBy, marks, inners, amounts, countEnd, countBy, counts, clauses, clauseLine, lines}
 use Rattle.grammar.specs.Begun.{isNode, Open, bracket, operand, side, opensLevel, operandEnds, sideEnds, bracketEnds, Begun, onBy, TooMany}
 use Rattle.grammar.specs.Answers.{Token}
 use Rattle.grammar.specs.Each.{Each, gives, denies, each-bind, each-map, each-node, either, never, both-left, both-right, is-digit, skip-spaces, each-expect}
@@ -179,6 +179,21 @@ module _ (x : Begun) (few : x .lines ≡ 32 → ⊥) where
       either (Each (λ p m r. (n ≡ m) × Track x (b ∷ s) r x) (λ w r. ⊥)) (eqb b 37) _ _
       (λ e. let q : Quiet 37 = record { node = refl; level = refl; same = λ x. refl } in
       gives (refl, quiet-on (subst Quiet (sym (eqb-true b 37 e)) q) few here)) (λ e. gives (refl, here))
+
+  amounts-track : (n : ℕ) (s : List ℕ) → Each (λ a m r. (n ≡ m) × Track x s r x) (λ w r. (w ≡ 14 → ⊥) × Track x s r x) (amounts n s)
+  unfolding amounts
+  amounts-track n s =
+      let P : Got Amount → Type 0 = Each (λ a m r. (n ≡ m) × Track x s r x) (λ w r. (w ≡ 14 → ⊥) × Track x s r x) in
+      each-bind (number n s) _
+      (each-map (number-track n s)
+      (λ k m r v.
+      each-bind (percent m r) _
+      (each-map (percent-track m r)
+      (λ p m₁ r₁ u.
+      either P (leb k (most p)) (got (amount k p) m₁ r₁) (no 15 s) (λ h. gives (v .0 ∙ u .0, track-trans (v .1) (u .1)))
+      (λ h. denies ((λ e. omega arith), here)))
+      (λ w r₁ u. absurd u)))
+      (λ w r v. ((λ e. omega (arith, v .0)), subst (λ (q : List ℕ). Track x s q x) (sym (v .1)) here)))
 
 ---- In a line, i lines before it: what is known of what is begun, where n nodes are still allowed and P holds of the open levels.
 pub record Room (i n : ℕ) (P : List Open → Type 0) (x : Begun) : Type 0 where
@@ -495,27 +510,20 @@ module _ (i : ℕ) (few : i < 32) where
   unfolding inners
   inners-tracked l = all-tracked (λ j. marks) marks-tracked l
 
-  -- a count from its number on
+  -- a count from its amount on
   count-end-tracked : (a : Inner) (n : ℕ) (s : List ℕ) (x : Begun) (o₀ : List Open) → Room i n (λ o. o ≡ bracket ∷ o₀) x
       → Tracked x s (λ o. o ≡ operandEnds o₀) (countEnd a n s)
   unfolding countEnd
   count-end-tracked a n s x o₀ e =
       let P : List Open → Type 0 = λ o. o ≡ bracket ∷ o₀ in
-      let Q : List Open → Type 0 = λ o. o ≡ operandEnds o₀ in
-      each-bind (number n s) _
-      (each-map (number-track x (below e) n s)
-      (λ k m r v.
-      each-bind (percent m r) _
-      (each-map (percent-track x (below e) m r)
-      (λ p m₁ r₁ u.
-      either (Tracked x s Q) (leb k (most p)) (expect 93 (counted a k p) m₁ r₁) (no 15 s)
-      (λ h. lead (track-trans (v .1) (u .1))
-      (expects {P = P} 93 (counted a k p) m₁ r₁ refl refl
+      each-bind (amounts n s) _
+      (each-map (amounts-track x (below e) n s)
+      (λ y m r v.
+      lead (v .1)
+      (expects {P = P} 93 (counted a y) m r refl refl
       (λ z e₁. record { lines = e₁ .lines; left = e₁ .left; levels = ap (λ (o : List Open). operandEnds (bracketEnds (sideEnds o))) (e₁ .levels) })
-      (subst (λ (z : ℕ). Room i z P x) (v .0 ∙ u .0) e)))
-      (λ h. denies (halts 15 (λ z. omega arith) (e .lines) here)))
-      (λ w r₁ u. absurd u)))
-      (λ w r v. halts w (λ z. omega (arith, v .0)) (e .lines) (subst (λ (q : List ℕ). Track x s q x) (sym (v .1)) here)))
+      (subst (λ (z : ℕ). Room i z P x) (v .0) e)))
+      (λ w r v. halts w (v .0) (e .lines) (v .1)))
 
   bracket-tracked : (l n : ℕ) (r : List ℕ) (x : Begun) → Room i n (Low l) x → Tracked x (91 ∷ r) (λ o. o ≡ operandEnds (x .levels)) (countBy l true n 91 r)
   unfolding countBy

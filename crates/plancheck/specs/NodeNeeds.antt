@@ -42,8 +42,8 @@ module _ (block : List ℕ) (ns : List Node) (at : (k : ℕ) → k < length ns �
     stands-need (release a c) i p s = two-need release₂ a c (λ j l t. stands-need a j l t) (λ j l t. stands-need c j l t) i p s
 
   count-need : (i : ℕ) → i < n → (x : Counted) → StandsCount ns i x → getD needs i 0 ≡ countNeed x
-  count-need i p (counted a m percent) (j, l, e, s) =
-      need-at i p (countN j m percent) e ∙ stands-need markNeed StandsMark (λ i p x e. need-at i p (markN x) e) a j (omega arith) s
+  count-need i p (counted a x) (j, l, e, s) =
+      need-at i p (countN j x) e ∙ stands-need markNeed StandsMark (λ i p x e. need-at i p (markN x) e) a j (omega arith) s
 
   pub clause-need : (c : Clause) (i : ℕ) → i < n → Stands StandsCount ns i c → getD needs i 0 ≡ need countNeed c
   clause-need c i p s = stands-need countNeed StandsCount count-need c i p s

@@ -9,7 +9,7 @@ use lib.ListN.{length, drop, getD, length-append}
 use lib.Seq.{getD-append-add}
 use Rattle.record.specs.Buffer.{stored}
 use Rattle.record.specs.Stored.{length-stored, stored-front}
-use Rattle.grammar.specs.Grammar.{Form, top, leaf, neg, and, or, next, until, release, ev, gl, Inner, Counted, counted, Clause}
+use Rattle.grammar.specs.Grammar.{Form, top, leaf, neg, and, or, next, until, release, ev, gl, Inner, Amount, amount, Counted, counted, Clause}
 use Rattle.grammar.specs.Limits.{nodes, markNodes, countNodes, InRange, MarkOk, CountOk}
 use Rattle.grammar.specs.Nodes.{Node, topN, markN, countN, oneN, twoN, Op₁, neg₁, next₁, ev₁, gl₁, Op₂, and₂, or₂, until₂, release₂, flat, flatMark, flatInner, flatCount, flatClause, node, Stands, StandsMark, StandsCount}
 use Rattle.grammar.specs.Standing.{node-some, flat-length, clause-stands, clause-length}
@@ -24,8 +24,8 @@ use Rattle.drift.specs.Tree.{nodeAt, OperandsBelow, Ordered, one, two, formOf, 
 pub node-back : (x : Node) (rest : List ℕ) → nodeAt (nodeBytes x ++ rest) 0 ≡ x
 node-back topN rest = refl
 node-back (markN m) rest = refl
-node-back (countN i m false) rest = ap (λ (n : ℕ). countN i n false) (mod-add-div m 256)
-node-back (countN i m true) rest = ap (λ (n : ℕ). countN i n true) (mod-add-div m 256)
+node-back (countN i (amount m false)) rest = ap (λ (n : ℕ). countN i (amount n false)) (mod-add-div m 256)
+node-back (countN i (amount m true)) rest = ap (λ (n : ℕ). countN i (amount n true)) (mod-add-div m 256)
 node-back (oneN neg₁ i) rest = refl
 node-back (oneN next₁ i) rest = refl
 node-back (oneN ev₁ i) rest = refl
@@ -143,15 +143,15 @@ unfolding flatMark
 mark-all k b ok = (omega arith, tt)
 
 count-some : (x : Counted) → 1 ≤ countNodes x
-count-some (counted a n p) = omega arith
+count-some (counted a x) = omega arith
 
 count-length : (x : Counted) (b : ℕ) → length (flatCount x b) ≡ countNodes x
 unfolding flatCount flatInner
-count-length (counted a n p) b = let h = fl-length markNodes flatMark MarkOk mark-some mark-length mark-all a b in simp length-append (omega arith)
+count-length (counted a x) b = let h = fl-length markNodes flatMark MarkOk mark-some mark-length mark-all a b in simp length-append (omega arith)
 
 count-all : (x : Counted) (b : ℕ) → CountOk x → AllFrom b (flatCount x b)
 unfolding flatCount flatInner
-count-all (counted a n p) b ok =
+count-all (counted a x) b ok =
     all-snoc b (flat markNodes flatMark a b) _ (flat-all markNodes flatMark MarkOk mark-some mark-length mark-all a b (ok .0))
     (last-below markNodes flatMark MarkOk mark-some mark-length mark-all a b)
 
@@ -167,7 +167,7 @@ held-ordered before ns room h = record {
 
 ---- A node's tree is the text that it stands for.
 module _ (block : List ℕ) (ns : List Node) (room : length ns ≤ length block) (at : (k : ℕ) → k < length ns → nodeAt block k ≡ node ns k) where
-  module _ {L : Type 0} (mark : ℕ → Form L) (count : ℕ → ℕ → Bool → Form L) where
+  module _ {L : Type 0} (mark : ℕ → Form L) (count : ℕ → Amount → Form L) where
     -- however deep the look, past the node's number
     tree-at : (i n : ℕ) → i < n → (x : Node) → nodeAt block i ≡ x → (a : Form L)
         → ((m : ℕ) → i ≤ m → formOf mark count (λ j. tree mark count block m j) x ≡ a) → tree mark count block n i ≡ a
@@ -206,15 +206,15 @@ module _ (block : List ℕ) (ns : List Node) (room : length ns ≤ length block)
 
   inner-tree : (a : Inner) (i : ℕ) → i < length ns → Stands StandsMark ns i a → (n : ℕ) → i < n → innerTree block n i ≡ a
   unfolding innerTree
-  inner-tree a i p s n q = stands-tree (λ m. leaf m) (λ i m percent. top) StandsMark (λ i p x e f. rw e) a i p s n q
+  inner-tree a i p s n q = stands-tree (λ m. leaf m) (λ i x. top) StandsMark (λ i p x e f. rw e) a i p s n q
 
   -- counts, whose inner text is looked up as deep as the block is long
-  abbrev counts : ℕ → ℕ → Bool → Form Counted
-  counts i m percent = leaf (counted (innerTree block (length block) i) m percent)
+  abbrev counts : ℕ → Amount → Form Counted
+  counts i x = leaf (counted (innerTree block (length block) i) x)
 
   count-tree : (i : ℕ) → i < length ns → (x : Counted) → StandsCount ns i x → (f : ℕ → Form Counted) → formOf (λ m. top) counts f (node ns i) ≡ leaf x
-  count-tree i p (counted a n percent) (j, l, e, s) f =
-      rw e (ap (λ (b : Inner). leaf (counted b n percent)) (inner-tree a j (omega arith) s (length block) (omega arith)))
+  count-tree i p (counted a x) (j, l, e, s) f =
+      rw e (ap (λ (b : Inner). leaf (counted b x)) (inner-tree a j (omega arith) s (length block) (omega arith)))
 
   pub clause-tree : (c : Clause) (i : ℕ) → i < length ns → Stands StandsCount ns i c → (n : ℕ) → i < n → clauseTree block n i ≡ c
   unfolding clauseTree

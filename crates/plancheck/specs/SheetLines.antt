@@ -7,7 +7,7 @@ use mathlib.Core.List.{List, [], _∷_, _++_}
 use borrow.Author.Tests.{ne-eqb}
 use lib.ListN.{length, take, drop, getD}
 use lib.Seq.{take-append-seam}
-use Rattle.grammar.specs.Grammar.{Form, top, Spaces, none, space, Digits, end, digit, Number, nought, other, Percent, without, sign, Prefix, not, next, finally, globally, prefixByte, Reach, U, R, reachByte, Rank, ors, Part, word, parens, prefix, one-small, reach, one-until, one-and, Mark, mark, Counted, Count, count, Clause, Sheet, done, line}
+use Rattle.grammar.specs.Grammar.{Form, top, Spaces, none, space, Digits, end, digit, Number, nought, other, Percent, without, sign, Amount, AmountText, written, Prefix, not, next, finally, globally, prefixByte, Reach, U, R, reachByte, Rank, ors, Part, word, parens, prefix, one-small, reach, one-until, one-and, Mark, mark, Counted, Count, count, Clause, Sheet, done, line}
 use Rattle.grammar.specs.Ends.{swap-trans, swap-parts, frame-spaces, frame, frame-count}
 use Rattle.clause.specs.Clause.{isEnd, lineStart, lineLength}
 use Rattle.clause.specs.Meaning.{lineEnds}
@@ -36,6 +36,9 @@ number-ends (other {b = b} {s = s} l h x) = byte-ends b s (omega arith) ∙ digi
 percent-ends : {p : Bool} {s r : List ℕ} → Percent s r p → lineEnds s ≡ lineEnds r
 percent-ends without = refl
 percent-ends (sign {s = s}) = byte-ends 37 s (omega arith)
+
+amount-ends : {x : Amount} {s r : List ℕ} → AmountText s r x → lineEnds s ≡ lineEnds r
+amount-ends (written n p) = number-ends n ∙ percent-ends p
 
 true-ends : (r : List ℕ) → lineEnds (116 ∷ 114 ∷ 117 ∷ 101 ∷ r) ≡ lineEnds r
 unfolding lineEnds
@@ -68,8 +71,8 @@ mark-ends : (s r : List ℕ) (k : ℕ) → Mark s r k → lineEnds s ≡ lineEnd
 mark-ends s r k (mark x n) = token-ends (omega arith) x ∙ number-ends n
 
 count-ends : (s r : List ℕ) (x : Counted) → Count s r x → lineEnds s ≡ lineEnds r
-count-ends s r x (count o p c d e f g) =
-    token-ends (omega arith) o ∙ part-ends Mark mark-ends p ∙ token-ends (omega arith) c ∙ spaces-ends d ∙ number-ends e ∙ percent-ends f
+count-ends s r x (count o p c d e g) =
+    token-ends (omega arith) o ∙ part-ends Mark mark-ends p ∙ token-ends (omega arith) c ∙ spaces-ends d ∙ amount-ends e
     ∙ token-ends (omega arith) g
 
 ---- A line is its bytes, without byte 10, and byte 10.

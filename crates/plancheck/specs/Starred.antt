@@ -19,7 +19,7 @@ use Rattle.row.specs.Moves.{someLaneOpens, isOpen, lowestShut, judgedMoves}
 use Rattle.moves.specs.Carts.{judgedCarts}
 use Rattle.conflict.specs.Search.{clear, earliestVerdict, narrowVerdict}
 use Rattle.conflict.specs.OfPlan.{named}
-use Rattle.grammar.specs.Reader.{bind, node, skip, expectAt, expect, literal, digits, number, percent, chainAt, chainMore, chain, andChain, orChain, byKind, smallAt, smallOf, byOnward, untilAt, untilOf, deeper, smalls, untils, ors, markBy, marks, inners, countEnd, countBy, counts, clauses, clauseLine, lines, outcome, start, readSheet}
+use Rattle.grammar.specs.Reader.{bind, node, skip, expectAt, expect, literal, digits, number, percent, chainAt, chainMore, chain, andChain, orChain, byKind, smallAt, smallOf, byOnward, untilAt, untilOf, deeper, smalls, untils, ors, markBy, marks, inners, amounts, countEnd, countBy, counts, clauses, clauseLine, lines, outcome, start, readSheet}
 use Rattle.sheet.specs.Rules.{rulesVerdict}
 use Rattle.cltl.specs.Threshold.{threshold, quota}
 use Rattle.cltl.specs.Rules.{tally, every, fix, window, quorum, judge, leaves, mark, inner, count, slack, someText, joint, joined, rules}
@@ -65,7 +65,7 @@ unfolding
     flatten value split recordsIn partsIn parts judged walk readFloor bodiesOf judgedHead judgedPlaces judgedRow readRows readPlan afterReading
     nextStep stepOf someLaneOpens isOpen lowestShut judgedMoves judgedCarts named clear earliestVerdict narrowVerdict
     bind node skip expectAt expect literal digits number percent chainAt chainMore chain andChain orChain byKind
-    smallAt smallOf byOnward untilAt untilOf deeper smalls untils ors markBy marks inners countEnd countBy counts clauses
+    smallAt smallOf byOnward untilAt untilOf deeper smalls untils ors markBy marks inners amounts countEnd countBy counts clauses
     clauseLine lines outcome start readSheet rulesVerdict
     quota threshold tally every fix window quorum judge leaves mark inner count slack someText joint joined rules lowest failing nextVerdict keptVerdict checked
 computing floor plan sheet = checked floor plan sheet

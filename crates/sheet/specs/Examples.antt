@@ -7,7 +7,7 @@ use mathlib.Core.List.{List, [], _∷_, _++_}
 use Rattle.refusal.specs.Codes.{refused}
 use Rattle.refusal.specs.declared.Verdict.{Verdict}
 use Rattle.refusal.specs.declared.Verdict.the-variants.{Accepted, Rules as AboutRules}
-use Rattle.grammar.specs.Reader.{bind, node, skip, expectAt, expect, literal, digits, number, percent, chainAt, chainMore, chain, andChain, orChain, byKind, smallAt, smallOf, byOnward, untilAt, untilOf, deeper, smalls, untils, ors, markBy, marks, inners, countEnd, countBy, counts, clauses, clauseLine, lines, outcome, start, readSheet}
+use Rattle.grammar.specs.Reader.{bind, node, skip, expectAt, expect, literal, digits, number, percent, chainAt, chainMore, chain, andChain, orChain, byKind, smallAt, smallOf, byOnward, untilAt, untilOf, deeper, smalls, untils, ors, markBy, marks, inners, amounts, countEnd, countBy, counts, clauses, clauseLine, lines, outcome, start, readSheet}
 use Rattle.sheet.specs.Rules.{rulesVerdict}
 
 -- a text's bytes
@@ -30,7 +30,7 @@ rules number first second = AboutRules (refused number first second)
 reading : List ℕ → Verdict
 unfolding
     bind node skip expectAt expect literal digits number percent chainAt chainMore chain andChain orChain byKind smallAt smallOf byOnward untilAt untilOf deeper smalls untils ors markBy marks inners
-    countEnd countBy counts clauses clauseLine lines outcome start readSheet rulesVerdict
+    amounts countEnd countBy counts clauses clauseLine lines outcome start readSheet rulesVerdict
 reading s = rulesVerdict s
 
 pub worked :

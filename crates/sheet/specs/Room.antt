@@ -21,7 +21,7 @@ flat-size false = clause-flat
 
 leaf-some : (inner : Bool) (x : LeafOf inner) → 1 ≤ leafNodes inner x
 leaf-some true x = omega arith
-leaf-some false (counted a n p) = omega arith
+leaf-some false (counted a x) = omega arith
 
 some-node : (inner : Bool) (a : Form (LeafOf inner)) → 1 ≤ nodes (leafNodes inner) a
 some-node inner top = omega arith

@@ -1,4 +1,4 @@
--- A count's number, digit by digit and with its `%`.
+-- An amount: a number, digit by digit, and its `%`.
 use Prim.Native.Nat.{ℕ, suc, _+_, _≤_, _<_, min}
 use native.Mathlib.Omega.{arith}
 use native.Mathlib.Numerals.{add-one}
@@ -8,12 +8,13 @@ use mathlib.Core.List.{List, [], _∷_}
 use lib.Dec.{leb}
 use lib.ListN.{length, drop}
 use borrow.Author.Tests.{eq-eqb, ne-eqb, le-leb, lt-leb}
+use Rattle.grammar.specs.Grammar.{Amount, amount}
 use Rattle.grammar.specs.Limits.{most}
-use Rattle.grammar.specs.Reader.{Got, got, no, pick, bind, number, percent}
-use Rattle.token.specs.Leaves.{ByteAt, limitGot, LimitIs}
+use Rattle.grammar.specs.Reader.{Got, got, no, pick, bind, number, percent, amounts}
+use Rattle.token.specs.Leaves.{ByteAt, AmountIs}
 use Rattle.token.specs.Tokens.{NumIs}
 use Rattle.token.specs.declared.Num.{Num}
-use Rattle.token.specs.declared.CountLimit.{CountLimit}
+use Rattle.token.specs.declared.AmountRead.{AmountRead}
 use Rattle.token.specs.Digits.{Only13, number-13}
 
 -- the `%`, if it is there
@@ -35,55 +36,55 @@ few true = omega arith
 few false = omega arith
 
 module _ (s : List ℕ) (i : ℕ) (k : Num) (w : NumIs s k (number 0 (drop i s))) where
-  abbrev then : Got ℕ → Got (ℕ × Bool)
-  then g = bind g (λ v m r. bind (percent m r) (λ p m₁ r₁. pick (leb v (most p)) (got (v, p) m₁ r₁) (no 15 (drop i s))))
+  abbrev then : Got ℕ → Got Amount
+  then g = bind g (λ v m r. bind (percent m r) (λ p m₁ r₁. pick (leb v (most p)) (got (amount v p) m₁ r₁) (no 15 (drop i s))))
 
-  pub limit-bad : k .ok ≡ false → (r : CountLimit) → r ≡ record { fault = 13; at = k .at; value = 0; percent = false } → LimitIs s r (limitGot s i)
-  unfolding bind
-  limit-bad e r q = go (number 0 (drop i s)) w (number-13 0 (drop i s))
+  pub amount-bad : k .ok ≡ false → (r : AmountRead) → r ≡ record { fault = 13; at = k .at; value = 0; percent = false } → AmountIs s r (amounts 0 (drop i s))
+  unfolding bind amounts
+  amount-bad e r q = go (number 0 (drop i s)) w (number-13 0 (drop i s))
     where
-      go : (g : Got ℕ) → NumIs s k g → Only13 g → LimitIs s r (then g)
-      go (no v t) h o = (ap (λ (x : CountLimit). x .fault) q ∙ sym o, ap (λ (x : CountLimit). drop (x .at) s) q ∙ h .1, λ z. omega arith)
+      go : (g : Got ℕ) → NumIs s k g → Only13 g → AmountIs s r (then g)
+      go (no v t) h o = (ap (λ (x : AmountRead). x .fault) q ∙ sym o, ap (λ (x : AmountRead). drop (x .at) s) q ∙ h .1, λ z. omega arith)
       go (got v m t) h o = let z : true ≡ false = sym (h .0) ∙ e in let y : _≡_ {A = ℕ} 0 1 = cc in absurd (omega arith)
 
   module _ (e : k .ok ≡ true) (b : Bool) (p : ByteAt s (k .at) 37 b) where
-    by : (P : Got (ℕ × Bool) → Type 0)
-        → ((v m : ℕ) → k .value ≡ min v 1000 → P (pick (leb v (most b)) (got (v, b) m (drop (cond b (k .at + 1) (k .at)) s)) (no 15 (drop i s))))
-        → P (limitGot s i)
-    unfolding bind
+    by : (P : Got Amount → Type 0)
+        → ((v m : ℕ) → k .value ≡ min v 1000 → P (pick (leb v (most b)) (got (amount v b) m (drop (cond b (k .at + 1) (k .at)) s)) (no 15 (drop i s))))
+        → P (amounts 0 (drop i s))
+    unfolding bind amounts
     by P f = go (number 0 (drop i s)) w
       where
         go : (g : Got ℕ) → NumIs s k g → P (then g)
         go (no v t) h = let z : false ≡ true = sym (h .0) ∙ e in let y : _≡_ {A = ℕ} 0 1 = cc in absurd (omega arith)
         go (got v m t) h =
             let q : percent m t ≡ got b m (drop (cond b (k .at + 1) (k .at)) s) = ap (percent m) (sym (h .1)) ∙ percented s (k .at) m b p in
-            subst (λ (g : Got Bool). P (bind g (λ p m₁ r₁. pick (leb v (most p)) (got (v, p) m₁ r₁) (no 15 (drop i s))))) (sym q) (f v m (h .2))
+            subst (λ (g : Got Bool). P (bind g (λ p m₁ r₁. pick (leb v (most p)) (got (amount v p) m₁ r₁) (no 15 (drop i s))))) (sym q) (f v m (h .2))
 
-    pub limit-wide : most b < k .value → (r : CountLimit) → r ≡ record { fault = 15; at = i; value = 0; percent = false } → LimitIs s r (limitGot s i)
-    limit-wide far r q =
-        by (LimitIs s r)
+    pub amount-wide : most b < k .value → (r : AmountRead) → r ≡ record { fault = 15; at = i; value = 0; percent = false } → AmountIs s r (amounts 0 (drop i s))
+    amount-wide far r q =
+        by (AmountIs s r)
         (λ v m z.
-        subst (λ (x : Bool). LimitIs s r (pick x (got (v, b) m (drop (cond b (k .at + 1) (k .at)) s)) (no 15 (drop i s))))
+        subst (λ (x : Bool). AmountIs s r (pick x (got (amount v b) m (drop (cond b (k .at + 1) (k .at)) s)) (no 15 (drop i s))))
         (sym (lt-leb v (most b) (omega arith)))
-        (ap (λ (x : CountLimit). x .fault) q, ap (λ (x : CountLimit). drop (x .at) s) q, λ y. omega arith))
+        (ap (λ (x : AmountRead). x .fault) q, ap (λ (x : AmountRead). drop (x .at) s) q, λ y. omega arith))
 
-    pub limit-read : k .value ≤ most b → (at : ℕ) → at ≡ cond b (k .at + 1) (k .at)
-        → LimitIs s (record { fault = 0; at = at; value = k .value; percent = b }) (limitGot s i)
-    limit-read near at q =
-        by (LimitIs s (record { fault = 0; at = at; value = k .value; percent = b }))
+    pub amount-read : k .value ≤ most b → (at : ℕ) → at ≡ cond b (k .at + 1) (k .at)
+        → AmountIs s (record { fault = 0; at = at; value = k .value; percent = b }) (amounts 0 (drop i s))
+    amount-read near at q =
+        by (AmountIs s (record { fault = 0; at = at; value = k .value; percent = b }))
         (λ v m z.
         let f = few b in
         let same : k .value ≡ v = omega arith in
         subst
-        (λ (x : Bool). LimitIs s (record { fault = 0; at = at; value = k .value; percent = b })
-        (pick x (got (v, b) m (drop (cond b (k .at + 1) (k .at)) s)) (no 15 (drop i s))))
-        (sym (le-leb v (most b) (omega arith))) (refl, ap (λ (j : ℕ). drop j s) q, same, refl, omega arith))
+        (λ (x : Bool). AmountIs s (record { fault = 0; at = at; value = k .value; percent = b })
+        (pick x (got (amount v b) m (drop (cond b (k .at + 1) (k .at)) s)) (no 15 (drop i s))))
+        (sym (le-leb v (most b) (omega arith))) (refl, ap (λ (j : ℕ). drop j s) q, ap (λ (x : ℕ). amount x b) same, omega arith))
 
 -- behind the number and its `%` is still in the text
 pub in-text : (s : List ℕ) (at : ℕ) (b : Bool) (r : ℕ) → ByteAt s at 37 b → r ≡ cond b (at + 1) at → at ≤ length s → r ≤ length s
 in-text s at true r w e l = let h = w .low refl in omega arith
 in-text s at false r w e l = omega arith
 
-pub limit-low : (s : List ℕ) (k : CountLimit) (g : Got (ℕ × Bool)) → LimitIs s k g → k .fault ≡ 0 → k .value ≤ 999
-limit-low s k (got x m t) h e = h .4
-limit-low s k (no w t) h e = absurd (h .2 (sym (h .0) ∙ e))
+pub amount-low : (s : List ℕ) (k : AmountRead) (g : Got Amount) → AmountIs s k g → k .fault ≡ 0 → k .value ≤ 999
+amount-low s k (got x m t) h e = h .3
+amount-low s k (no w t) h e = absurd (h .2 (sym (h .0) ∙ e))

@@ -2,6 +2,7 @@
 use Prim.Native.Nat.{ℕ, _/_, _%_}
 use mathlib.Core.Bool.{Bool, true, false}
 use mathlib.Core.List.{List, [], _∷_, _++_}
+use Rattle.grammar.specs.Grammar.{amount}
 use Rattle.grammar.specs.Nodes.{Node, topN, markN, countN, oneN, twoN, Op₁, neg₁, next₁, ev₁, gl₁, Op₂, and₂, or₂, until₂, release₂}
 
 -- what a node is, in its first byte
@@ -22,13 +23,13 @@ abbrev pub countByte : Bool → ℕ
 countByte false = 10
 countByte true = 11
 
--- its operands' numbers; a mark's number; a count's inner text and its number
+-- its operands' numbers; a mark's number; a count's inner text and its amount
 abbrev pub nodeBytes : Node → List ℕ
 nodeBytes topN = 0 ∷ 0 ∷ 0 ∷ 0 ∷ []
 nodeBytes (markN k) = 1 ∷ k ∷ 0 ∷ 0 ∷ []
 nodeBytes (oneN o j) = oneByte o ∷ j ∷ 0 ∷ 0 ∷ []
 nodeBytes (twoN o j k) = twoByte o ∷ j ∷ k ∷ 0 ∷ []
-nodeBytes (countN j n p) = countByte p ∷ j ∷ n % 256 ∷ n / 256 ∷ []
+nodeBytes (countN j (amount n p)) = countByte p ∷ j ∷ n % 256 ∷ n / 256 ∷ []
 
 unfoldable pub nodesBytes : List Node → List ℕ
 nodesBytes [] = []

@@ -1,59 +1,42 @@
--- A count: its inner text, its number, and its node behind those of the inner text.
-use Prim.Native.Nat.{ℕ, suc, _+_, _-_, _/_, _%_, _≤_}
+-- A count: its inner text, its amount, and its node behind those of the inner text.
+use Prim.Native.Nat.{ℕ, suc, _+_, _-_, _≤_}
 use native.Mathlib.Omega.{arith}
 use mathlib.Core.Path.{_≡_, refl, sym, ap, subst, _∙_}
 use mathlib.Core.Bool.{Bool, true, false}
 use mathlib.Core.List.{List, [], _∷_, _++_}
-use lib.Dec.{eqb, leb}
+use lib.Dec.{eqb}
 use lib.ListN.{length, drop}
 use borrow.Author.Tests.{eqb-true, eqb-false}
-use Rattle.grammar.specs.Grammar.{Form, Inner, Counted, counted, Clause}
-use Rattle.grammar.specs.Limits.{nodes, markNodes, countNodes, most}
+use Rattle.grammar.specs.Grammar.{Form, Inner, Amount, Counted, counted, Clause}
+use Rattle.grammar.specs.Limits.{nodes, markNodes, countNodes}
 use Rattle.grammar.specs.Nodes.{countN, flat, flatMark, flatInner, flatCount}
 use Rattle.grammar.specs.Standing.{clause-flat, inner-flat}
-use Rattle.grammar.specs.Reader.{Got, got, no, pick, bind, skip, number, percent, expect, expectAt, countEnd}
-use Rattle.token.specs.Block.{countByte, nodeBytes}
-use Rattle.token.specs.Leaves.{PartRefused, Expected, limitGot, LimitIs}
-use Rattle.token.specs.Digits.{relabel, number-any, percent-any}
+use Rattle.grammar.specs.Reader.{Got, got, no, pick, bind, skip, expect, expectAt, amounts, countEnd}
+use Rattle.token.specs.Block.{nodeBytes}
+use Rattle.token.specs.Leaves.{PartRefused, Expected, amountOf, AmountIs}
+use Rattle.token.specs.Digits.{relabel, amounts-any}
 use Rattle.token.specs.Parts.{Held, PartIs}
 use Rattle.token.specs.Counts.{countGot}
 use Rattle.token.specs.More.{WithNode}
 use Rattle.token.specs.Joined.{stay, put-behind, part-length}
 use Rattle.token.specs.Ended.{ended-part}
 use Rattle.token.specs.declared.PartRead.{PartRead}
-use Rattle.token.specs.declared.CountLimit.{CountLimit}
+use Rattle.token.specs.declared.AmountRead.{AmountRead}
 
--- a count's number with the nodes still allowed handed on
-abbrev pub countEndBy : Inner → ℕ → Got (ℕ × Bool) → Got Counted
-countEndBy a n (got x m r) = expect 93 (counted a (x .0) (x .1)) n r
+-- an amount with the nodes still allowed handed on
+abbrev pub countEndBy : Inner → ℕ → Got Amount → Got Counted
+countEndBy a n (got x m r) = expect 93 (counted a x) n r
 countEndBy a n (no w r) = no w r
 
-module _ (a : Inner) (n : ℕ) (s : List ℕ) (i : ℕ) where
-  -- what stands behind a number, and behind its percentage
-  abbrev behind : ℕ → Got Bool → Got Counted
-  behind k g = bind g (λ p m₁ r₁. pick (leb k (most p)) (expect 93 (counted a k p) m₁ r₁) (no 15 (drop i s)))
-
-  abbrev limited : ℕ → Got Bool → Got (ℕ × Bool)
-  limited k g = bind g (λ p m₁ r₁. pick (leb k (most p)) (got (k, p) m₁ r₁) (no 15 (drop i s)))
-
-  within : (k m : ℕ) (p : Bool) (r : List ℕ) → (x : Bool)
-      → pick x (expect 93 (counted a k p) n r) (no 15 (drop i s)) ≡ countEndBy a n (pick x (got (k, p) m r) (no 15 (drop i s)))
-  within k m p r true = refl
-  within k m p r false = refl
-
-  by-percent : (k : ℕ) (g : Got Bool) → behind k (relabel n g) ≡ countEndBy a n (limited k g)
+module _ (a : Inner) (n : ℕ) (u : List ℕ) where
+  by-amount : (g : Got Amount) → bind (relabel n g) (λ x m r. expect 93 (counted a x) m r) ≡ countEndBy a n g
   unfolding bind
-  by-percent k (got p m r) = within k m p r (leb k (most p))
-  by-percent k (no w r) = refl
+  by-amount (got x m r) = refl
+  by-amount (no w r) = refl
 
-  by-number : (g : Got ℕ) → bind (relabel n g) (λ k m r. behind k (percent m r)) ≡ countEndBy a n (bind g (λ k m r. limited k (percent m r)))
-  unfolding bind
-  by-number (got k m r) = ap (behind k) (percent-any n m r) ∙ by-percent k (percent m r)
-  by-number (no w r) = refl
-
-  pub count-end-is : countEnd a n (drop i s) ≡ countEndBy a n (limitGot s i)
+  pub count-end-is : countEnd a n u ≡ countEndBy a n (amounts 0 u)
   unfolding countEnd
-  count-end-is = ap (λ (g : Got ℕ). bind g (λ k m r. behind k (percent m r))) (number-any n (drop i s)) ∙ by-number (number 0 (drop i s))
+  count-end-is = ap (λ (g : Got Amount). bind g (λ x m r. expect 93 (counted a x) m r)) (amounts-any n u) ∙ by-amount (amounts 0 u)
 
 module _ (s : List ℕ) (n left : ℕ) (before : List ℕ) (long : length before ≡ 512) (few : n + suc left ≤ 128) (r : PartRead) (block : List ℕ) (g : Got Inner)
     (h : PartIs markNodes flatMark s n left before r block g) (p : PartRead) (w : Expected s r 44 p) where
@@ -76,10 +59,10 @@ module _ (s : List ℕ) (n left : ℕ) (before : List ℕ) (long : length before
       go (no v t) k = k
       go (got a m t) k = absurd (some (k .fine))
 
-  -- the comma is there, and behind it and spaces the number
-  module _ (fine : p .fault ≡ 0) (i : ℕ) (is : drop i s ≡ skip (drop (p .at) s)) (k : CountLimit) (l : LimitIs s k (limitGot s i)) (in-text : k .at ≤ length s) where
+  -- the comma is there, and behind it and spaces the amount
+  module _ (fine : p .fault ≡ 0) (i : ℕ) (is : drop i s ≡ skip (drop (p .at) s)) (k : AmountRead) (l : AmountIs s k (amounts 0 (drop i s))) (in-text : k .at ≤ length s) where
     by : (P : Got Clause → Type 0) → ((a : Inner) (m : ℕ) (t : List ℕ) → Held markNodes flatMark s n left before p block a m t
-        → P (bind (countEndBy a m (limitGot s i)) (λ x m r₁. got (Form.leaf x) m r₁))) → P (countGot g)
+        → P (bind (countEndBy a m (amounts 0 (drop i s))) (λ x m r₁. got (Form.leaf x) m r₁))) → P (countGot g)
     unfolding bind
     by P f = go (bind g (λ a m₁ r₁. expect 44 a m₁ r₁)) comma
       where
@@ -88,13 +71,13 @@ module _ (s : List ℕ) (n left : ℕ) (before : List ℕ) (long : length before
         go (no v t) q = absurd (q .some fine)
         go (got a m t) q =
             let e : skip t ≡ drop i s = ap skip (sym (q .behind)) ∙ sym is in
-            subst (λ (u : Got Counted). P (bind u (λ x m r₁. got (Form.leaf x) m r₁))) (sym (ap (countEnd a m) e ∙ count-end-is a m s i)) (f a m t q)
+            subst (λ (u : Got Counted). P (bind u (λ x m r₁. got (Form.leaf x) m r₁))) (sym (ap (countEnd a m) e ∙ count-end-is a m (drop i s))) (f a m t q)
 
-    pub number-refused : (k .fault ≡ 0 → ⊥) → (q : PartRead) → q ≡ record { fault = k .fault; at = k .at; left = 0; n = 0 } → C q block (countGot g)
+    pub amount-refused : (k .fault ≡ 0 → ⊥) → (q : PartRead) → q ≡ record { fault = k .fault; at = k .at; left = 0; n = 0 } → C q block (countGot g)
     unfolding bind
-    number-refused some q e = by (C q block) (λ a m t h′. go a m (limitGot s i) l)
+    amount-refused some q e = by (C q block) (λ a m t h′. go a m (amounts 0 (drop i s)) l)
       where
-        go : (a : Inner) (m : ℕ) (x : Got (ℕ × Bool)) → LimitIs s k x → C q block (bind (countEndBy a m x) (λ x m r₁. got (Form.leaf x) m r₁))
+        go : (a : Inner) (m : ℕ) (x : Got Amount) → AmountIs s k x → C q block (bind (countEndBy a m x) (λ x m r₁. got (Form.leaf x) m r₁))
         go a m (got y m₁ t) z = absurd (some (z .0))
         go a m (no v t) z = record {
           number = ap (λ (x : PartRead). x .fault) e ∙ z .0;
@@ -106,13 +89,13 @@ module _ (s : List ℕ) (n left : ℕ) (before : List ℕ) (long : length before
           block = size;
         }
 
-    -- the number, the `]` and the count's node
+    -- the amount, the `]` and the count's node
     module _ (read : k .fault ≡ 0) (q : PartRead) (x : Expected s (record { fault = 0; at = k .at; left = p .left; n = p .n }) 93 q) (z : PartRead) (after : List ℕ)
-        (put : WithNode block q (countByte (k .percent) ∷ (q .n - 1) ∷ k .value % 256 ∷ k .value / 256 ∷ []) z after) where
-      count-node : (a : Inner) (v : ℕ) (b : Bool)
-          → flat countNodes flatCount (Form.leaf (counted a v b)) n ≡ flat markNodes flatMark a n ++ (countN ((n + nodes markNodes a) - 1) v b ∷ [])
+        (put : WithNode block q (nodeBytes (countN (q .n - 1) (amountOf k))) z after) where
+      count-node : (a : Inner) (v : Amount)
+          → flat countNodes flatCount (Form.leaf (counted a v)) n ≡ flat markNodes flatMark a n ++ (countN ((n + nodes markNodes a) - 1) v ∷ [])
       unfolding flat flatCount flatInner
-      count-node a v b = refl
+      count-node a v = refl
 
       unclosed : (u : List ℕ) → drop (k .at) s ≡ u → ((t : List ℕ) → skip u ≡ 93 ∷ t → ⊥) → PartRefused s before z after 13 (skip u)
       unclosed u e none =
@@ -128,39 +111,38 @@ module _ (s : List ℕ) (n left : ℕ) (before : List ℕ) (long : length before
             block = size;
           }) refl put
 
-      closed : (a : Inner) (m : ℕ) (t : List ℕ) → Held markNodes flatMark s n left before p block a m t → (v : ℕ) (b : Bool) (u : List ℕ)
-          → drop (k .at) s ≡ u → k .value ≡ v → k .percent ≡ b
-          → (r₁ : List ℕ) → skip u ≡ 93 ∷ r₁ → Held countNodes flatCount s n (suc left) before z after (Form.leaf (counted a v b)) m r₁
-      closed a m t h′ v b u e ev eb r₁ y =
+      closed : (a : Inner) (m : ℕ) (t : List ℕ) → Held markNodes flatMark s n left before p block a m t → (v : Amount) (u : List ℕ)
+          → drop (k .at) s ≡ u → amountOf k ≡ v
+          → (r₁ : List ℕ) → skip u ≡ 93 ∷ r₁ → Held countNodes flatCount s n (suc left) before z after (Form.leaf (counted a v)) m r₁
+      closed a m t h′ v u e ev r₁ y =
           let f = x .found refl r₁ (ap skip e ∙ y) in
           let na = inner-flat a n in
           let last : (q .n - 1) ≡ (n + nodes markNodes a) - 1 = omega (arith, f .3, h′ .slots) in
-          let node : WithNode block q (nodeBytes (countN ((n + nodes markNodes a) - 1) v b)) z after =
-          subst (λ (j : ℕ). WithNode block q (countByte b ∷ j ∷ v % 256 ∷ v / 256 ∷ []) z after) last
-          (subst (λ (j : ℕ). WithNode block q (countByte b ∷ (q .n - 1) ∷ j % 256 ∷ j / 256 ∷ []) z after) ev
-          (subst (λ (c : Bool). WithNode block q (countByte c ∷ (q .n - 1) ∷ k .value % 256 ∷ k .value / 256 ∷ []) z after) eb put)) in
-          put-behind countNodes flatCount clause-flat s n (suc left) before block q m r₁ (countN ((n + nodes markNodes a) - 1) v b) z after
+          let node : WithNode block q (nodeBytes (countN ((n + nodes markNodes a) - 1) v)) z after =
+          subst (λ (j : ℕ). WithNode block q (nodeBytes (countN j v)) z after) last
+          (subst (λ (x : Amount). WithNode block q (nodeBytes (countN (q .n - 1) x)) z after) ev put) in
+          put-behind countNodes flatCount clause-flat s n (suc left) before block q m r₁ (countN ((n + nodes markNodes a) - 1) v) z after
           (flat markNodes flatMark a n)
-          (Form.leaf (counted a v b)) (count-node a v b) (f .0) (f .1) (x .inside) (f .2 ∙ h′ .allowed) (f .3 ∙ h′ .slots)
+          (Form.leaf (counted a v)) (count-node a v) (f .0) (f .1) (x .inside) (f .2 ∙ h′ .allowed) (f .3 ∙ h′ .slots)
           (omega (arith, f .2, f .3, h′ .kept)) (h′ .block) long few node
 
       pub count-read : C z after (countGot g)
       unfolding bind expect expectAt
-      count-read = by (C z after) (λ a m t h′. go a m t h′ (limitGot s i) l)
+      count-read = by (C z after) (λ a m t h′. go a m t h′ (amounts 0 (drop i s)) l)
         where
-          go : (a : Inner) (m : ℕ) (t : List ℕ) → Held markNodes flatMark s n left before p block a m t → (y : Got (ℕ × Bool)) → LimitIs s k y
+          go : (a : Inner) (m : ℕ) (t : List ℕ) → Held markNodes flatMark s n left before p block a m t → (y : Got Amount) → AmountIs s k y
               → C z after (bind (countEndBy a m y) (λ x m r₁. got (Form.leaf x) m r₁))
           go a m t h′ (no v u) y = absurd (y .2 (sym (y .0) ∙ read))
-          go a m t h′ (got (v, b) m₁ u) y = at (skip u) refl
+          go a m t h′ (got v m₁ u) y = at (skip u) refl
             where
-              at : (o : List ℕ) → skip u ≡ o → C z after (bind (expectAt 93 (counted a v b) m o) (λ x m r₁. got (Form.leaf x) m r₁))
+              at : (o : List ℕ) → skip u ≡ o → C z after (bind (expectAt 93 (counted a v) m o) (λ x m r₁. got (Form.leaf x) m r₁))
               at [] e =
                   subst (PartRefused s before z after 13) e
                   (unclosed u (y .1) (λ t′ f. let c : [] ≡ 93 ∷ t′ = sym e ∙ f in let d : 0 ≡ suc (length t′) = ap length c in omega arith))
               at (c ∷ o) e = pick-byte (eqb c 93) refl
                 where
-                  pick-byte : (x : Bool) → eqb c 93 ≡ x → C z after (bind (pick x (got (counted a v b) m o) (no 13 (c ∷ o))) (λ x m r₁. got (Form.leaf x) m r₁))
-                  pick-byte true f = closed a m t h′ v b u (y .1) (y .2) (y .3) o (e ∙ ap (λ (j : ℕ). j ∷ o) (eqb-true c 93 f))
+                  pick-byte : (x : Bool) → eqb c 93 ≡ x → C z after (bind (pick x (got (counted a v) m o) (no 13 (c ∷ o))) (λ x m r₁. got (Form.leaf x) m r₁))
+                  pick-byte true f = closed a m t h′ v u (y .1) (y .2) o (e ∙ ap (λ (j : ℕ). j ∷ o) (eqb-true c 93 f))
                   pick-byte false f = subst (PartRefused s before z after 13) e (unclosed u (y .1) (λ t′ d. eqb-false c 93 f (heads (sym e ∙ d))))
                     where
                       heads : {t′ : List ℕ} → c ∷ o ≡ 93 ∷ t′ → c ≡ 93

@@ -1,10 +1,12 @@
--- Numbers, whatever nodes are still allowed.
+-- Numbers and amounts, whatever nodes are still allowed.
 use Prim.Native.Nat.{ℕ, _+_, _-_, _*_}
-use mathlib.Core.Path.{_≡_, refl}
+use mathlib.Core.Path.{_≡_, refl, ap, _∙_}
 use mathlib.Core.Bool.{Bool, true, false}
 use mathlib.Core.List.{List, [], _∷_}
-use lib.Dec.{eqb}
-use Rattle.grammar.specs.Reader.{Got, got, no, pick, digits, number, percent, isDigit}
+use lib.Dec.{leb, eqb}
+use Rattle.grammar.specs.Grammar.{Amount, amount}
+use Rattle.grammar.specs.Limits.{most}
+use Rattle.grammar.specs.Reader.{Got, got, no, bind, pick, digits, number, percent, amounts, isDigit}
 
 -- a number is the same whatever nodes are allowed
 abbrev pub relabel : {A : Type 0} → ℕ → Got A → Got A
@@ -64,3 +66,26 @@ percent-any n m (b ∷ t) = go (eqb b 37)
     go : (x : Bool) → pick x (got true n t) (got false n (b ∷ t)) ≡ relabel n (pick x (got true m t) (got false m (b ∷ t)))
     go true = refl
     go false = refl
+
+-- an amount is the same whatever nodes are allowed
+module _ (n : ℕ) (u : List ℕ) where
+  abbrev ranged : ℕ → Got Bool → Got Amount
+  ranged k g = bind g (λ p m r. pick (leb k (most p)) (got (amount k p) m r) (no 15 u))
+
+  within : (k m : ℕ) (p : Bool) (r : List ℕ) (x : Bool) → pick x (got (amount k p) n r) (no 15 u) ≡ relabel n (pick x (got (amount k p) m r) (no 15 u))
+  within k m p r true = refl
+  within k m p r false = refl
+
+  by-percent : (k : ℕ) (g : Got Bool) → ranged k (relabel n g) ≡ relabel n (ranged k g)
+  unfolding bind
+  by-percent k (got p m r) = within k m p r (leb k (most p))
+  by-percent k (no w r) = refl
+
+  by-number : (g : Got ℕ) → bind (relabel n g) (λ k m r. ranged k (percent m r)) ≡ relabel n (bind g (λ k m r. ranged k (percent m r)))
+  unfolding bind
+  by-number (got k m r) = ap (ranged k) (percent-any n m r) ∙ by-percent k (percent m r)
+  by-number (no w r) = refl
+
+  pub amounts-any : amounts n u ≡ relabel n (amounts 0 u)
+  unfolding amounts
+  amounts-any = ap (λ (g : Got ℕ). bind g (λ k m r. ranged k (percent m r))) (number-any n u) ∙ by-number (number 0 u)

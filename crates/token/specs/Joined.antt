@@ -8,7 +8,7 @@ use lib.ListN.{length, drop, length-append}
 use borrow.Author.Tests.{eq-eqb, ne-eqb}
 use Rattle.record.specs.Buffer.{stored}
 use Rattle.record.specs.Stored.{stored-more, length-stored}
-use Rattle.grammar.specs.Grammar.{Form}
+use Rattle.grammar.specs.Grammar.{Form, amount}
 use Rattle.grammar.specs.Limits.{nodes}
 use Rattle.grammar.specs.Nodes.{Node, topN, markN, countN, oneN, twoN, Op₁, Op₂, flat}
 use Rattle.grammar.specs.Reader.{Got, got, no, bind}
@@ -21,7 +21,7 @@ use Rattle.token.specs.declared.PartRead.{PartRead}
 four : (x : Node) → length (nodeBytes x) ≡ 4
 four topN = refl
 four (markN k) = refl
-four (countN j n p) = refl
+four (countN j (amount n p)) = refl
 four (oneN o j) = refl
 four (twoN o j k) = refl
 

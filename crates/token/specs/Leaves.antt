@@ -3,15 +3,14 @@ use Prim.Native.Nat.{ℕ, suc, _+_, _*_, _≤_, _<_}
 use mathlib.Core.Path.{_≡_}
 use mathlib.Core.Bool.{Bool, true, false}
 use mathlib.Core.List.{List, [], _∷_}
-use lib.Dec.{leb}
 use lib.ListN.{length, drop}
 use Rattle.record.specs.Buffer.{stored}
+use Rattle.grammar.specs.Grammar.{Amount, amount}
 use Rattle.grammar.specs.Nodes.{Node}
-use Rattle.grammar.specs.Reader.{Got, got, no, pick, bind, node, literal, number, percent, skip}
-use Rattle.grammar.specs.Limits.{most}
+use Rattle.grammar.specs.Reader.{Got, got, no, bind, node, literal, skip}
 use Rattle.token.specs.Block.{nodeBytes}
 use Rattle.token.specs.declared.PartRead.{PartRead}
-use Rattle.token.specs.declared.CountLimit.{CountLimit}
+use Rattle.token.specs.declared.AmountRead.{AmountRead}
 
 -- a refusal: no node is counted or left, and the block still has its length
 pub record PartRefused (s before : List ℕ) (r : PartRead) (after : List ℕ) (w : ℕ) (rest : List ℕ) : Type 0 where
@@ -63,11 +62,10 @@ pub record ByteAt (s : List ℕ) (j c : ℕ) (b : Bool) : Type 0 where
   pub low : b ≡ true → j < length s
   pub no : b ≡ false → (t : List ℕ) → drop j s ≡ c ∷ t → ⊥
 
--- a count's number and whether it is a percentage, from its first digit on
-abbrev pub limitGot : List ℕ → ℕ → Got (ℕ × Bool)
-limitGot s i =
-    bind (number 0 (drop i s)) (λ k m r. bind (percent m r) (λ p m₁ r₁. pick (leb k (most p)) (got (k, p) m₁ r₁) (no 15 (drop i s))))
+-- an amount, from its number's first digit on
+abbrev pub amountOf : AmountRead → Amount
+amountOf r = amount (r .value) (r .percent)
 
-abbrev pub LimitIs : List ℕ → CountLimit → Got (ℕ × Bool) → Type 0
-LimitIs s r (got x m t) = (r .fault ≡ 0) × (drop (r .at) s ≡ t) × (r .value ≡ x .0) × (r .percent ≡ x .1) × (r .value ≤ 999)
-LimitIs s r (no w t) = (r .fault ≡ w) × (drop (r .at) s ≡ t) × (w ≡ 0 → ⊥)
+abbrev pub AmountIs : List ℕ → AmountRead → Got Amount → Type 0
+AmountIs s r (got x m t) = (r .fault ≡ 0) × (drop (r .at) s ≡ t) × (amountOf r ≡ x) × (r .value ≤ 999)
+AmountIs s r (no w t) = (r .fault ≡ w) × (drop (r .at) s ≡ t) × (w ≡ 0 → ⊥)

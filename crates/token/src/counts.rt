@@ -1,5 +1,5 @@
-// The end of a count: its number, and its node.
-use crate::CountLimit;
+// The end of a count: its amount, and its node.
+use crate::AmountRead;
 use crate::PartRead;
 use crate::leaves::expect;
 use crate::leaves::is_at;
@@ -14,8 +14,10 @@ ghost use Prim.Native.Nat.{_+_, _-_, _/_, _%_, _≤_, _<_};
 ghost use lib.Dec.{ltb};
 ghost use lib.ListN.{length, drop};
 ghost use Rattle.grammar.specs.Limits.{most};
-ghost use Rattle.token.specs.Block.{countByte};
-ghost use Rattle.token.specs.Leaves.{LimitIs, limitGot};
+ghost use Rattle.grammar.specs.Nodes.{countN};
+ghost use Rattle.grammar.specs.Reader.{amounts};
+ghost use Rattle.token.specs.Block.{countByte, nodeBytes};
+ghost use Rattle.token.specs.Leaves.{amountOf, AmountIs};
 ghost use Rattle.token.specs.More.{WithNode};
 ghost use Rattle.token.specs.Counts.{CountEnds};
 
@@ -40,10 +42,10 @@ fn behind(at: usize, percent: bool) -> usize
     if percent { at + 1 } else { at }
 }
 
-fn no_limit(fault: u32, at: usize) -> CountLimit
+fn no_amount(fault: u32, at: usize) -> AmountRead
     ensures { λ r. ⌜ r ≡ record { fault = fault; at = at; value = 0; percent = false } ⌝ }
 {
-    CountLimit {
+    AmountRead {
         fault,
         at,
         value: 0,
@@ -51,20 +53,20 @@ fn no_limit(fault: u32, at: usize) -> CountLimit
     }
 }
 
-// A count's number, at its first digit.
-fn limit(s: &[u8], i: usize) -> CountLimit
+// An amount, at its number's first digit.
+fn amount(s: &[u8], i: usize) -> AmountRead
     requires { ⌜ (i ≤ length (now s)) × (length (now s) ≤ 16384) ⌝ }
-    ensures { λ r. ⌜ LimitIs (now (s .entry)) r (limitGot (now (s .entry)) i) × (r .at ≤ length (now (s .entry))) ⌝ }
+    ensures { λ r. ⌜ AmountIs (now (s .entry)) r (amounts 0 (drop i (now (s .entry)))) × (r .at ≤ length (now (s .entry))) ⌝ }
 {
     let k = number(s, i);
     if !k.ok {
-        return no_limit(13, k.at);
+        return no_amount(13, k.at);
     }
     let percent = is_at(s, k.at, b'%');
     if highest(percent) < k.value {
-        return no_limit(15, i);
+        return no_amount(15, i);
     }
-    CountLimit {
+    AmountRead {
         fault: 0,
         at: behind(k.at, percent),
         value: k.value,
@@ -73,17 +75,17 @@ fn limit(s: &[u8], i: usize) -> CountLimit
 }
 
 // A count's node, behind its inner text.
-fn with_count(nodes: &mut [u8], r: PartRead, value: usize, percent: bool) -> PartRead
-    requires { ⌜ (r .fault ≡ 0 → (0 < r .n) × (r .n < 128)) × (length (now nodes) ≡ 512) × (value ≤ 999) ⌝ }
-    ensures { λ q. ⌜ WithNode (now (nodes .entry)) r (countByte percent ∷ (r .n - 1) ∷ value % 256 ∷ value / 256 ∷ []) q (now (nodes .exit)) ⌝ }
+fn with_count(nodes: &mut [u8], r: PartRead, k: AmountRead) -> PartRead
+    requires { ⌜ (r .fault ≡ 0 → (0 < r .n) × (r .n < 128)) × (length (now nodes) ≡ 512) × (k .value ≤ 999) ⌝ }
+    ensures { λ q. ⌜ WithNode (now (nodes .entry)) r (nodeBytes (countN (r .n - 1) (amountOf k))) q (now (nodes .exit)) ⌝ }
 {
     if r.fault != 0 {
         return r;
     }
     let last = (r.n - 1) as u8;
-    let low = (value % 256) as u8;
-    let high = (value / 256) as u8;
-    put(nodes, r, count_kind(percent), last, low, high)
+    let low = (k.value % 256) as u8;
+    let high = (k.value / 256) as u8;
+    put(nodes, r, count_kind(k.percent), last, low, high)
 }
 
 fn part_at(at: usize, left: usize, n: usize) -> PartRead
@@ -97,7 +99,7 @@ fn part_at(at: usize, left: usize, n: usize) -> PartRead
     }
 }
 
-// The end of a count behind its inner text: comma, number and `]`, and its node.
+// The end of a count behind its inner text: comma, amount and `]`, and its node.
 pub fn count_end(s: &[u8], r: PartRead, nodes: &mut [u8]) -> PartRead
     requires { ⌜ (r .at ≤ length (now s)) × (length (now s) ≤ 16384) × (r .fault ≡ 0 → (0 < r .n) × (r .n < 128)) × (length (now nodes) ≡ 512) ⌝ }
     ensures { λ q. ⌜ CountEnds (now (s .entry)) r (now (nodes .entry)) q (now (nodes .exit)) ⌝ }
@@ -107,10 +109,10 @@ pub fn count_end(s: &[u8], r: PartRead, nodes: &mut [u8]) -> PartRead
         return p;
     }
     let i = spaces(s, p.at);
-    let k = limit(s, i);
+    let k = amount(s, i);
     if k.fault != 0 {
         return refused(k.fault, k.at);
     }
     let q = expect(s, part_at(k.at, p.left, p.n), b']');
-    with_count(nodes, q, k.value, k.percent)
+    with_count(nodes, q, k)
 }

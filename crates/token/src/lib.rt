@@ -31,9 +31,9 @@ pub struct Num {
     pub ok: bool,
 }
 
-// What reading a count's number gives: the refusal's number or 0, the offset behind it or the refused one, its value, and
-// whether it is a percentage.
-pub struct CountLimit {
+// What reading an amount gives: the refusal's number or 0, the offset behind it or the refused one, its number, and whether it
+// is a percentage.
+pub struct AmountRead {
     pub fault: u32,
     pub at: usize,
     pub value: usize,

@@ -6,7 +6,7 @@ use mathlib.Core.Logic.{inl}
 use lib.Dec.{eqb}
 use lib.ListN.{getD, length}
 use borrow.Author.Tests.{eq-eqb, ne-eqb}
-use Rattle.grammar.specs.Grammar.{Counted, counted}
+use Rattle.grammar.specs.Grammar.{amount, Counted, counted}
 use Rattle.cltl.specs.Threshold.{quota}
 use Rattle.cltl.specs.Meaning.{Proper}
 use Rattle.cltl.specs.Rules.{asked, text as text-of}
@@ -98,7 +98,8 @@ this c =
     let a = text .before .before .before .before .before .before .before .before .before .before .args in (
       a .p,
       counted (innerTree (a .nodes .now) (length (a .nodes .now)) (text .before .first-at .result))
-          (text .before .before .before .before .before .number-at .result) (eqb (text .before .before .before .before .before .before .kind-at .result) 11),
+          (amount (text .before .before .before .before .before .number-at .result)
+          (eqb (text .before .before .before .before .before .before .kind-at .result) 11)),
     )
 
 threshold-is : (c : tie.After-count-told) →

@@ -1,12 +1,13 @@
 use Prim.Native.Nat.{_≤_}
 use native.Mathlib.Omega.{arith}
 use mathlib.Core.Path.{sym, ap, subst}
-use lib.ListN.{length}
+use lib.ListN.{length, drop}
 use borrow.Author.Needs.{needs}
+use Rattle.grammar.specs.Reader.{amounts}
 use Rattle.token.specs.declared.PartRead.{PartRead}
-use Rattle.token.specs.Counted.{comma-missing, number-refused, count-read}
-use Rattle.token.specs.Leaves.{Expected, limitGot}
-use Rattle.token.proofs.Counting.{limit-low}
+use Rattle.token.specs.Counted.{comma-missing, amount-refused, count-read}
+use Rattle.token.specs.Leaves.{Expected}
+use Rattle.token.proofs.Counting.{amount-low}
 use Rattle.token.proofs.counts.count_end.Statement.{statement}
 use Rattle.token.proofs.counts.count_end.Tie as tie
 
@@ -22,8 +23,8 @@ returns c =
 spaces-requires : tie.Need-spaces-requires
 spaces-requires c κs = search needs
 
-limit-requires : tie.Need-limit-requires
-limit-requires c κs = (c .spaces .ensures .2 (c .before .before .before .expect .ensures .inside), c .before .before .before .before .before .before .pre .1)
+amount-requires : tie.Need-amount-requires
+amount-requires c κs = (c .spaces .ensures .2 (c .before .before .before .expect .ensures .inside), c .before .before .before .before .before .before .pre .1)
 
 refused-requires : tie.Need-refused-requires
 refused-requires c κs = search needs
@@ -31,11 +32,11 @@ refused-requires c κs = search needs
 returns-2 : tie.Need-returns-2
 returns-2 c =
     let a = c .before .before .before .before .before .before .before .before .before .before .args in
-    λ n left before g h long few. number-refused (a .s .now) n left before long few (a .r) _ g h
+    λ n left before g h long few. amount-refused (a .s .now) n left before long few (a .r) _ g h
     (c .before .before .before .before .before .before .before .expect .result)
     (c .before .before .before .before .before .before .before .expect .ensures) (c .before .before .before .before .before .if1 .left)
     (c .before .before .before .before .spaces .result) (c .before .before .before .before .spaces .ensures .0)
-    (c .before .before .before .limit .result) (c .before .before .before .limit .ensures .0) (c .before .before .before .limit .ensures .1)
+    (c .before .before .before .amount .result) (c .before .before .before .amount .ensures .0) (c .before .before .before .amount .ensures .1)
     (c .before .if2 .taken) (c .refused .result) (c .refused .ensures)
 
 part-at-requires : tie.Need-part-at-requires
@@ -44,12 +45,12 @@ part-at-requires c κs = search needs
 expect-requires-2 : tie.Need-expect-requires-2
 expect-requires-2 c κs =
     subst (λ (x : PartRead). x .at ≤ length (c .before .before .before .before .before .before .before .before .before .before .args .s .now))
-    (sym (c .part-at .ensures)) (c .before .before .before .limit .ensures .1)
+    (sym (c .part-at .ensures)) (c .before .before .before .amount .ensures .1)
 
 with-count-requires : tie.Need-with-count-requires
 with-count-requires c κs =
     let a = c .before .before .before .before .before .before .before .before .before .before .before .before .args in
-    let k = c .before .before .before .before .before .limit in
+    let k = c .before .before .before .before .before .amount in
     let e = c .before .before .part-at .ensures in (
       λ f.
           let y = c .before .expect2 .ensures .kept f in
@@ -60,7 +61,7 @@ with-count-requires c κs =
           let m = ap (λ (x : PartRead). x .n) e in
           (omega (arith, y .1, z .1, m, w .0), omega (arith, y .1, z .1, m, w .1)),
       c .before .before .before .before .before .before .before .before .before .before .before .before .pre .3,
-      limit-low (a .s .now) (k .result) (limitGot (a .s .now) (c .before .before .before .before .before .before .spaces .result)) (k .ensures .0)
+      amount-low (a .s .now) (k .result) (amounts 0 (drop (c .before .before .before .before .before .before .spaces .result) (a .s .now))) (k .ensures .0)
           (c .before .before .before .if2 .left),
     )
 
@@ -76,9 +77,9 @@ returns-3 c =
     (c .before .before .before .before .before .before .before .before .before .before .if1 .left)
     (c .before .before .before .before .before .before .before .before .before .spaces .result)
     (c .before .before .before .before .before .before .before .before .before .spaces .ensures .0)
-    (c .before .before .before .before .before .before .before .before .limit .result)
-    (c .before .before .before .before .before .before .before .before .limit .ensures .0)
-    (c .before .before .before .before .before .before .before .before .limit .ensures .1)
+    (c .before .before .before .before .before .before .before .before .amount .result)
+    (c .before .before .before .before .before .before .before .before .amount .ensures .0)
+    (c .before .before .before .before .before .before .before .before .amount .ensures .1)
     (c .before .before .before .before .before .before .if2 .left) (c .before .before .before .before .expect2 .result)
     (subst (λ (x : PartRead). Expected (a .s .now) x 93 (c .before .before .before .before .expect2 .result))
     (c .before .before .before .before .before .part-at .ensures) (c .before .before .before .before .expect2 .ensures))
@@ -91,7 +92,7 @@ count-end-spec =
     expect-requires
     returns
     spaces-requires
-    limit-requires
+    amount-requires
     refused-requires
     returns-2
     part-at-requires

@@ -30,10 +30,10 @@ put-requires : tie.Need-put-requires
 put-requires c κs = (
   omega (
     arith,
-    c .before .before .before .before .before .before .pre .0
-        (c .before .before .before .if1 .left) .1,
+    c .before .before .before .before .before .before .before .before .pre .0
+        (c .before .before .before .before .before .if1 .left) .1,
   ),
-  c .before .before .before .before .before .before .pre .1,
+  c .before .before .before .before .before .before .before .before .pre .1,
 )
 
 same-length : tie.Need-same-length
@@ -41,10 +41,10 @@ same-length c = search needs
 
 returns-2 : tie.Need-returns-2
 returns-2 c =
-    let a = c .before .before .before .before .before .before .before .before .before .args in
-    added _ _ _ _ _ (c .before .before .before .before .before .before .if1 .left) (c .before .before .put .ensures .0)
+    let a = c .before .before .before .before .before .before .before .before .before .before .before .args in
+    added _ _ _ _ _ (c .before .before .before .before .before .before .before .before .if1 .left) (c .before .before .put .ensures .0)
     (c .before .before .put .ensures .1 ∙ ap
-    (λ (k : ℕ). stored (a .nodes .now) (4 * a .r .n) (k ∷ (a .r .n - 1) ∷ a .value % 256 ∷ a .value / 256 ∷ []))
+    (λ (k : ℕ). stored (a .nodes .now) (4 * a .r .n) (k ∷ (a .r .n - 1) ∷ a .k .value % 256 ∷ a .k .value / 256 ∷ []))
     (c .before .before .before .count-kind .ensures))
 
 pub with-count-spec : {M : Type 1} → statement M

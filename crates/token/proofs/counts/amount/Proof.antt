@@ -5,24 +5,24 @@ use mathlib.Core.Path.{sym, subst}
 use lib.ListN.{length}
 use borrow.Author.Needs.{needs}
 use Rattle.refusal.specs.Faults.{not-is}
-use Rattle.token.specs.declared.CountLimit.{CountLimit}
-use Rattle.token.proofs.Counting.{limit-bad, limit-wide, limit-read, in-text}
-use Rattle.token.proofs.counts.limit.Statement.{statement}
-use Rattle.token.proofs.counts.limit.Tie as tie
+use Rattle.token.specs.declared.AmountRead.{AmountRead}
+use Rattle.token.proofs.Counting.{amount-bad, amount-wide, amount-read, in-text}
+use Rattle.token.proofs.counts.amount.Statement.{statement}
+use Rattle.token.proofs.counts.amount.Tie as tie
 
 number-requires : tie.Need-number-requires
 number-requires c κs = search needs
 
-no-limit-requires : tie.Need-no-limit-requires
-no-limit-requires c κs = search needs
+no-amount-requires : tie.Need-no-amount-requires
+no-amount-requires c κs = search needs
 
 returns : tie.Need-returns
 returns c =
     let a = c .before .before .before .before .before .args in
     let k = c .before .before .before .number in (
-      limit-bad (a .s .now) (a .i) (k .result) (k .ensures .0) (not-is _ true (c .before .if1 .taken)) _ (c .no-limit .ensures),
+      amount-bad (a .s .now) (a .i) (k .result) (k .ensures .0) (not-is _ true (c .before .if1 .taken)) _ (c .no-amount .ensures),
       subst
-          (λ (x : CountLimit). x .at ≤ length (a .s .now)) (sym (c .no-limit .ensures)) (k .ensures .1 (c .before .before .before .before .before .pre .0)),
+          (λ (x : AmountRead). x .at ≤ length (a .s .now)) (sym (c .no-amount .ensures)) (k .ensures .1 (c .before .before .before .before .before .pre .0)),
     )
 
 is-at-requires : tie.Need-is-at-requires
@@ -31,18 +31,18 @@ is-at-requires c κs = search needs
 highest-requires : tie.Need-highest-requires
 highest-requires c κs = search needs
 
-no-limit-requires-2 : tie.Need-no-limit-requires-2
-no-limit-requires-2 c κs = search needs
+no-amount-requires-2 : tie.Need-no-amount-requires-2
+no-amount-requires-2 c κs = search needs
 
 returns-2 : tie.Need-returns-2
 returns-2 c =
     let a = c .before .before .before .before .before .before .before .before .before .args in
     let k = c .before .before .before .before .before .before .before .number in (
-      limit-wide (a .s .now) (a .i) (k .result) (k .ensures .0) (not-is _ false (c .before .before .before .before .before .if1 .left))
+      amount-wide (a .s .now) (a .i) (k .result) (k .ensures .0) (not-is _ false (c .before .before .before .before .before .if1 .left))
           (c .before .before .before .before .is-at .result) (c .before .before .before .before .is-at .ensures)
-          (omega (arith, c .before .if2 .taken, c .before .before .before .highest .ensures)) _ (c .no-limit2 .ensures),
+          (omega (arith, c .before .if2 .taken, c .before .before .before .highest .ensures)) _ (c .no-amount2 .ensures),
       subst
-          (λ (x : CountLimit). x .at ≤ length (a .s .now)) (sym (c .no-limit2 .ensures))
+          (λ (x : AmountRead). x .at ≤ length (a .s .now)) (sym (c .no-amount2 .ensures))
           (c .before .before .before .before .before .before .before .before .before .pre .0),
     )
 
@@ -59,7 +59,7 @@ returns-3 : tie.Need-returns-3
 returns-3 c =
     let a = c .before .before .before .before .before .before .before .before .before .args in
     let k = c .before .before .before .before .before .before .before .number in (
-      limit-read (a .s .now) (a .i) (k .result) (k .ensures .0) (not-is _ false (c .before .before .before .before .before .if1 .left))
+      amount-read (a .s .now) (a .i) (k .result) (k .ensures .0) (not-is _ false (c .before .before .before .before .before .if1 .left))
           (c .before .before .before .before .is-at .result) (c .before .before .before .before .is-at .ensures)
           (omega (arith, c .before .if2 .left, c .before .before .before .highest .ensures)) _ (c .behind .ensures),
       in-text (a .s .now) (k .result .at)
@@ -67,16 +67,16 @@ returns-3 c =
           (c .behind .ensures) (k .ensures .1 (c .before .before .before .before .before .before .before .before .before .pre .0)),
     )
 
-pub limit-spec : {M : Type 1} → statement M
-limit-spec =
+pub amount-spec : {M : Type 1} → statement M
+amount-spec =
     tie.close
     (tie.spec
     number-requires
-    no-limit-requires
+    no-amount-requires
     returns
     is-at-requires
     highest-requires
-    no-limit-requires-2
+    no-amount-requires-2
     returns-2
     behind-requires
     returns-3)
