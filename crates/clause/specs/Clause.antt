@@ -7,9 +7,9 @@ use lib.ListN.{length, take, drop}
 use Rattle.refusal.specs.Codes.{codeIn}
 use Rattle.clause.specs.declared.Span.{Span}
 
--- "A clause refused by its number (as in 16 and 17)"
+-- "A clause refused by its number (as in 16 and 17)"; document 02, 6): and as in 21
 unfoldable pub namesClause : ℕ → Bool
-namesClause n = eqb n 16 || eqb n 17
+namesClause n = eqb n 21 || (eqb n 16 || eqb n 17)
 
 -- "picked by the verdict": its 16 bytes are about the rules (3), and its number is one that names a clause
 unfoldable pub picks : List ℕ → Bool

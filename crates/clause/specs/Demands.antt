@@ -1,9 +1,8 @@
 -- What follows from the promises of picking a clause's part alone, for a verdict's own bytes.
 use Prim.Native.Nat.{ℕ, _+_, _≤_, _<_}
 use native.Mathlib.Omega.{arith}
-use mathlib.Core.Path.{_≡_, refl, sym, ap, subst, _∙_}
-use mathlib.Core.Bool.{Bool, true, false, _&&_, _||_}
-use mathlib.Core.Logic.{_⊎_, inl, inr}
+use mathlib.Core.Path.{_≡_, refl, sym, ap, _∙_}
+use mathlib.Core.Bool.{Bool, true, false, _&&_, _||_, or-false}
 use mathlib.Core.List.{List}
 use lib.Dec.{eqb}
 use lib.ListN.{length, take, drop, length-take, length-drop}
@@ -11,6 +10,8 @@ use borrow.Author.Tests.{ne-eqb}
 use Rattle.endian.specs.Little.{bytes}
 use Rattle.refusal.specs.Codes.{codeOf, bytesOf, codeIn, Fits32}
 use Rattle.refusal.specs.Distinct.{codeIn-bytesOf}
+use Rattle.refusal.specs.Given.{OneOf, clauseNumbers}
+use Rattle.refusal.specs.Numbered.{among, among-one, among-none}
 use Rattle.refusal.specs.declared.Code.{Code}
 use Rattle.refusal.specs.declared.Refusal.{Refusal}
 use Rattle.refusal.specs.declared.Verdict.{Verdict}
@@ -22,16 +23,17 @@ use Rattle.clause.specs.declared.Span.{Span}
 
 -- a refusal that names a clause
 abbrev pub Named : ℕ → Type 0
-Named n = (n ≡ 16) ⊎ (n ≡ 17)
+Named n = OneOf clauseNumbers n
+
+listed : (n : ℕ) → namesClause n ≡ among clauseNumbers n
+unfolding namesClause
+listed n = ap (λ (b : Bool). eqb n 21 || (eqb n 16 || b)) (sym (or-false (eqb n 17)))
 
 named : (n : ℕ) → Named n → namesClause n ≡ true
-unfolding namesClause
-named n (inl e) = subst (λ (k : ℕ). (eqb k 16 || eqb k 17) ≡ true) (sym e) refl
-named n (inr e) = subst (λ (k : ℕ). (eqb k 16 || eqb k 17) ≡ true) (sym e) refl
+named n h = listed n ∙ among-one clauseNumbers n h
 
 unnamed : (n : ℕ) → (Named n → ⊥) → namesClause n ≡ false
-unfolding namesClause
-unnamed n h = rw (ne-eqb n 16 (λ e. h (inl e)), ne-eqb n 17 (λ e. h (inr e)))
+unnamed n h = listed n ∙ among-none clauseNumbers n h
 
 -- a verdict's own bytes pick by its numbers
 picks-of : (c : Code) → Fits32 c → picks (bytesOf c) ≡ (eqb (c .about) 3 && namesClause (c .number))
@@ -45,7 +47,7 @@ picks-none (Floor r) w h = picks-of (codeOf (Floor r)) w
 picks-none (Plan r) w h = picks-of (codeOf (Plan r)) w
 picks-none (Rules r) w h = picks-of (codeOf (Rules r)) w ∙ unnamed (r .number) (h r refl)
 
--- 16 or 17 of the rules with clause k
+-- 21, 16 or 17 of the rules with clause k
 module _ (sheet : List ℕ) (r : Refusal) (names : Named (r .number)) (fits : Fits32 (codeOf (Rules r))) where
   abbrev verdict : List ℕ
   verdict = bytesOf (codeOf (Rules r))

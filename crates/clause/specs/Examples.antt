@@ -26,20 +26,24 @@ pub worked :
     (span two (rules 17 0) ≡ record { offset = 0; length = 4 })
     -- spaces included
     × (part two (rules 16 1) ≡ 32 ∷ 33 ∷ 116 ∷ 114 ∷ 117 ∷ 101 ∷ [])
+    × (part two (rules 21 1) ≡ 32 ∷ 33 ∷ 116 ∷ 114 ∷ 117 ∷ 101 ∷ [])
     -- a clause the sheet lacks, and a second line without its byte 10
     × (span two (rules 17 2) ≡ emptySpan)
     × (span (take 11 two) (rules 17 1) ≡ emptySpan)
     -- a line of no bytes is a clause, and its part is empty where it stands
     × (span (10 ∷ 10 ∷ []) (rules 17 1) ≡ record { offset = 1; length = 0 })
-    -- other numbers name no clause: 13 and 15 give an offset, 18 a length
+    -- other numbers name no clause: 13 and 15 give an offset, 18 a length, 20 a cart
     × (span two (rules 13 1) ≡ emptySpan)
     × (span two (rules 15 1) ≡ emptySpan)
     × (span two (rules 18 1) ≡ emptySpan)
+    × (span two (rules 20 1) ≡ emptySpan)
+    × (span two (rules 22 1) ≡ emptySpan)
     -- about the plan, and accepted
     × (span two (bytesOf (codeOf (Plan (refused 17 1 0)))) ≡ emptySpan)
+    × (span two (bytesOf (codeOf (Plan (refused 21 1 0)))) ≡ emptySpan)
     × (span two (bytesOf (codeOf Accepted)) ≡ emptySpan)
     -- 15 and 17 bytes of a verdict
     × (span two (take 15 (rules 17 1)) ≡ emptySpan)
     × (span two (rules 17 1 ++ (0 ∷ [])) ≡ emptySpan)
 unfolding computing
-worked = (refl, refl, refl, refl, refl, refl, refl, refl, refl, refl, refl, refl)
+worked = (refl, refl, refl, refl, refl, refl, refl, refl, refl, refl, refl, refl, refl, refl, refl, refl)

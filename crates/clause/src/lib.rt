@@ -36,7 +36,7 @@ fn word_at(s: &[u8], at: usize) -> usize
 fn names_clause(number: usize) -> bool
     ensures { λ r. ⌜ r ≡ namesClause number ⌝ }
 {
-    number == 16 || number == 17
+    number == 16 || (number == 17 || number == 21)
 }
 
 // Whether a verdict's bytes pick a clause.

@@ -5,7 +5,7 @@ use mathlib.Core.Logic.{_⊎_, _↔_}
 use mathlib.Core.List.{List, _++_, flatten}
 use lib.ListN.{length, take, drop, getD}
 use Rattle.refusal.specs.Codes.{codeOf, bytesOf}
-use Rattle.refusal.specs.Given.{Refusals, Answered, readingFloor, readingPlan, writingFloor, writingPlan, checkingMoves, readingSheet, checkingPlan, movingOn, replacingRow}
+use Rattle.refusal.specs.Given.{OneOf, Refusals, Answered, readingFloor, readingPlan, writingFloor, writingPlan, checkingMoves, readingSheet, clauseNumbers, checkingPlan, movingOn, replacingRow}
 use Rattle.refusal.specs.Outcome.{Outcome}
 use Rattle.refusal.specs.declared.Code.{Code}
 use Rattle.refusal.specs.declared.Refusal.{Refusal}
@@ -125,12 +125,12 @@ pub record PlanCheckedCode (floor plan rules : List ℕ) (c : Code) : Type 0 whe
   pub next-16 : c .number ≡ 16 → (c .second ≡ 0) × Next16 floor plan rules (c .first)
   pub fails-17 : c .number ≡ 17 → Fails17 floor plan rules (c .first) (c .second)
   -- and what cartplan_clause picks by these four numbers is that clause's line, which alone is a sheet of the clause that was judged
-  pub shown : (c .number ≡ 16) ⊎ (c .number ≡ 17) → (cs : List Clause) → AcceptedSheet rules cs → (p : Span) → Picked rules (bytesOf c) p
+  pub shown : OneOf clauseNumbers (c .number) → (cs : List Clause) → AcceptedSheet rules cs → (p : Span) → Picked rules (bytesOf c) p
       → (c .first < length cs) × IsLineOf rules (c .first) (getD cs (c .first) top) p
   -- every other refusal is that of the floor, the plan, its moves or the sheet, in this order
   pub floor-refused : c .about ≡ 1 → readFloor floor ≡ FloorRefused (refusalIn c)
   pub plan-refused : c .about ≡ 2 → (c .number ≡ 20 → ⊥) → PlanRefused floor plan (refusalIn c)
-  pub sheet-refused : c .about ≡ 3 → (c .number ≡ 16 → ⊥) → (c .number ≡ 17 → ⊥) → SheetRefused floor plan rules (refusalIn c)
+  pub sheet-refused : c .about ≡ 3 → (OneOf clauseNumbers (c .number) → ⊥) → SheetRefused floor plan rules (refusalIn c)
 
 -- cartplan_move_on
 pub record MovedOnCode (floor plan : List ℕ) (s : ℕ) (before : List ℕ) (c : Code) (after : List ℕ) : Type 0 where

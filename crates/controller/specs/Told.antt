@@ -3,14 +3,14 @@ use Prim.Native.Nat.{ℕ, _≤_, _<_}
 use native.Mathlib.Omega.{arith}
 use mathlib.Core.Path.{_≡_, refl, sym, ap, ap₂, subst, _∙_}
 use mathlib.Core.Bool.{Bool, true, false, cond}
-use mathlib.Core.Logic.{_⊎_, inl, inr, ⊎-elim, _↔_}
+use mathlib.Core.Logic.{inl, inr, _↔_}
 use mathlib.Core.List.{List, [], _∷_, _++_}
 use lib.Dec.{eqb, ltb}
 use lib.ListN.{length, take, drop}
 use lib.Seq.{drop-append-seam}
 use Rattle.refusal.specs.Codes.{refused, codeOf}
-use Rattle.refusal.specs.Given.{OneOf, Refusals, Done, accepts, writes, Given, readingFloor, readingPlan, writingFloor, writingPlan, checkingMoves, readingSheet, checkingPlan, movingOn, replacingRow}
-use Rattle.refusal.specs.Numbered.{among, not-among, numbered, zero-accepts, zero-writes, answered}
+use Rattle.refusal.specs.Given.{OneOf, Refusals, Done, accepts, writes, Given, readingFloor, readingPlan, writingFloor, writingPlan, checkingMoves, readingSheet, clauseNumbers, checkingPlan, movingOn, replacingRow}
+use Rattle.refusal.specs.Numbered.{among, not-among, apart, not-both, numbered, zero-accepts, zero-writes, answered}
 use Rattle.refusal.specs.Outcome.{Outcome, unchanged, written, Gives}
 use Rattle.refusal.specs.Held.{about-floor, about-plan, written-if}
 use Rattle.refusal.specs.Stages.{isAccepted}
@@ -226,6 +226,15 @@ of-number t m f (AboutPlan r) g e =
 of-number t m f (AboutRules r) g e =
     (λ u. absurd (not-among (t .rules) m (r .number) u g e), λ p. ap (λ (n : ℕ). AboutRules (refused n (r .first) (r .second))) e)
 
+-- one of several numbers that no refusal of the floor or the plan has
+of-numbers : (t : Refusals) (ms : List ℕ) → apart (0 ∷ t .floor) ms ≡ true → apart (t .plan) ms ≡ true → (v : Verdict) → Given t v → OneOf ms (num v)
+    → v ≡ AboutRules (refusalIn (codeOf v))
+of-numbers t ms f p Accepted g o = absurd (not-both ms (0 ∷ t .floor) 0 f o (inl refl))
+of-numbers t ms f p (Written k) g o = absurd (not-both ms (0 ∷ t .floor) 0 f o (inl refl))
+of-numbers t ms f p (AboutFloor r) g o = absurd (not-both ms (0 ∷ t .floor) (r .number) f o (inr g))
+of-numbers t ms f p (AboutPlan r) g o = absurd (not-both ms (t .plan) (r .number) p o g)
+of-numbers t ms f p (AboutRules r) g o = refl
+
 ---- Moves, moving on, replacing.
 pub moves-checked : (floor s : List ℕ) (v : Verdict) → MovesChecked floor s v → Given checkingMoves v → (c : Code) → c ≡ codeOf v
     → MovesCheckedCode floor s c
@@ -312,8 +321,7 @@ plan-checked floor s sheet v w g c q = subst (PlanCheckedCode floor s sheet) (sy
   );
   next-16 = λ e. w .next-16 (codeOf v .first) (codeOf v .second) (of-number checkingPlan 16 refl v g e .1 refl);
   fails-17 = λ e. w .fails-17 (codeOf v .first) (codeOf v .second) (of-number checkingPlan 17 refl v g e .1 refl);
-  shown = λ e cs a p picked. shown-clause floor s sheet v w cs a (codeOf v .first) (codeOf v .second)
-      (⊎-elim (λ x. inl (of-number checkingPlan 16 refl v g x .1 refl)) (λ x. inr (of-number checkingPlan 17 refl v g x .1 refl)) e) p picked;
+  shown = λ o cs a p picked. shown-clause floor s sheet v w cs a (refusalIn (codeOf v)) (of-numbers checkingPlan clauseNumbers refl refl v g o) o p picked;
   floor-refused = λ e. w .floor-refused (refusalIn (codeOf v)) (of-floor v e);
   plan-refused = λ e n20. w .plan-refused (refusalIn (codeOf v)) (of-plan v e) n20;
   sheet-refused = λ e. w .sheet-refused (refusalIn (codeOf v)) (of-rules v e);

@@ -35,7 +35,7 @@ use Rattle.plancheck.specs.Check.{planRows, checked}
 use Rattle.plancheck.specs.Meaning.{drifted, Plain, Kept, Conflict20, ReadAndOpen}
 use Rattle.plancheck.specs.Promises.{Means, PlanChecked}
 use Rattle.plancheck.specs.Stages.{same-clauses, proper, on-routes, accepted-as, as-accepted, as-20, accepted-read}
-use Rattle.plancheck.specs.Refusing.{Meant, meant, given, is-plan, is-20, is-16, is-17, is-sheet}
+use Rattle.plancheck.specs.Refusing.{Meant, meant, given, is-plan, is-20, is-16, is-17, is-clause, is-sheet}
 
 drifted-file : (p : PlanNumbers) (d : ℕ) → stored (planFile p) 8 (bytes 2 d) ≡ planFile (drifted p d)
 unfolding layout encoded bytes
@@ -151,7 +151,8 @@ module _ (floor s sheet : List ℕ) (fb : Bytes floor) (pb : Bytes s) where
         );
         next-16 = λ k x q. is-16 floor s sheet k x (subst (Meant floor s sheet) q m);
         fails-17 = λ k x q. is-17 floor s sheet k x (subst (Meant floor s sheet) q m);
+        names-clause = λ x q o. is-clause floor s sheet x o (subst (Meant floor s sheet) q m);
         floor-refused = λ x q. subst (Meant floor s sheet) q m;
         plan-refused = λ x q n20. is-plan floor s sheet x n20 (subst (Meant floor s sheet) q m);
-        sheet-refused = λ x q n16 n17. is-sheet floor s sheet x n16 n17 (subst (Meant floor s sheet) q m);
+        sheet-refused = λ x q n. is-sheet floor s sheet x n (subst (Meant floor s sheet) q m);
       }

@@ -103,6 +103,13 @@ module _ (floor plan sheet : List ℕ) where
   abbrev pub SheetRefused : Refusal → Type 0
   SheetRefused x = (m : Moving floor plan) × ConflictFree floor (m .floor-is) (m .numbers) × RulesRead sheet (AboutRules x)
 
+-- the first further number k of a refusal is a clause that the sheet has, and the second one small: a step of the plan, or 0
+pub record NamesClause (sheet : List ℕ) (k s : ℕ) : Type 0 where
+  pub clauses : List Clause
+  pub read : AcceptedSheet sheet clauses
+  pub there : k < length clauses
+  pub small : s < 64
+
 -- part p of a sheet is its line k, and this line, alone, is a sheet of the clause c and no other
 pub record IsLineOf (sheet : List ℕ) (k : ℕ) (c : Clause) (p : Span) : Type 0 where
   pub line : IsClause sheet k p

@@ -5,7 +5,7 @@ use mathlib.Core.Logic.{_↔_}
 use mathlib.Core.List.{List}
 use Rattle.endian.specs.Little.{bytes}
 use Rattle.refusal.specs.Codes.{refused}
-use Rattle.refusal.specs.Given.{Given, checkingPlan}
+use Rattle.refusal.specs.Given.{OneOf, Given, clauseNumbers, checkingPlan}
 use Rattle.refusal.specs.declared.Refusal.{Refusal}
 use Rattle.refusal.specs.declared.Verdict.{Verdict}
 use Rattle.refusal.specs.declared.Verdict.the-variants.{Accepted, Floor as AboutFloor, Plan as AboutPlan, Rules as AboutRules}
@@ -22,7 +22,7 @@ use Rattle.conflict.specs.OfPlan.{planRoutes, ConflictFree}
 use Rattle.grammar.specs.Grammar.{Clause}
 use Rattle.cltl.specs.Meaning.{Run, TrueOf, TrueInStep}
 use Rattle.plancheck.specs.Check.{planRows, checked}
-use Rattle.plancheck.specs.Meaning.{drifted, Plain, Kept, ReadAndOpen, NoneAhead, Conflict20, Next16, Fails17, PlanRefused, SheetRefused}
+use Rattle.plancheck.specs.Meaning.{drifted, Plain, Kept, ReadAndOpen, NoneAhead, Conflict20, Next16, Fails17, PlanRefused, SheetRefused, NamesClause}
 
 module _ (floor plan sheet : List ℕ) where
   -- what accepted means; `yes` says that the plan is accepted, by a verdict or by its number
@@ -61,7 +61,9 @@ module _ (floor plan sheet : List ℕ) where
     -- 16 and 17, and what they mean
     pub next-16 : (k s : ℕ) → v ≡ AboutRules (refused 16 k s) → (s ≡ 0) × Next16 floor plan sheet k
     pub fails-17 : (k s : ℕ) → v ≡ AboutRules (refused 17 k s) → Fails17 floor plan sheet k s
+    -- a number that comes with a clause comes with one that the sheet has
+    pub names-clause : (x : Refusal) → v ≡ AboutRules x → OneOf clauseNumbers (x .number) → NamesClause sheet (x .first) (x .second)
     -- every other refusal is that of the floor, the plan, its moves or the sheet, in this order
     pub floor-refused : (x : Refusal) → v ≡ AboutFloor x → readFloor floor ≡ FloorRefused x
     pub plan-refused : (x : Refusal) → v ≡ AboutPlan x → (x .number ≡ 20 → ⊥) → PlanRefused floor plan x
-    pub sheet-refused : (x : Refusal) → v ≡ AboutRules x → (x .number ≡ 16 → ⊥) → (x .number ≡ 17 → ⊥) → SheetRefused floor plan sheet x
+    pub sheet-refused : (x : Refusal) → v ≡ AboutRules x → (OneOf clauseNumbers (x .number) → ⊥) → SheetRefused floor plan sheet x

@@ -11,8 +11,8 @@ use borrow.Author.Tests.{eqb-true, eqb-false}
 use Rattle.endian.specs.Little.{Bytes}
 use Rattle.refusal.specs.Codes.{refused}
 use Rattle.refusal.specs.Stages.{isAccepted, andThen}
-use Rattle.refusal.specs.Given.{OneOf, Given, planNumbers, movesNumbers, sheetNumbers, checkingMoves, checkingPlan}
-use Rattle.refusal.specs.Numbered.{one-left, one-right, not-among, one-of-more}
+use Rattle.refusal.specs.Given.{OneOf, Given, planNumbers, movesNumbers, sheetNumbers, clauseNumbers, checkingMoves, checkingPlan}
+use Rattle.refusal.specs.Numbered.{one-left, one-right, one-among, not-among, not-both, one-of-more}
 use Rattle.refusal.specs.Accepting.{accepted-is}
 use Rattle.refusal.specs.declared.Refusal.{Refusal}
 use Rattle.refusal.specs.declared.Verdict.{Verdict}
@@ -45,7 +45,7 @@ use Rattle.cltl.specs.Rules.{rules, hasNext}
 use Rattle.cltl.specs.Step.{failing}
 use Rattle.cltl.specs.Lowest.{globally-fails}
 use Rattle.plancheck.specs.Check.{planRows, clausesOf, nextVerdict, keptVerdict, clausesVerdict, stages, checked}
-use Rattle.plancheck.specs.Meaning.{Plain, Kept, LowestFailing, FailingStep, ReadAndOpen, NoneAhead, Conflict20, Next16, Fails17, PlanRefused, SheetRefused}
+use Rattle.plancheck.specs.Meaning.{Plain, Kept, LowestFailing, FailingStep, ReadAndOpen, NoneAhead, Conflict20, Next16, Fails17, PlanRefused, SheetRefused, NamesClause}
 use Rattle.plancheck.specs.FirstClause.{FirstClause, first-16, first-17}
 use Rattle.plancheck.specs.Stages.{proper, on-routes}
 
@@ -115,40 +115,51 @@ step-inside P d c s some w = go (outermost c) w
     go (another apart nought) w = let z = w .otherwise apart in omega arith
 
 ---- Stage by stage.
--- no reader gives 16 or 17
-not-clause : (n : ℕ) → OneOf sheetNumbers n → (n ≡ 16 → ⊥) × (n ≡ 17 → ⊥)
-not-clause n (inl e) = omega arith
-not-clause n (inr (inl e)) = omega arith
-not-clause n (inr (inr (inl e))) = omega arith
-not-clause n (inr (inr (inr (inl e)))) = omega arith
-not-clause n (inr (inr (inr (inr (inl e))))) = omega arith
-not-clause n (inr (inr (inr (inr (inr e))))) = absurd e
-
 module _ (floor plan sheet : List ℕ) where
+  -- what a number that comes with a clause means
+  abbrev pub ClauseRefused : Refusal → Type 0
+  ClauseRefused x =
+      ((x .number ≡ 16) × (x .second ≡ 0) × Next16 floor plan sheet (x .first)) ⊎ ((x .number ≡ 17) × Fails17 floor plan sheet (x .first) (x .second))
+
   -- what a verdict of the check means
   abbrev pub Meant : Verdict → Type 0
   Meant Accepted = Unit {0}
   Meant (Written n) = ⊥
   Meant (AboutFloor x) = readFloor floor ≡ FloorRefused x
   Meant (AboutPlan x) = PlanRefused floor plan x ⊎ ((x .number ≡ 20) × Conflict20 floor plan (x .first) (x .second))
-  Meant (AboutRules x) =
-      SheetRefused floor plan sheet x
-      ⊎ (((x .number ≡ 16) × (x .second ≡ 0) × Next16 floor plan sheet (x .first)) ⊎ ((x .number ≡ 17) × Fails17 floor plan sheet (x .first) (x .second)))
+  Meant (AboutRules x) = SheetRefused floor plan sheet x ⊎ ClauseRefused x
+
+  clause-listed : (x : Refusal) → ClauseRefused x → OneOf clauseNumbers (x .number)
+  clause-listed x (inl w) = subst (OneOf clauseNumbers) (sym (w .0)) (one-among clauseNumbers 16 refl)
+  clause-listed x (inr w) = subst (OneOf clauseNumbers) (sym (w .0)) (one-among clauseNumbers 17 refl)
 
   pub is-16 : (k s : ℕ) → Meant (AboutRules (refused 16 k s)) → (s ≡ 0) × Next16 floor plan sheet k
-  is-16 k s (inl w) = absurd (not-clause 16 (w .2 .numbers) .0 refl)
+  is-16 k s (inl w) = absurd (not-among sheetNumbers 16 16 refl (w .2 .numbers) refl)
   is-16 k s (inr (inl w)) = (w .1, w .2)
   is-16 k s (inr (inr w)) = let z = w .0 in absurd (omega arith)
 
   pub is-17 : (k s : ℕ) → Meant (AboutRules (refused 17 k s)) → Fails17 floor plan sheet k s
-  is-17 k s (inl w) = absurd (not-clause 17 (w .2 .numbers) .1 refl)
+  is-17 k s (inl w) = absurd (not-among sheetNumbers 17 17 refl (w .2 .numbers) refl)
   is-17 k s (inr (inl w)) = let z = w .0 in absurd (omega arith)
   is-17 k s (inr (inr w)) = w .1
 
-  pub is-sheet : (x : Refusal) → (x .number ≡ 16 → ⊥) → (x .number ≡ 17 → ⊥) → Meant (AboutRules x) → SheetRefused floor plan sheet x
-  is-sheet x n16 n17 (inl w) = w
-  is-sheet x n16 n17 (inr (inl w)) = absurd (n16 (w .0))
-  is-sheet x n16 n17 (inr (inr w)) = absurd (n17 (w .0))
+  pub is-sheet : (x : Refusal) → (OneOf clauseNumbers (x .number) → ⊥) → Meant (AboutRules x) → SheetRefused floor plan sheet x
+  is-sheet x n (inl w) = w
+  is-sheet x n (inr w) = absurd (n (clause-listed x w))
+
+  -- a number that comes with a clause is none of the reader's
+  pub is-clause : (x : Refusal) → OneOf clauseNumbers (x .number) → Meant (AboutRules x) → NamesClause sheet (x .first) (x .second)
+  is-clause x o (inl w) = absurd (not-both sheetNumbers clauseNumbers (x .number) refl (w .2 .numbers) o)
+  is-clause x o (inr (inl w)) =
+      let y = w .2 in
+      let z = w .1 in
+      record { clauses = y .clauses; read = y .readable .clauses; there = y .there; small = omega arith }
+  is-clause x o (inr (inr w)) =
+      let y = w .1 in
+      let h = valid (y .floor-is) plan (y .numbers) (y .ahead .readable .files .plan-read) .head in
+      let low = step-inside (planRows floor (y .floor-is) (y .numbers)) (y .numbers .head .drift) (getD (y .clauses) (x .first) top) (x .second) (h .some)
+      (y .step) in
+      record { clauses = y .clauses; read = y .ahead .readable .clauses; there = y .there; small = omega (arith, h .steps) }
 
   -- reading and moves have their own numbers, and 20 is none of them
   plan-listed : (x : Refusal) → PlanRefused floor plan x → OneOf movesNumbers (x .number)
@@ -180,8 +191,7 @@ module _ (floor plan sheet : List ℕ) where
   given (AboutPlan x) (inl m) = one-left movesNumbers (20 ∷ []) (x .number) (plan-listed x m)
   given (AboutPlan x) (inr m) = one-right movesNumbers (20 ∷ []) (x .number) (inl (m .0))
   given (AboutRules x) (inl w) = one-of-more sheetNumbers (checkingPlan .rules) (x .number) refl (w .2 .numbers)
-  given (AboutRules x) (inr (inl w)) = one-right sheetNumbers (16 ∷ 17 ∷ []) (x .number) (inl (w .0))
-  given (AboutRules x) (inr (inr w)) = one-right sheetNumbers (16 ∷ 17 ∷ []) (x .number) (inr (inl (w .0)))
+  given (AboutRules x) (inr w) = one-right sheetNumbers clauseNumbers (x .number) (clause-listed x w)
 
   module _ (fb : Bytes floor) (f : Floor) (p : PlanNumbers) (files : ReadAs floor plan f p) where
     abbrev P : Rows

@@ -7,7 +7,7 @@ use Rattle.endian.specs.Little.{bytes}
 use Rattle.refusal.specs.Codes.{refused, atOffset, firstFault, codeOf, bytesOf}
 use Rattle.refusal.specs.Stages.{andThen}
 use Rattle.refusal.specs.Outcome.{unchanged, written}
-use Rattle.refusal.specs.Given.{readingFloor, checkingMoves, checkingPlan, replacingRow}
+use Rattle.refusal.specs.Given.{readingFloor, checkingMoves, readingSheet, checkingPlan, replacingRow}
 use Rattle.refusal.specs.Numbered.{among}
 use Rattle.refusal.specs.declared.Code.{Code}
 use Rattle.refusal.specs.declared.Verdict.{Verdict}
@@ -41,5 +41,9 @@ pub verdicts :
     × (among (checkingPlan .rules) 20 ≡ false)
     × (among (checkingMoves .plan) 20 ≡ false)
     × (among (replacingRow .plan) 20 ≡ false)
+    -- 21 is only a check's, and about the rules; the rules' numbers in the order of the check: behind the sheet's 21, then 16, then 17
+    × (among (readingSheet .rules) 21 ≡ false)
+    × (among (checkingPlan .plan) 21 ≡ false)
+    × (checkingPlan .rules ≡ 12 ∷ 13 ∷ 14 ∷ 15 ∷ 7 ∷ 21 ∷ 16 ∷ 17 ∷ [])
 unfolding bytes
-verdicts = (refl, refl, refl, refl, refl, refl, refl, refl, refl, refl, refl, refl, refl, refl, refl, refl, refl, refl, refl, refl)
+verdicts = (refl, refl, refl, refl, refl, refl, refl, refl, refl, refl, refl, refl, refl, refl, refl, refl, refl, refl, refl, refl, refl, refl, refl)

@@ -80,9 +80,13 @@ sheetNumbers = 12 ∷ 13 ∷ 14 ∷ 15 ∷ 7 ∷ []
 abbrev pub readingSheet : Refusals
 readingSheet = record { done = accepts; floor = []; plan = []; rules = sheetNumbers }
 
+-- "A clause refused by its number (as in 16 and 17)": the first further number is a clause; document 02, 6): 21, "after the sheet is read and before 16"
+abbrev pub clauseNumbers : List ℕ
+clauseNumbers = 21 ∷ 16 ∷ 17 ∷ []
+
 -- "Checking a plan: floor, plan, moves, sheet as above; then 16 .., then 17"; document 02, 2): 20, "in the check only, after 11 and before the sheet"
 abbrev pub checkingPlan : Refusals
-checkingPlan = record { done = accepts; floor = floorNumbers; plan = movesNumbers ++ (20 ∷ []); rules = sheetNumbers ++ (16 ∷ 17 ∷ []) }
+checkingPlan = record { done = accepts; floor = floorNumbers; plan = movesNumbers ++ (20 ∷ []); rules = sheetNumbers ++ clauseNumbers }
 
 -- "Moving on by s: floor and plan as for reading; 18"
 abbrev pub movingOn : Refusals

@@ -2,13 +2,13 @@
 use Prim.Native.Nat.{ℕ, zero, suc, _<_}
 use native.Mathlib.Omega.{arith}
 use mathlib.Core.Path.{_≡_, refl, sym, ap, subst, _∙_}
-use mathlib.Core.Bool.{Bool, true, false, cond, _&&_, _||_}
+use mathlib.Core.Bool.{Bool, true, false, cond, not, _&&_, _||_}
 use mathlib.Core.Logic.{_⊎_, inl, inr, _↔_}
 use mathlib.Core.List.{List, [], _∷_, _++_}
 use lib.Dec.{eqb, ltb}
-use borrow.Author.Tests.{eqb-true, eqb-false, ltb-true}
+use borrow.Author.Tests.{eqb-true, eqb-false, eq-eqb, ltb-true}
 use Rattle.refusal.specs.Codes.{firstFault, unlessFault, codeOf}
-use Rattle.refusal.specs.Faults.{either-false}
+use Rattle.refusal.specs.Faults.{either-false, not-is, or-true}
 use Rattle.refusal.specs.Given.{OneOf, Done, accepts, writes, Refusals, Given, RefusedAs, Answered}
 use Rattle.refusal.specs.declared.Code.{Code}
 use Rattle.refusal.specs.declared.Verdict.{Verdict}
@@ -45,11 +45,33 @@ one-among (y ∷ ys) n e = go (eqb n y) refl (one-among ys n) e
     go true q f e = inl (eqb-true n y q)
     go false q f e = inr (f e)
 
+pub among-one : (ys : List ℕ) (n : ℕ) → OneOf ys n → among ys n ≡ true
+among-one [] n h = absurd h
+among-one (y ∷ ys) n (inl e) = ap (λ (b : Bool). b || among ys n) (eq-eqb n y e)
+among-one (y ∷ ys) n (inr h) = ap (λ (b : Bool). eqb n y || b) (among-one ys n h) ∙ or-true (eqb n y)
+
+pub among-none : (ys : List ℕ) (n : ℕ) → (OneOf ys n → ⊥) → among ys n ≡ false
+among-none ys n f = go (among ys n) refl
+  where
+    go : (b : Bool) → among ys n ≡ b → b ≡ false
+    go true e = absurd (f (one-among ys n e))
+    go false e = refl
+
 -- a number that is none of these is not one of them
 pub not-among : (xs : List ℕ) (m n : ℕ) → among xs m ≡ false → OneOf xs n → n ≡ m → ⊥
 not-among [] m n e h q = h
 not-among (x ∷ xs) m n e (inl h) q = eqb-false m x (either-false (eqb m x) (among xs m) e .0) (sym q ∙ h)
 not-among (x ∷ xs) m n e (inr h) q = not-among xs m n (either-false (eqb m x) (among xs m) e .1) h q
+
+-- and lists that share no number: a test that computes on two lists
+abbrev pub apart : List ℕ → List ℕ → Bool
+apart ys [] = true
+apart ys (x ∷ xs) = not (among ys x) && apart ys xs
+
+pub not-both : (xs ys : List ℕ) (n : ℕ) → apart ys xs ≡ true → OneOf xs n → OneOf ys n → ⊥
+not-both [] ys n e h k = h
+not-both (x ∷ xs) ys n e (inl q) k = not-among ys x n (not-is (among ys x) true (both (not (among ys x)) (apart ys xs) e .0)) k q
+not-both (x ∷ xs) ys n e (inr h) k = not-both xs ys n (both (not (among ys x)) (apart ys xs) e .1) h k
 
 pub one-of-more : (xs ys : List ℕ) (n : ℕ) → allAmong ys xs ≡ true → OneOf xs n → OneOf ys n
 one-of-more [] ys n e h = absurd h
