@@ -98,8 +98,8 @@ struct cartplan_span {
 };
 
 /* The clause that a verdict picks, from its line's first byte to the last before the line end. verdict: the four numbers of a
- * cartplan_verdict in 16 bytes, each lowest byte first. For a verdict that names no clause (only refusals 16 and 17 of the
- * rules do), for any other length than 16, or for a clause that the sheet lacks: offset 0, length 0. The sheet is not judged. */
+ * cartplan_verdict in 16 bytes, each lowest byte first. For a verdict that names no clause (only refusals 16, 17 and 21 of
+ * the rules do), for any other length than 16, or for a clause that the sheet lacks: offset 0, length 0. The sheet is not judged. */
 struct cartplan_span cartplan_clause(const uint8_t *rules, size_t rules_len,
                                      const uint8_t *verdict, size_t verdict_len);
 

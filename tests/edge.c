@@ -473,6 +473,10 @@ static void check_clause(void)
     check_span(cartplan_clause(sheet, SHEET_LEN, verdict, 16), 0, 0, "no clause 2");
     verdict[8] = 0;
     check_span(cartplan_clause(sheet, SHEET_LEN, verdict, 16), 0, 8, "clause 0");
+    verdict[4] = 21;
+    check_span(cartplan_clause(sheet, SHEET_LEN, verdict, 16), 0, 8, "clause 0 of 21");
+    verdict[4] = 20;
+    check_span(cartplan_clause(sheet, SHEET_LEN, verdict, 16), 0, 0, "20 names no clause");
     verdict[4] = 13;
     check_span(cartplan_clause(sheet, SHEET_LEN, verdict, 16), 0, 0, "13 names no clause");
 }

@@ -162,6 +162,12 @@ static void demand_line(struct cartplan_span part)
     demand(memchr(sheet + part.offset, '\n', part.length) == NULL, "the part is one line");
 }
 
+/* Whether a refusal's first further number is a clause. */
+static int names_clause(verdict v)
+{
+    return v.number == 16 || v.number == 17 || v.number == 21;
+}
+
 static verdict clause(void)
 {
     struct cartplan_span part = cartplan_clause(LENT(RULES), LENT(VERDICT));
@@ -169,7 +175,7 @@ static verdict clause(void)
 
     if (lent[VERDICT].len == sizeof v) memcpy(&v, lent[VERDICT].at, sizeof v);
     if (part.offset == 0 && part.length == 0) return (verdict){0, 0, 0, 0};
-    demand(v.about == 3 && (v.number == 16 || v.number == 17), "a clause is named");
+    demand(v.about == 3 && names_clause(v), "a clause is named");
     demand_line(part);
     return (verdict){0, 0, 0, 0};
 }
@@ -391,7 +397,7 @@ static void after_check(const struct operation *op, verdict v)
     demand_nearest(v);
     demand_alone(v);
     demand_clauses(v);
-    if (v.number == 16 || v.number == 17) {
+    if (names_clause(v)) {
         struct cartplan_span part = cartplan_clause(LENT(RULES), (const uint8_t *)&v, sizeof v);
         demand(part.length > 0, "a clause that isn't kept is there");
         demand_line(part);
@@ -455,7 +461,7 @@ static const struct operation operations[OPERATIONS] = {
     [READ_RULES] = {"read_rules", read_rules, NULL, 0, B(RULES), {0}, {0, 0, 0, SHEET}},
     [CHECK_MOVES] = {"check_moves", check_moves, after_moves, 0, B(FLOOR) | B(PLAN), {READ_PLAN}, {0, 0, N(10) | N(11)}},
     [CHECK] = {"check", check, after_check, 0, B(FLOOR) | B(PLAN) | B(RULES), {CHECK_MOVES, READ_RULES},
-               {0, 0, N(20), N(16) | N(17)}},
+               {0, 0, N(20), N(16) | N(17) | N(21)}},
     [MOVE_ON] = {"move_on", move_on, after_write, 2, B(FLOOR) | B(PLAN) | B(OUT), {READ_PLAN}, {0, 0, N(18)}},
     [REPLACE_ROW] = {"replace_row", replace_row, after_replace, 2, B(FLOOR) | B(PLAN) | B(ROW), {CHECK_MOVES},
                      {0, 0, N(4) | N(9) | N(10) | N(11) | N(19)}},
@@ -465,7 +471,7 @@ static const struct operation operations[OPERATIONS] = {
 /* The refusal's first further number: a cart, a clause, a length or an offset in the file. */
 static int first_in_range(const struct operation *op, verdict v)
 {
-    if (v.number == 10 || v.number == 11 || v.number == 16 || v.number == 17 || v.number == 20) return v.first < 32;
+    if (v.number == 10 || v.number == 11 || v.number == 20 || names_clause(v)) return v.first < 32;
     if (v.number == 18) return v.first > lent[OUT].len && v.first <= LONGEST;
     if (v.number == 19) return v.first == cart() && v.first > 0;
     return v.first <= (op->buffers & B(OUT) ? LONGEST : lent[v.about - 1].len);
@@ -475,19 +481,19 @@ static void demand_refusal(const struct operation *op, verdict v)
 {
     demand(v.about >= 1 && v.about <= 3 && v.number < 32 && (op->refusals[v.about] >> v.number & 1), "a known refusal");
     demand(first_in_range(op, v), "the first number in range");
-    int two = v.number == 11 || v.number == 17 || v.number == 20 || (v.number == 9 && op->call == replace_row);
+    int two = v.number == 11 || v.number == 17 || v.number == 20 || v.number == 21 || (v.number == 9 && op->call == replace_row);
     demand(two ? v.second < 64 : v.second == 0, "the second number in range");
 }
 
 /* A count for each operation, refusal and first number, that the fuzzer may see where an input gets to. */
-__attribute__((used, section("__libfuzzer_extra_counters"))) static uint8_t seen[OPERATIONS][4][21][64];
+__attribute__((used, section("__libfuzzer_extra_counters"))) static uint8_t seen[OPERATIONS][4][22][64];
 
 static void note(const struct operation *op, verdict v)
 {
     unsigned place = v.first;
     if (place >= 48)
         for (place = 48; place < 63 && v.first >> (place - 42); place++) continue;
-    if (v.about < 4 && v.number < 21) seen[op - operations][v.about][v.number][place] = 1;
+    if (v.about < 4 && v.number < 22) seen[op - operations][v.about][v.number][place] = 1;
 }
 
 /* The call's answer, held against that of the operations whose refusals come first. */

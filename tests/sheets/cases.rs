@@ -49,11 +49,11 @@ fn sheet_to_pick_from(random: &mut Random) -> Input {
     sheet
 }
 
-/// A verdict's number: mostly 16 or 17, else near them in some way; never 21, which is reserved.
+/// A verdict's number: mostly 16, 17 or 21, else near them in some way.
 fn number(random: &mut Random) -> u32 {
-    let right = random.pick(&[16, 17]);
+    let right = random.pick(&[16, 17, 21]);
     match random.below(12) {
-        0 => random.between(0, 20) as u32,
+        0 => random.between(0, 21) as u32,
         1 => random.between(22, 60) as u32,
         2 => right << random.pick(&[8, 16, 24]),
         3 => right | 1 << random.between(8, 31),

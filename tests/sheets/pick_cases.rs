@@ -38,8 +38,12 @@ fn clauses() -> Vec<Pick> {
         pick(SHEET, [3, 17, 1, 5], 5, 8),
         pick(SHEET, [3, 16, 2, 0], 14, 8),
         pick(SHEET, [3, 17, 2, 1], 14, 8),
+        pick(SHEET, [3, 21, 0, 7], 0, 4),
+        pick(SHEET, [3, 21, 1, 0], 5, 8),
+        pick(SHEET, [3, 21, 2, u32::MAX], 14, 8),
         none(SHEET, [3, 17, 3, 0]),
         none(SHEET, [3, 16, 4, 0]),
+        none(SHEET, [3, 21, 3, 0]),
         none(SHEET, [3, 16, 256, 0]),
         none(SHEET, [3, 17, 65_536, 0]),
         none(SHEET, [3, 17, 1 << 31, 0]),
@@ -80,8 +84,9 @@ fn other_verdicts() -> Vec<Pick> {
     for about in [0, 1, 2, 4, 19, 256, 259, 3 << 8, 3 << 24, u32::MAX] {
         picks.push(none(SHEET, [about, 16, 1, 0]));
         picks.push(none(SHEET, [about, 17, 1, 0]));
+        picks.push(none(SHEET, [about, 21, 1, 0]));
     }
-    let numbers = (0..=15).chain([18, 19, 272, 273, 16 << 8, 17 << 16, 65_552, u32::MAX]);
+    let numbers = (0..=15).chain([18, 19, 20, 22, 23, 24, 272, 273, 277, 16 << 8, 17 << 16, 21 << 24, 65_552, u32::MAX]);
     picks.extend(numbers.map(|number| none(SHEET, [RULES, number, 1, 0])));
     picks.push(none(SHEET, [17, 3, 1, 0]));
     picks

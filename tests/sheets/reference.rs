@@ -154,7 +154,7 @@ pub fn clause(sheet: &[u8], verdict: &[u8]) -> (Part, Reason) {
     };
     let numbers = u128::from_le_bytes(bytes);
     let [about, number, clause] = [0, 32, 64].map(|shift| (numbers >> shift) as u32);
-    if about != RULES || ![16, 17].contains(&number) {
+    if about != RULES || ![16, 17, 21].contains(&number) {
         return (NO_PART, Reason::OtherVerdict);
     }
     let mut start = 0;
