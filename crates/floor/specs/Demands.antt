@@ -1,5 +1,5 @@
 -- What the promises of reading and writing a floor give: a reader of them alone can conclude this.
-use Prim.Native.Nat.{ℕ, _+_, _*_, _≤_, _<_}
+use Prim.Native.Nat.{ℕ, _+_, _*_, _^_, _≤_, _<_}
 use native.Mathlib.Nat.{add-zero}
 use native.Mathlib.Omega.{arith}
 use mathlib.Core.Path.{_≡_, refl, sym, ap, subst, _∙_}
@@ -16,7 +16,7 @@ use Rattle.refusal.specs.declared.Verdict.{Verdict}
 use Rattle.refusal.specs.declared.Verdict.the-variants.{Accepted, Written, Floor as AboutFloor}
 use Rattle.record.specs.Laid.{field-of}
 use Rattle.floor.specs.Floor.{readFloor, floorVerdict}
-use Rattle.floor.specs.Numbers.{FloorNumbers, floorBytes, numbersOf, placeAt, laneAt, cartAt, narrowAt, bodyAt, writeFloor}
+use Rattle.floor.specs.Numbers.{FloorNumbers, floorBytes, numbersOf, placeAt, laneAt, cartAt, narrowAt, groupAt, bodyAt, writeFloor}
 use Rattle.floor.specs.Valid.{ValidFloor}
 use Rattle.floor.specs.Promises.{FloorRead, FloorWritten}
 use Rattle.floor.specs.declared.Floor.{Floor}
@@ -32,7 +32,7 @@ module _ (s : List ℕ) (r : FloorAnswer) (w : FloorRead s r) where
   zero-accepted z = zero-accepts readingFloor refl refl (floorVerdict r) (w .numbers) z
 
   module _ (f : Floor) (e : r ≡ Read f) where
-    -- accepted: what the bytes of a place, a lane, a cart and a narrow place hold
+    -- accepted: what the bytes of a place, a lane, a cart, a narrow place and a group hold
     pub marks-of-place : (i : ℕ) → i < f .places → getD (numbersOf s .places) i 0 ≡ value (bodyAt 4 (placeAt i) s)
     marks-of-place i l = sym (w .accepted f e .place i l)
 
@@ -56,6 +56,9 @@ module _ (s : List ℕ) (r : FloorAnswer) (w : FloorRead s r) where
 
     pub narrow-placed : (i : ℕ) → i < f .narrow → getD (bodyAt 1 (narrowAt f i) s) 0 0 < f .places
     narrow-placed i l = let a = w .accepted f e in rw (a .narrow i l) (a .valid .narrow-there i l)
+
+    pub group-carts : (g : ℕ) → g < f .groups → value (bodyAt 4 (groupAt f g) s) < 2 ^ f .carts
+    group-carts g l = let a = w .accepted f e in rw (a .group g l) (a .valid .group-there g l)
 
     -- its numbers, written to a buffer with room, are its bytes again, and the rest of the buffer stays
     pub read-then-write : (before : List ℕ) (v : Verdict) (after : List ℕ) → FloorWritten (numbersOf s) before v after → length s ≤ length before

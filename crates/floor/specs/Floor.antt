@@ -1,9 +1,10 @@
 -- Reading a floor: "For each record, offset at its start: 2 .. 6. At the end 7."
-use Prim.Native.Nat.{ℕ, _+_}
+use Prim.Native.Nat.{ℕ, _+_, _^_}
 use mathlib.Core.Bool.{Bool, true, false, cond, not, _||_}
 use mathlib.Core.List.{List, [], _∷_, _++_}
 use lib.Dec.{eqb, leb, ltb}
 use lib.ListN.{length, getD}
+use Rattle.endian.specs.Little.{value}
 use Rattle.refusal.specs.Codes.{atOffset, firstFault, unlessFault}
 use Rattle.refusal.specs.declared.Verdict.{Verdict}
 use Rattle.refusal.specs.declared.Verdict.the-variants.{Accepted, Floor as AboutFloor}
@@ -44,16 +45,21 @@ cart = record { number = 3; size = 2; most = 32; bad = λ before body. ltb 7 (ge
 abbrev pub narrow : Kind
 narrow = record { number = 6; size = 1; most = 256; bad = λ before body. absent before (getD body 0 0) }
 
--- "A floor holds kinds 1, 2, 3 in that order", and "kind 6, after the carts": the table
+-- 7 group, document 02, 6): "four bytes, bit n for cart n", "at most eight"; 6: "an absent cart", that is, a bit at the number of carts or above it; carts
+-- are the third kind of the table
+abbrev pub group : Kind
+group = record { number = 7; size = 4; most = 8; bad = λ before body. leb (2 ^ getD before 2 0) (value body) }
+
+-- "A floor holds kinds 1, 2, 3 in that order", "kind 6, after the carts", and kind 7, "last in the file": the table
 abbrev pub kinds : List Kind
-kinds = place ∷ lane ∷ cart ∷ narrow ∷ []
+kinds = place ∷ lane ∷ cart ∷ narrow ∷ group ∷ []
 
 -- how many records of each kind a floor has, in the table's order, and the floor that has so many
 abbrev pub counts : Floor → List ℕ
-counts f = f .places ∷ f .lanes ∷ f .carts ∷ f .narrow ∷ []
+counts f = f .places ∷ f .lanes ∷ f .carts ∷ f .narrow ∷ f .groups ∷ []
 
 abbrev pub floorOf : List ℕ → Floor
-floorOf ns = record { places = getD ns 0 0; lanes = getD ns 1 0; carts = getD ns 2 0; narrow = getD ns 3 0 }
+floorOf ns = record { places = getD ns 0 0; lanes = getD ns 1 0; carts = getD ns 2 0; narrow = getD ns 3 0; groups = getD ns 4 0 }
 
 -- some record of these kinds is counted
 abbrev pub seen : List ℕ → Bool

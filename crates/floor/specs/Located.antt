@@ -1,5 +1,5 @@
 -- Where the numbers of an accepted floor lie in its bytes.
-use Prim.Native.Nat.{ℕ, zero, suc, _+_, _*_, _≤_, _<_}
+use Prim.Native.Nat.{ℕ, zero, suc, _+_, _*_, _^_, _≤_, _<_}
 use native.Mathlib.Nat.{mul-zero, mul-suc, zero-add, add-zero}
 use native.Mathlib.Omega.{arith}
 use mathlib.Core.Path.{_≡_, refl, sym, ap, ap₂, subst, _∙_}
@@ -11,15 +11,17 @@ use lib.Seq.{take-at, drop-append-add}
 use borrow.Author.Tests.{ltb-false, leb-false}
 use Rattle.refusal.specs.Faults.{either-false}
 use Rattle.endian.specs.Little.{value, Bytes}
+use Rattle.endian.specs.RoundTrip.{four-at}
 use Rattle.record.specs.Record.{layout, recordsIn}
 use Rattle.record.specs.All.{AllOf, each}
 use Rattle.record.specs.Laid.{length-flatten, field-of}
 use Rattle.record.specs.RoundTrip.{layout-records}
-use Rattle.floor.specs.Floor.{place, lane, cart, narrow, kinds, counts, emptyFloor, readFloor}
-use Rattle.floor.specs.Numbers.{inOrder, bodiesOf, numbersOf, placeAt, laneAt, cartAt, narrowAt, bodyAt}
+use Rattle.floor.specs.Floor.{place, lane, cart, narrow, group, kinds, counts, emptyFloor, readFloor}
+use Rattle.floor.specs.Numbers.{inOrder, bodiesOf, numbersOf, placeAt, laneAt, cartAt, narrowAt, groupAt, bodyAt}
 use Rattle.floor.specs.Sorted.{Group, Sorted, groupsOf}
 use Rattle.floor.specs.InOrder.{offsetOf, sizeAt, located}
 use Rattle.floor.specs.Valid.{ValidFloor}
+use Rattle.floor.specs.Walk.{length-floor}
 use Rattle.floor.specs.RoundTrip.{whole, accepted-sorted, accepted-within, bytes-back, written-again}
 use Rattle.floor.specs.Promises.{AcceptedFloor}
 use Rattle.floor.specs.declared.Floor.{Floor}
@@ -61,21 +63,27 @@ module _ (s : List ℕ) (f : Floor) (b : Bytes s) (e : readFloor s ≡ Read f) w
   abbrev narrows : List (List ℕ)
   narrows = bodiesOf 6 (recordsIn s .records)
 
+  abbrev groups : List (List ℕ)
+  groups = bodiesOf 7 (recordsIn s .records)
+
   ordered : Sorted emptyFloor f (recordsIn s .records)
   ordered = accepted-sorted s f e
 
   -- the records of each kind
-  abbrev P : Group place [] 0 (f .places) (0 ∷ 0 ∷ 0 ∷ []) places
+  abbrev P : Group place [] 0 (f .places) (0 ∷ 0 ∷ 0 ∷ 0 ∷ []) places
   P = ordered .0 .0
 
-  abbrev L : Group lane (f .places ∷ []) 0 (f .lanes) (0 ∷ 0 ∷ []) lanes
+  abbrev L : Group lane (f .places ∷ []) 0 (f .lanes) (0 ∷ 0 ∷ 0 ∷ []) lanes
   L = ordered .0 .1 .0
 
-  abbrev C : Group cart (f .places ∷ f .lanes ∷ []) 0 (f .carts) (0 ∷ []) carts
+  abbrev C : Group cart (f .places ∷ f .lanes ∷ []) 0 (f .carts) (0 ∷ 0 ∷ []) carts
   C = ordered .0 .1 .1 .0
 
-  abbrev W : Group narrow (f .places ∷ f .lanes ∷ f .carts ∷ []) 0 (f .narrow) [] narrows
+  abbrev W : Group narrow (f .places ∷ f .lanes ∷ f .carts ∷ []) 0 (f .narrow) (0 ∷ []) narrows
   W = ordered .0 .1 .1 .1 .0
+
+  abbrev G : Group group (f .places ∷ f .lanes ∷ f .carts ∷ f .narrow ∷ []) 0 (f .groups) [] groups
+  G = ordered .0 .1 .1 .1 .1 .0
 
   file : s ≡ layout (inOrder kinds (groupsOf kinds (recordsIn s .records)))
   file = sym (layout-records s b (whole s f e .uncut)) ∙ ap layout (ordered .1)
@@ -112,6 +120,13 @@ module _ (s : List ℕ) (f : Floor) (b : Bytes s) (e : readFloor s ≡ Read f) w
       body-at 3 i (narrowAt f i) (omega arith) m (omega arith) ∙ alone (getD narrows i []) (each (λ (x : List ℕ). length x ≡ 1) [] narrows i (W .sizes) m)
       ∙ ap (λ (x : ℕ). x ∷ []) (sym one)
 
+  group-is : (g : ℕ) → getD (numbersOf s .groups) g 0 ≡ value (getD groups g [])
+  unfolding value
+  group-is g = List·getD-map value groups g []
+
+  group-located : (g : ℕ) → g < f .groups → value (bodyAt 4 (groupAt f g) s) ≡ getD (numbersOf s .groups) g 0
+  group-located g l = ap value (body-at 4 g (groupAt f g) (omega arith) (omega (arith, G .count)) (omega arith)) ∙ sym (group-is g)
+
   lane-is : (j k : ℕ) → j < f .lanes → k < 3 → getD (numbersOf s .lanes) (3 * j + k) 0 ≡ getD (getD lanes j []) k 0
   lane-is j k l m = one-of 3 lanes j k (L .sizes) (omega (arith, L .count)) m
 
@@ -121,6 +136,11 @@ module _ (s : List ℕ) (f : Floor) (b : Bytes s) (e : readFloor s ≡ Read f) w
   narrow-ok : (i : ℕ) → i < f .narrow → getD (getD narrows i []) 0 0 < f .places
   narrow-ok i l =
       leb-false _ _ (each (λ (x : List ℕ). narrow .bad (f .places ∷ f .lanes ∷ f .carts ∷ []) x ≡ false) [] narrows i (W .fields) (omega (arith, W .count)))
+
+  group-ok : (g : ℕ) → g < f .groups → value (getD groups g []) < 2 ^ f .carts
+  group-ok g l =
+      leb-false _ _ (each (λ (x : List ℕ). group .bad (f .places ∷ f .lanes ∷ f .carts ∷ f .narrow ∷ []) x ≡ false) [] groups g (G .fields)
+      (omega (arith, G .count)))
 
   lane-ok : (j : ℕ) → j < f .lanes → (getD (getD lanes j []) 0 0 < f .places) × (getD (getD lanes j []) 1 0 < f .places)
   lane-ok j l =
@@ -144,12 +164,14 @@ module _ (s : List ℕ) (f : Floor) (b : Bytes s) (e : readFloor s ≡ Read f) w
         lanes = length-flatten 3 lanes (L .sizes) ∙ ap (λ (k : ℕ). 3 * k) (sym (L .count ∙ zero-add (length lanes)));
         carts = length-flatten 2 carts (C .sizes) ∙ ap (λ (k : ℕ). 2 * k) (sym (C .count ∙ zero-add (length carts)));
         narrow = length-flatten 1 narrows (W .sizes) ∙ omega (arith, W .count);
+        groups = length-map groups value ∙ sym (G .count ∙ zero-add (length groups));
         some-place = w .some-place;
         some-cart = w .some-cart;
         few-places = m .places;
         few-lanes = m .lanes;
         few-carts = m .carts;
         few-narrow = m .narrow;
+        few-groups = m .groups;
         lane-from =
             λ j l. subst (λ (k : ℕ). getD (numbersOf s .lanes) k 0 < f .places) (add-zero (3 * j)) (rw (lane-is j 0 l (omega arith)) (lane-ok j l .0));
         lane-to = λ j l. rw (lane-is j 1 l (omega arith)) (lane-ok j l .1);
@@ -157,6 +179,7 @@ module _ (s : List ℕ) (f : Floor) (b : Bytes s) (e : readFloor s ≡ Read f) w
             λ n l. subst (λ (k : ℕ). getD (numbersOf s .carts) k 0 < 8) (add-zero (2 * n)) (rw (cart-is n 0 l (omega arith)) (cart-ok n l .0));
         cart-start = λ n l. rw (cart-is n 1 l (omega arith)) (cart-ok n l .1);
         narrow-there = λ i l. rw (narrow-is i l) (narrow-ok i l);
+        group-there = λ g l. rw (group-is g) (group-ok g l);
       }
 
   pub accepts : AcceptedFloor s f
@@ -168,4 +191,17 @@ module _ (s : List ℕ) (f : Floor) (b : Bytes s) (e : readFloor s ≡ Read f) w
     lane = lane-located;
     cart = cart-located;
     narrow = narrow-located;
+    group = group-located;
   }
+
+-- an accepted floor is as long as its records, and the four bytes of a group's body are its carts
+module _ (s : List ℕ) (f : Floor) (w : AcceptedFloor s f) where
+  pub accepted-length : length s ≡ 8 * f .places + (7 * f .lanes + (6 * f .carts + (5 * f .narrow + 8 * f .groups)))
+  accepted-length =
+      let v = w .valid in
+      omega (arith, ap length (w .writes-back), length-floor (numbersOf s), v .places, v .lanes, v .carts, v .narrow, v .groups)
+
+  pub group-word : (g at : ℕ) → g < f .groups → at ≡ groupAt f g + 4
+      → value (getD s at 0 ∷ getD s (at + 1) 0 ∷ getD s (at + 2) 0 ∷ getD s (at + 3) 0 ∷ []) ≡ getD (numbersOf s .groups) g 0
+  group-word g at l e =
+      ap value (sym (four-at s at (omega (arith, accepted-length))) ∙ ap (λ (k : ℕ). take 4 (drop k s)) e) ∙ w .group g l

@@ -15,16 +15,17 @@ use Rattle.floor.specs.declared.FloorAnswer.{FloorAnswer}
 use Rattle.floor.specs.declared.FloorAnswer.the-variants.{Read, Refused}
 
 -- "Places and carts are numbered from 0 in file order": the marks of each place; from, to and classes of each lane; class and start of each cart; the
--- narrow places
+-- narrow places; the carts of each group
 pub record FloorNumbers : Type 0 where
   pub places : List ℕ
   pub lanes : List ℕ
   pub carts : List ℕ
   pub narrow : List ℕ
+  pub groups : List ℕ
 
--- the four lists that a caller lends
-abbrev pub numbers : List ℕ → List ℕ → List ℕ → List ℕ → FloorNumbers
-numbers places lanes carts narrow = record { places = places; lanes = lanes; carts = carts; narrow = narrow }
+-- the five lists that a caller lends
+abbrev pub numbers : List ℕ → List ℕ → List ℕ → List ℕ → List ℕ → FloorNumbers
+numbers places lanes carts narrow groups = record { places = places; lanes = lanes; carts = carts; narrow = narrow; groups = groups }
 
 -- bodies of each kind in turn, as records in the table's order
 abbrev pub inOrder : List Kind → List (List (List ℕ)) → List Record
@@ -37,9 +38,9 @@ abbrev pub wordRecords : ℕ → List ℕ → List Record
 wordRecords k ms = map (ofKind k) (map (bytes 4) ms)
 
 -- the bodies that the numbers make, in the table's order: four bytes to a place, a lane to each three bytes, a cart to each two, a
--- narrow place to each one; bytes left over are a body of wrong length
+-- narrow place to each one, four to a group; bytes left over are a body of wrong length
 abbrev pub bodies : FloorNumbers → List (List (List ℕ))
-bodies n = map (bytes 4) (n .places) ∷ parts 3 (n .lanes) ∷ parts 2 (n .carts) ∷ parts 1 (n .narrow) ∷ []
+bodies n = map (bytes 4) (n .places) ∷ parts 3 (n .lanes) ∷ parts 2 (n .carts) ∷ parts 1 (n .narrow) ∷ map (bytes 4) (n .groups) ∷ []
 
 abbrev pub floorRecords : FloorNumbers → List Record
 floorRecords n = inOrder kinds (bodies n)
@@ -59,12 +60,13 @@ numbersIn rs = record {
   lanes = flatten (bodiesOf 2 rs);
   carts = flatten (bodiesOf 3 rs);
   narrow = flatten (bodiesOf 6 rs);
+  groups = map value (bodiesOf 7 rs);
 }
 
 abbrev pub numbersOf : List ℕ → FloorNumbers
 numbersOf s = numbersIn (recordsIn s .records)
 
--- the offset of a place's, a lane's, a cart's and a narrow place's record
+-- the offset of a place's, a lane's, a cart's, a narrow place's and a group's record
 abbrev pub placeAt : ℕ → ℕ
 placeAt i = 8 * i
 
@@ -76,6 +78,9 @@ cartAt f n = 8 * f .places + (7 * f .lanes + 6 * n)
 
 abbrev pub narrowAt : Floor → ℕ → ℕ
 narrowAt f i = 8 * f .places + (7 * f .lanes + (6 * f .carts + 5 * i))
+
+abbrev pub groupAt : Floor → ℕ → ℕ
+groupAt f g = 8 * f .places + (7 * f .lanes + (6 * f .carts + (5 * f .narrow + 8 * g)))
 
 -- the body of so many bytes in the record at an offset
 abbrev pub bodyAt : ℕ → ℕ → List ℕ → List ℕ

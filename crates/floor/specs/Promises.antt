@@ -9,7 +9,7 @@ use Rattle.refusal.specs.Outcome.{Gives, written}
 use Rattle.refusal.specs.declared.Verdict.{Verdict}
 use Rattle.refusal.specs.declared.Verdict.the-variants.{Written, Floor as AboutFloor}
 use Rattle.floor.specs.Floor.{readFloor, floorVerdict}
-use Rattle.floor.specs.Numbers.{FloorNumbers, floorBytes, numbersOf, placeAt, laneAt, cartAt, narrowAt, bodyAt, writeFloor}
+use Rattle.floor.specs.Numbers.{FloorNumbers, floorBytes, numbersOf, placeAt, laneAt, cartAt, narrowAt, groupAt, bodyAt, writeFloor}
 use Rattle.floor.specs.Valid.{ValidFloor}
 use Rattle.floor.specs.declared.Floor.{Floor}
 use Rattle.floor.specs.declared.FloorAnswer.{FloorAnswer}
@@ -24,6 +24,7 @@ pub record AcceptedFloor (s : List ℕ) (f : Floor) : Type 0 where
   pub lane : (j : ℕ) → j < f .lanes → bodyAt 3 (laneAt f j) s ≡ take 3 (drop (3 * j) (numbersOf s .lanes))
   pub cart : (n : ℕ) → n < f .carts → bodyAt 2 (cartAt f n) s ≡ take 2 (drop (2 * n) (numbersOf s .carts))
   pub narrow : (i : ℕ) → i < f .narrow → bodyAt 1 (narrowAt f i) s ≡ getD (numbersOf s .narrow) i 0 ∷ []
+  pub group : (g : ℕ) → g < f .groups → value (bodyAt 4 (groupAt f g) s) ≡ getD (numbersOf s .groups) g 0
 
 pub record FloorRead (s : List ℕ) (r : FloorAnswer) : Type 0 where
   -- the answer, for every file

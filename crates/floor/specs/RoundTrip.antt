@@ -11,7 +11,7 @@ use Rattle.endian.specs.Little.{bytes, value, Bytes}
 use Rattle.endian.specs.RoundTrip.{length-bytes, value-bytes, bytes-value}
 use Rattle.record.specs.Record.{Record, Split, layout, recordsIn}
 use Rattle.record.specs.Parts.{parts, ofKind}
-use Rattle.record.specs.All.{AllOf}
+use Rattle.record.specs.All.{All, AllOf}
 use Rattle.record.specs.Laid.{parts-encodable, flatten-parts, parts-flatten}
 use Rattle.record.specs.RoundTrip.{AllEncodable, records-layout, layout-records, AllBytes, records-bytes}
 use Rattle.refusal.specs.Codes.{atOffset}
@@ -42,25 +42,27 @@ floor-encodable n =
     let lanes = parts-encodable 2 3 (n .lanes) (omega arith) (omega arith) (omega arith) in
     let carts = parts-encodable 3 2 (n .carts) (omega arith) (omega arith) (omega arith) in
     let narrow = parts-encodable 6 1 (n .narrow) (omega arith) (omega arith) (omega arith) in
-    all-encodable kinds (bodies n) (places, (lanes, (carts, (narrow, tt))))
+    let groups = words-encodable 7 (n .groups) (omega arith) in
+    all-encodable kinds (bodies n) (places, (lanes, (carts, (narrow, (groups, tt)))))
 
 values-back : (ms : List ℕ) → Words ms → map value (map (bytes 4) ms) ≡ ms
 values-back [] w = refl
 values-back (m ∷ ms) w = ap₂ _∷_ (value-bytes 4 m (w 0)) (values-back ms (λ i. w (suc i)))
 
 -- the numbers are found again among their records, and so in their bytes
-numbers-back : (n : FloorNumbers) → Words (n .places) → numbersIn (floorRecords n) ≡ n
-numbers-back n w =
+numbers-back : (n : FloorNumbers) → Words (n .places) → Words (n .groups) → numbersIn (floorRecords n) ≡ n
+numbers-back n w v =
     let found = groups-back kinds (bodies n) kinds-distinct refl in
     let group : (i : ℕ) → getD (groupsOf kinds (floorRecords n)) i [] ≡ getD (bodies n) i [] = λ i. ap (λ (x : List (List (List ℕ))). getD x i []) found in
     let places : map value (bodiesOf 1 (floorRecords n)) ≡ n .places = ap (map value) (group 0) ∙ values-back (n .places) w in
     let lanes : flatten (bodiesOf 2 (floorRecords n)) ≡ n .lanes = ap flatten (group 1) ∙ flatten-parts 3 (n .lanes) (omega arith) in
     let carts : flatten (bodiesOf 3 (floorRecords n)) ≡ n .carts = ap flatten (group 2) ∙ flatten-parts 2 (n .carts) (omega arith) in
     let narrow : flatten (bodiesOf 6 (floorRecords n)) ≡ n .narrow = ap flatten (group 3) ∙ flatten-parts 1 (n .narrow) (omega arith) in
-    rw (places, lanes, carts, narrow) refl
+    let groups : map value (bodiesOf 7 (floorRecords n)) ≡ n .groups = ap (map value) (group 4) ∙ values-back (n .groups) v in
+    rw (places, lanes, carts, narrow, groups) refl
 
-pub numbers-written : (n : FloorNumbers) → Words (n .places) → numbersOf (floorBytes n) ≡ n
-numbers-written n w = ap (λ (x : Split). numbersIn (x .records)) (records-layout (floorRecords n) (floor-encodable n)) ∙ numbers-back n w
+pub numbers-written : (n : FloorNumbers) → Words (n .places) → Words (n .groups) → numbersOf (floorBytes n) ≡ n
+numbers-written n w v = ap (λ (x : Split). numbersIn (x .records)) (records-layout (floorRecords n) (floor-encodable n)) ∙ numbers-back n w v
 
 -- an accepted file is walked to its end, and is not cut short
 pub record Whole (s : List ℕ) (f : Floor) : Type 0 where
@@ -99,12 +101,13 @@ whole s f e = go (ltb 65536 (length s)) refl e
 pub accepted-sorted : (s : List ℕ) (f : Floor) → readFloor s ≡ Read f → Sorted emptyFloor f (recordsIn s .records)
 accepted-sorted s f e = let w = whole s f e in sorted (recordsIn s .records) emptyFloor 0 f (w .end) (w .walked)
 
--- 1 to 256 places, 0 to 1,024 lanes, 1 to 32 carts, 0 to 256 narrow places: never more
+-- 1 to 256 places, 0 to 1,024 lanes, 1 to 32 carts, 0 to 256 narrow places, 0 to 8 groups: never more
 pub record Within (f : Floor) : Type 0 where
   pub places : f .places ≤ 256
   pub lanes : f .lanes ≤ 1024
   pub carts : f .carts ≤ 32
   pub narrow : f .narrow ≤ 256
+  pub groups : f .groups ≤ 8
 
 -- an accepted floor is within the limits
 pub accepted-within : (s : List ℕ) (f : Floor) → readFloor s ≡ Read f → Within f
@@ -115,17 +118,23 @@ accepted-within s f e =
       lanes = g .1 .0 .few (omega arith);
       carts = g .1 .1 .0 .few (omega arith);
       narrow = g .1 .1 .1 .0 .few (omega arith);
+      groups = g .1 .1 .1 .1 .0 .few (omega arith);
     }
 
 -- numbers of four bytes, written as bytes again
-bytes-left : (rs ts : List Record) → AllBytes (rs ++ ts) → AllBytes rs
-bytes-left [] ts h = tt
-bytes-left (r ∷ rs) ts h = (h .0, bytes-left rs ts (h .1))
+bodies-bytes : (k : ℕ) (rs : List Record) → AllBytes rs → All Bytes (bodiesOf k rs)
+unfolding bodiesOf
+bodies-bytes k [] h = tt
+bodies-bytes k (r ∷ rs) h = go (eqb (r .kind) k) (bodies-bytes k rs (h .1))
+  where
+    go : (b : Bool) → All Bytes (bodiesOf k rs) → All Bytes (cond b (r .body ∷ bodiesOf k rs) (bodiesOf k rs))
+    go true more = (h .0, more)
+    go false more = more
 
-words-again : (k : ℕ) (a : List (List ℕ)) → AllOf 4 a → AllBytes (map (ofKind k) a) → map (bytes 4) (map value a) ≡ a
-words-again k [] h b = refl
-words-again k (x ∷ a) h b =
-    ap₂ _∷_ (ap (λ (n : ℕ). bytes n (value x)) (sym (h .0)) ∙ bytes-value x (b .0)) (words-again k a (h .1) (b .1))
+words-again : (a : List (List ℕ)) → AllOf 4 a → All Bytes a → map (bytes 4) (map value a) ≡ a
+words-again [] h b = refl
+words-again (x ∷ a) h b =
+    ap₂ _∷_ (ap (λ (n : ℕ). bytes n (value x)) (sym (h .0)) ∙ bytes-value x (b .0)) (words-again a (h .1) (b .1))
 
 -- what was read writes back as the same bytes
 pub bytes-back : (s : List ℕ) (f : Floor) → Bytes s → readFloor s ≡ Read f → floorBytes (numbersOf s) ≡ s
@@ -137,12 +146,14 @@ bytes-back s f b e =
     let l = bodiesOf 2 rs in
     let c = bodiesOf 3 rs in
     let w = bodiesOf 6 rs in
-    let marks : AllBytes (map (ofKind 1) p) = bytes-left (map (ofKind 1) p) _ (subst AllBytes (o .1) (records-bytes s b)) in
-    let places : map (bytes 4) (map value p) ≡ p = words-again 1 p (g .0 .sizes) marks in
+    let t = bodiesOf 7 rs in
+    let each : (k : ℕ) → All Bytes (bodiesOf k rs) = λ k. bodies-bytes k rs (records-bytes s b) in
+    let places : map (bytes 4) (map value p) ≡ p = words-again p (g .0 .sizes) (each 1) in
     let lanes : parts 3 (flatten l) ≡ l = parts-flatten 3 l (omega arith) (g .1 .0 .sizes) in
     let carts : parts 2 (flatten c) ≡ c = parts-flatten 2 c (omega arith) (g .1 .1 .0 .sizes) in
     let narrow : parts 1 (flatten w) ≡ w = parts-flatten 1 w (omega arith) (g .1 .1 .1 .0 .sizes) in
-    let same : bodies (numbersIn rs) ≡ groupsOf kinds rs = rw (places, lanes, carts, narrow) refl in
+    let groups : map (bytes 4) (map value t) ≡ t = words-again t (g .1 .1 .1 .1 .0 .sizes) (each 7) in
+    let same : bodies (numbersIn rs) ≡ groupsOf kinds rs = rw (places, lanes, carts, narrow, groups) refl in
     ap (λ (x : List (List (List ℕ))). layout (inOrder kinds x)) same ∙ ap layout (sym (o .1)) ∙ layout-records s b (whole s f e .uncut)
 
 -- read, then written: the same bytes
@@ -153,14 +164,15 @@ written-again s f b e before =
     ap (λ (x : List ℕ). byReading (readFloor x) x before) (bytes-back s f b e) ∙ ap (λ (a : FloorAnswer). byReading a s before) e
 
 -- what is written reads back as the same numbers
-pub reads-back : (n : FloorNumbers) (before : List ℕ) (v : Verdict) (after : List ℕ) → Words (n .places) → Gives (writeFloor n before) v after
+pub reads-back : (n : FloorNumbers) (before : List ℕ) (v : Verdict) (after : List ℕ) → Words (n .places) → Words (n .groups)
+    → Gives (writeFloor n before) v after
     → (k : ℕ) → v ≡ Written k → (f : Floor) × (readFloor (take k after) ≡ Read f) × (numbersOf (take k after) ≡ n)
 unfolding writeFloor
-reads-back n before v after w g k e = go (readFloor (floorBytes n)) refl g
+reads-back n before v after w u g k e = go (readFloor (floorBytes n)) refl g
   where
     go : (a : FloorAnswer) → readFloor (floorBytes n) ≡ a → Gives (byReading a (floorBytes n) before) v after
         → (f : Floor) × (readFloor (take k after) ≡ Read f) × (numbersOf (take k after) ≡ n)
     go (Refused r) q g = absurd (about-floor r k (sym (g .answer) ∙ e))
     go (Read f) q g =
         let t : take k after ≡ floorBytes n = written-front AboutFloor about-floor (floorBytes n) before v after k g e in
-        (f, ap readFloor t ∙ q, ap numbersOf t ∙ numbers-written n w)
+        (f, ap readFloor t ∙ q, ap numbersOf t ∙ numbers-written n w u)

@@ -107,12 +107,13 @@ module _ (n : FloorNumbers) where
 
   pub length-floor : length (floorBytes n)
       ≡ 8 * length (n .places) + (length (n .lanes) + 4 * partCount 3 (length (n .lanes))
-      + (length (n .carts) + 4 * partCount 2 (length (n .carts)) + 5 * length (n .narrow)))
+      + (length (n .carts) + 4 * partCount 2 (length (n .carts)) + (5 * length (n .narrow) + 8 * length (n .groups))))
   length-floor =
       let p = length-words 1 (n .places) in
       let l = length-laid 2 3 (n .lanes) (omega arith) in
       let c = length-laid 3 2 (n .carts) (omega arith) in
       let w = length-laid 6 1 (n .narrow) (omega arith) in
+      let g = length-words 7 (n .groups) in
       let ones : partCount 1 (length (n .narrow)) ≡ length (n .narrow) = ap (λ (k : ℕ). k / 1) (add-zero (length (n .narrow))) ∙ div-one (length (n .narrow)) in
       omega (arith, length-kinds)
 

@@ -2,6 +2,8 @@
 use crate::Floor;
 use crate::RecordAnswer;
 ghost use mathlib.Core.Path.{_≡_};
+ghost use Prim.Native.Nat.{_^_};
+ghost use lib.Dec.{leb};
 ghost use Rattle.floor.specs.Floor.{judged};
 
 pub(crate) fn judge_place(f: Floor, body: &[u8]) -> RecordAnswer
@@ -16,6 +18,9 @@ pub(crate) fn judge_place(f: Floor, body: &[u8]) -> RecordAnswer
     if 0 < f.narrow {
         return RecordAnswer::Fault(3);
     }
+    if 0 < f.groups {
+        return RecordAnswer::Fault(3);
+    }
     if body.len() != 4 {
         return RecordAnswer::Fault(4);
     }
@@ -27,6 +32,7 @@ pub(crate) fn judge_place(f: Floor, body: &[u8]) -> RecordAnswer
         lanes: f.lanes,
         carts: f.carts,
         narrow: f.narrow,
+        groups: f.groups,
     })
 }
 
@@ -37,6 +43,9 @@ pub(crate) fn judge_lane(f: Floor, body: &[u8]) -> RecordAnswer
         return RecordAnswer::Fault(3);
     }
     if 0 < f.narrow {
+        return RecordAnswer::Fault(3);
+    }
+    if 0 < f.groups {
         return RecordAnswer::Fault(3);
     }
     if body.len() != 3 {
@@ -56,6 +65,7 @@ pub(crate) fn judge_lane(f: Floor, body: &[u8]) -> RecordAnswer
         lanes: f.lanes + 1,
         carts: f.carts,
         narrow: f.narrow,
+        groups: f.groups,
     })
 }
 
@@ -63,6 +73,9 @@ pub(crate) fn judge_cart(f: Floor, body: &[u8]) -> RecordAnswer
     ensures { λ r. ⌜ r ≡ judged f 3 (now (body .entry)) ⌝ }
 {
     if 0 < f.narrow {
+        return RecordAnswer::Fault(3);
+    }
+    if 0 < f.groups {
         return RecordAnswer::Fault(3);
     }
     if body.len() != 2 {
@@ -82,12 +95,16 @@ pub(crate) fn judge_cart(f: Floor, body: &[u8]) -> RecordAnswer
         lanes: f.lanes,
         carts: f.carts + 1,
         narrow: f.narrow,
+        groups: f.groups,
     })
 }
 
 pub(crate) fn judge_narrow(f: Floor, body: &[u8]) -> RecordAnswer
     ensures { λ r. ⌜ r ≡ judged f 6 (now (body .entry)) ⌝ }
 {
+    if 0 < f.groups {
+        return RecordAnswer::Fault(3);
+    }
     if body.len() != 1 {
         return RecordAnswer::Fault(4);
     }
@@ -103,6 +120,39 @@ pub(crate) fn judge_narrow(f: Floor, body: &[u8]) -> RecordAnswer
         lanes: f.lanes,
         carts: f.carts,
         narrow: f.narrow + 1,
+        groups: f.groups,
+    })
+}
+
+// Whether a group's word has a bit of an absent cart.
+fn has_absent(word: u32, carts: usize) -> bool
+    ensures { λ r. ⌜ r ≡ leb (2 ^ carts) word ⌝ }
+{
+    if 32 <= carts {
+        return false;
+    }
+    (1u64 << carts) <= (word as u64)
+}
+
+pub(crate) fn judge_group(f: Floor, body: &[u8]) -> RecordAnswer
+    ensures { λ r. ⌜ r ≡ judged f 7 (now (body .entry)) ⌝ }
+{
+    if body.len() != 4 {
+        return RecordAnswer::Fault(4);
+    }
+    if 8 <= f.groups {
+        return RecordAnswer::Fault(5);
+    }
+    let word = endian::number32(body[0], body[1], body[2], body[3]);
+    if has_absent(word, f.carts) {
+        return RecordAnswer::Fault(6);
+    }
+    RecordAnswer::Good(Floor {
+        places: f.places,
+        lanes: f.lanes,
+        carts: f.carts,
+        narrow: f.narrow,
+        groups: f.groups + 1,
     })
 }
 
@@ -121,6 +171,9 @@ pub(crate) fn judge(f: Floor, kind: u16, body: &[u8]) -> RecordAnswer
     }
     if kind == 6 {
         return judge_narrow(f, body);
+    }
+    if kind == 7 {
+        return judge_group(f, body);
     }
     RecordAnswer::Fault(3)
 }

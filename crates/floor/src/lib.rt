@@ -1,4 +1,4 @@
-// Floors: places, lanes, carts and narrow places.
+// Floors: places, lanes, carts, narrow places and groups.
 mod judging;
 mod offsets;
 mod reading;
@@ -6,6 +6,7 @@ mod words;
 mod writing;
 
 pub use offsets::cart_at;
+pub use offsets::group_at;
 pub use offsets::lane_at;
 pub use offsets::narrow_at;
 pub use reading::read;
@@ -13,12 +14,13 @@ pub use reading::verdict_of;
 use refusal::Refusal;
 pub use writing::write;
 
-// How many places, lanes, carts and narrow places a floor has. What they are stays in the file's bytes.
+// How many places, lanes, carts, narrow places and groups a floor has. What they are stays in the file's bytes.
 pub struct Floor {
     pub places: usize,
     pub lanes: usize,
     pub carts: usize,
     pub narrow: usize,
+    pub groups: usize,
 }
 
 // A record judged: the floor with it counted in, or the number of its refusal.

@@ -1,8 +1,10 @@
-// Where the records of a floor's lanes, carts and narrow places lie in its file.
+// Where the records of a floor's lanes, carts, narrow places and groups lie in its file.
 use crate::Floor;
 ghost use mathlib.Core.Path.{_≡_};
-ghost use Prim.Native.Nat.{_≤_};
-ghost use Rattle.floor.specs.Numbers.{laneAt, cartAt, narrowAt};
+ghost use Prim.Native.Nat.{_^_, _≤_, _<_};
+ghost use lib.ListN.{getD};
+ghost use Rattle.floor.specs.Numbers.{laneAt, cartAt, narrowAt, numbersOf};
+ghost use Rattle.floor.specs.Promises.{AcceptedFloor};
 
 // The offset of lane j's record.
 pub fn lane_at(f: Floor, j: usize) -> usize
@@ -26,4 +28,15 @@ pub fn narrow_at(f: Floor, i: usize) -> usize
     ensures { λ r. ⌜ r ≡ narrowAt f i ⌝ }
 {
     f.places * 8 + (f.lanes * 7 + (f.carts * 6 + i * 5))
+}
+
+// Group g of an accepted floor: bit n for cart n, and no bit of what is no cart.
+pub fn group_at(s: &[u8], f: Floor, g: usize) -> u32
+    requires { ⌜ AcceptedFloor (now s) f ⌝ }
+    requires { ⌜ g < f .groups ⌝ }
+    ensures { λ r. ⌜ r ≡ getD (numbersOf (now (s .entry)) .groups) g 0 ⌝ }
+    ensures { λ r. ⌜ r < 2 ^ f .carts ⌝ }
+{
+    let at = narrow_at(f, f.narrow) + g * 8 + 4;
+    endian::number32(s[at], s[at + 1], s[at + 2], s[at + 3])
 }

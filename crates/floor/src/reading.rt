@@ -3,6 +3,7 @@ use crate::Floor;
 use crate::FloorAnswer;
 use crate::RecordAnswer;
 use crate::judging::judge_cart;
+use crate::judging::judge_group;
 use crate::judging::judge_lane;
 use crate::judging::judge_narrow;
 use crate::judging::judge_place;
@@ -46,6 +47,9 @@ fn judge_found(f: Floor, kind: u16, body: &[u8]) -> RecordAnswer
     if kind == 6 {
         return judge_narrow(f, body);
     }
+    if kind == 7 {
+        return judge_group(f, body);
+    }
     RecordAnswer::Fault(3)
 }
 
@@ -61,6 +65,7 @@ pub fn read(s: &[u8]) -> FloorAnswer
         lanes: 0,
         carts: 0,
         narrow: 0,
+        groups: 0,
     };
     let mut at: usize = 0;
     loop {

@@ -15,10 +15,10 @@ returns c =
 returns-2 : tie.Need-returns-2
 unfolding judged
 returns-2 c =
-    let a = c .before .before .before .before .args in
+    let a = c .before .before .before .before .before .args in
     simp (
       le-ltb 0 (a .f .narrow) (omega arith),
-      ne-eqb (length (a .body .now)) 2 (λ e. omega arith),
+      lt-ltb 0 (a .f .groups) (omega arith),
     )
 
 returns-3 : tie.Need-returns-3
@@ -27,12 +27,9 @@ returns-3 c =
     let a = c .before .before .before .before .before .before .args in
     simp (
       le-ltb 0 (a .f .narrow) (omega arith),
-      eq-eqb (length (a .body .now)) 2 (omega arith),
-      le-leb 32 (a .f .carts) (omega arith),
+      le-ltb 0 (a .f .groups) (omega arith),
+      ne-eqb (length (a .body .now)) 2 (λ e. omega arith),
     )
-
-shared-slice-read-if4 : tie.Need-shared-slice-read-if4
-shared-slice-read-if4 c = search needs
 
 returns-4 : tie.Need-returns-4
 unfolding judged
@@ -40,6 +37,21 @@ returns-4 c =
     let a = c .before .before .before .before .before .before .before .before .args in
     simp (
       le-ltb 0 (a .f .narrow) (omega arith),
+      le-ltb 0 (a .f .groups) (omega arith),
+      eq-eqb (length (a .body .now)) 2 (omega arith),
+      le-leb 32 (a .f .carts) (omega arith),
+    )
+
+shared-slice-read-if5 : tie.Need-shared-slice-read-if5
+shared-slice-read-if5 c = search needs
+
+returns-5 : tie.Need-returns-5
+unfolding judged
+returns-5 c =
+    let a = c .before .before .before .before .before .before .before .before .before .before .args in
+    simp (
+      le-ltb 0 (a .f .narrow) (omega arith),
+      le-ltb 0 (a .f .groups) (omega arith),
       eq-eqb (length (a .body .now)) 2 (omega arith),
       lt-leb 32 (a .f .carts) (omega arith),
       lt-ltb 7 (getD (a .body .now) 0 0) (omega arith),
@@ -51,12 +63,13 @@ shared-slice-read-wide c = search needs
 wide-requires : tie.Need-wide-requires
 wide-requires c κs = search needs
 
-returns-5 : tie.Need-returns-5
+returns-6 : tie.Need-returns-6
 unfolding judged
-returns-5 c =
-    let a = c .before .before .before .before .before .before .before .before .before .before .before .before .args in
+returns-6 c =
+    let a = c .before .before .before .before .before .before .before .before .before .before .before .before .before .before .args in
     simp (
       le-ltb 0 (a .f .narrow) (omega arith),
+      le-ltb 0 (a .f .groups) (omega arith),
       eq-eqb (length (a .body .now)) 2 (omega arith),
       lt-leb 32 (a .f .carts) (omega arith),
       le-ltb 7 (getD (a .body .now) 0 0) (omega arith),
@@ -66,12 +79,13 @@ returns-5 c =
 add-t4 : tie.Need-add-t4
 add-t4 c = search needs
 
-returns-6 : tie.Need-returns-6
+returns-7 : tie.Need-returns-7
 unfolding judged
-returns-6 c =
-    let a = c .before .before .before .before .before .before .before .before .before .before .before .before .before .args in
+returns-7 c =
+    let a = c .before .before .before .before .before .before .before .before .before .before .before .before .before .before .before .args in
     simp (
       le-ltb 0 (a .f .narrow) (omega arith),
+      le-ltb 0 (a .f .groups) (omega arith),
       eq-eqb (length (a .body .now)) 2 (omega arith),
       lt-leb 32 (a .f .carts) (omega arith),
       le-ltb 7 (getD (a .body .now) 0 0) (omega arith),
@@ -85,10 +99,11 @@ judge-cart-spec =
     returns
     returns-2
     returns-3
-    shared-slice-read-if4
     returns-4
+    shared-slice-read-if5
+    returns-5
     shared-slice-read-wide
     wide-requires
-    returns-5
+    returns-6
     add-t4
-    returns-6)
+    returns-7)

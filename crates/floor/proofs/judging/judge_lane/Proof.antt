@@ -24,11 +24,11 @@ returns-2 c =
 returns-3 : tie.Need-returns-3
 unfolding judged
 returns-3 c =
-    let a = c .before .before .before .before .before .before .args in
+    let a = c .before .before .before .before .before .before .before .args in
     simp (
       le-ltb 0 (a .f .carts) (omega arith),
       le-ltb 0 (a .f .narrow) (omega arith),
-      ne-eqb (length (a .body .now)) 3 (λ e. omega arith),
+      lt-ltb 0 (a .f .groups) (omega arith),
     )
 
 returns-4 : tie.Need-returns-4
@@ -38,6 +38,18 @@ returns-4 c =
     simp (
       le-ltb 0 (a .f .carts) (omega arith),
       le-ltb 0 (a .f .narrow) (omega arith),
+      le-ltb 0 (a .f .groups) (omega arith),
+      ne-eqb (length (a .body .now)) 3 (λ e. omega arith),
+    )
+
+returns-5 : tie.Need-returns-5
+unfolding judged
+returns-5 c =
+    let a = c .before .before .before .before .before .before .before .before .before .before .args in
+    simp (
+      le-ltb 0 (a .f .carts) (omega arith),
+      le-ltb 0 (a .f .narrow) (omega arith),
+      le-ltb 0 (a .f .groups) (omega arith),
       eq-eqb (length (a .body .now)) 3 (omega arith),
       le-leb 1024 (a .f .lanes) (omega arith),
     )
@@ -48,13 +60,14 @@ shared-slice-read-wide c = search needs
 wide-requires : tie.Need-wide-requires
 wide-requires c κs = search needs
 
-returns-5 : tie.Need-returns-5
+returns-6 : tie.Need-returns-6
 unfolding judged
-returns-5 c =
-    let a = c .before .before .before .before .before .before .before .before .before .before .before .before .args in
+returns-6 c =
+    let a = c .before .before .before .before .before .before .before .before .before .before .before .before .before .before .args in
     simp (
       le-ltb 0 (a .f .carts) (omega arith),
       le-ltb 0 (a .f .narrow) (omega arith),
+      le-ltb 0 (a .f .groups) (omega arith),
       eq-eqb (length (a .body .now)) 3 (omega arith),
       lt-leb 1024 (a .f .lanes) (omega arith),
       le-leb (a .f .places) (getD (a .body .now) 0 0) (omega arith),
@@ -66,13 +79,15 @@ shared-slice-read-wide-2 c = search needs
 wide-requires-2 : tie.Need-wide-requires-2
 wide-requires-2 c κs = search needs
 
-returns-6 : tie.Need-returns-6
+returns-7 : tie.Need-returns-7
 unfolding judged
-returns-6 c =
-    let a = c .before .before .before .before .before .before .before .before .before .before .before .before .before .before .before .before .args in
+returns-7 c =
+    let b = c .before .before .before .before .before .before .before .before .before in
+    let a = b .before .before .before .before .before .before .before .before .before .args in
     simp (
       le-ltb 0 (a .f .carts) (omega arith),
       le-ltb 0 (a .f .narrow) (omega arith),
+      le-ltb 0 (a .f .groups) (omega arith),
       eq-eqb (length (a .body .now)) 3 (omega arith),
       lt-leb 1024 (a .f .lanes) (omega arith),
       lt-leb (a .f .places) (getD (a .body .now) 0 0) (omega arith),
@@ -82,13 +97,15 @@ returns-6 c =
 add-t4 : tie.Need-add-t4
 add-t4 c = search needs
 
-returns-7 : tie.Need-returns-7
+returns-8 : tie.Need-returns-8
 unfolding judged
-returns-7 c =
-    let a = c .before .before .before .before .before .before .before .before .before .before .before .before .before .before .before .before .before .args in
+returns-8 c =
+    let b = c .before .before .before .before .before .before .before .before .before .before in
+    let a = b .before .before .before .before .before .before .before .before .before .args in
     simp (
       le-ltb 0 (a .f .carts) (omega arith),
       le-ltb 0 (a .f .narrow) (omega arith),
+      le-ltb 0 (a .f .groups) (omega arith),
       eq-eqb (length (a .body .now)) 3 (omega arith),
       lt-leb 1024 (a .f .lanes) (omega arith),
       lt-leb (a .f .places) (getD (a .body .now) 0 0) (omega arith),
@@ -103,11 +120,12 @@ judge-lane-spec =
     returns-2
     returns-3
     returns-4
+    returns-5
     shared-slice-read-wide
     wide-requires
-    returns-5
+    returns-6
     shared-slice-read-wide-2
     wide-requires-2
-    returns-6
+    returns-7
     add-t4
-    returns-7)
+    returns-8)

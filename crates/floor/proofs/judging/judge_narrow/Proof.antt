@@ -1,5 +1,5 @@
 use native.Mathlib.Omega.{arith}
-use borrow.Author.Tests.{le-leb, lt-leb, eq-eqb, ne-eqb}
+use borrow.Author.Tests.{lt-ltb, le-ltb, le-leb, lt-leb, eq-eqb, ne-eqb}
 use lib.ListN.{length, getD}
 use Rattle.floor.specs.Floor.{judged}
 use borrow.Author.Needs.{needs}
@@ -9,14 +9,24 @@ use Rattle.floor.proofs.judging.judge_narrow.Tie as tie
 returns : tie.Need-returns
 unfolding judged
 returns c =
-    let a = c .before .before .args in
-    simp (ne-eqb (length (a .body .now)) 1 (λ e. omega arith))
+    let a = c .before .before .before .args in
+    simp (lt-ltb 0 (a .f .groups) (omega arith))
 
 returns-2 : tie.Need-returns-2
 unfolding judged
 returns-2 c =
     let a = c .before .before .before .before .args in
     simp (
+      le-ltb 0 (a .f .groups) (omega arith),
+      ne-eqb (length (a .body .now)) 1 (λ e. omega arith),
+    )
+
+returns-3 : tie.Need-returns-3
+unfolding judged
+returns-3 c =
+    let a = c .before .before .before .before .before .before .args in
+    simp (
+      le-ltb 0 (a .f .groups) (omega arith),
       eq-eqb (length (a .body .now)) 1 (omega arith),
       le-leb 256 (a .f .narrow) (omega arith),
     )
@@ -27,24 +37,26 @@ shared-slice-read-wide c = search needs
 wide-requires : tie.Need-wide-requires
 wide-requires c κs = search needs
 
-returns-3 : tie.Need-returns-3
+returns-4 : tie.Need-returns-4
 unfolding judged
-returns-3 c =
-    let a = c .before .before .before .before .before .before .before .before .args in
+returns-4 c =
+    let a = c .before .before .before .before .before .before .before .before .before .before .args in
     simp (
+      le-ltb 0 (a .f .groups) (omega arith),
       eq-eqb (length (a .body .now)) 1 (omega arith),
       lt-leb 256 (a .f .narrow) (omega arith),
       le-leb (a .f .places) (getD (a .body .now) 0 0) (omega arith),
     )
 
-add-t4 : tie.Need-add-t4
-add-t4 c = search needs
+add-t5 : tie.Need-add-t5
+add-t5 c = search needs
 
-returns-4 : tie.Need-returns-4
+returns-5 : tie.Need-returns-5
 unfolding judged
-returns-4 c =
-    let a = c .before .before .before .before .before .before .before .before .before .args in
+returns-5 c =
+    let a = c .before .before .before .before .before .before .before .before .before .before .before .args in
     simp (
+      le-ltb 0 (a .f .groups) (omega arith),
       eq-eqb (length (a .body .now)) 1 (omega arith),
       lt-leb 256 (a .f .narrow) (omega arith),
       lt-leb (a .f .places) (getD (a .body .now) 0 0) (omega arith),
@@ -53,4 +65,4 @@ returns-4 c =
 pub judge-narrow-spec : {M : Type 1} → statement M
 judge-narrow-spec =
     tie.close
-    (tie.spec returns returns-2 shared-slice-read-wide wide-requires returns-3 add-t4 returns-4)
+    (tie.spec returns returns-2 returns-3 shared-slice-read-wide wide-requires returns-4 add-t5 returns-5)

@@ -34,12 +34,12 @@ returns-3 c =
 returns-4 : tie.Need-returns-4
 unfolding judged
 returns-4 c =
-    let a = c .before .before .before .before .before .before .before .args in
+    let a = c .before .before .before .before .before .before .before .before .args in
     simp (
       le-ltb 0 (a .f .lanes) (omega arith),
       le-ltb 0 (a .f .carts) (omega arith),
       le-ltb 0 (a .f .narrow) (omega arith),
-      ne-eqb (length (a .body .now)) 4 (λ e. omega arith),
+      lt-ltb 0 (a .f .groups) (omega arith),
     )
 
 returns-5 : tie.Need-returns-5
@@ -50,6 +50,19 @@ returns-5 c =
       le-ltb 0 (a .f .lanes) (omega arith),
       le-ltb 0 (a .f .carts) (omega arith),
       le-ltb 0 (a .f .narrow) (omega arith),
+      le-ltb 0 (a .f .groups) (omega arith),
+      ne-eqb (length (a .body .now)) 4 (λ e. omega arith),
+    )
+
+returns-6 : tie.Need-returns-6
+unfolding judged
+returns-6 c =
+    let a = c .before .before .before .before .before .before .before .before .before .before .before .args in
+    simp (
+      le-ltb 0 (a .f .lanes) (omega arith),
+      le-ltb 0 (a .f .carts) (omega arith),
+      le-ltb 0 (a .f .narrow) (omega arith),
+      le-ltb 0 (a .f .groups) (omega arith),
       eq-eqb (length (a .body .now)) 4 (omega arith),
       le-leb 256 (a .f .places) (omega arith),
     )
@@ -57,18 +70,19 @@ returns-5 c =
 add-t4 : tie.Need-add-t4
 add-t4 c = search needs
 
-returns-6 : tie.Need-returns-6
+returns-7 : tie.Need-returns-7
 unfolding judged
-returns-6 c =
-    let a = c .before .before .before .before .before .before .before .before .before .before .args in
+returns-7 c =
+    let a = c .before .before .before .before .before .before .before .before .before .before .before .before .args in
     simp (
       le-ltb 0 (a .f .lanes) (omega arith),
       le-ltb 0 (a .f .carts) (omega arith),
       le-ltb 0 (a .f .narrow) (omega arith),
+      le-ltb 0 (a .f .groups) (omega arith),
       eq-eqb (length (a .body .now)) 4 (omega arith),
       lt-leb 256 (a .f .places) (omega arith),
     )
 
 pub judge-place-spec : {M : Type 1} → statement M
 judge-place-spec =
-    tie.close (tie.spec returns returns-2 returns-3 returns-4 returns-5 add-t4 returns-6)
+    tie.close (tie.spec returns returns-2 returns-3 returns-4 returns-5 returns-6 add-t4 returns-7)
