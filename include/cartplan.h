@@ -3,8 +3,8 @@
  * A buffer is lent as a pointer and a length; a null pointer with length 0 is an empty buffer. Nothing is kept after a call
  * returns, nothing is allocated, and no call needs an earlier one. A refusal changes no byte of any buffer.
  *
- * What the caller answers for, since nothing can check it: each pointer is valid for its length, `places` is aligned as a
- * uint32_t, nothing else writes to the buffers during a call, and a buffer that is written to (`out`, the plan of a
+ * What the caller answers for, since nothing can check it: each pointer is valid for its length, `places` and `groups`
+ * are aligned as uint32_t, nothing else writes to the buffers during a call, and a buffer that is written to (`out`, the plan of a
  * replacement) overlaps no other buffer of the call. And h, l, d and s are 16-bit: C narrows a larger argument without a word, so
  * that a drift of 65,536 arrives here as 0.
  */
@@ -35,13 +35,14 @@ struct cartplan_verdict cartplan_read_plan(const uint8_t *floor, size_t floor_le
 
 /* Writes a floor to out: a place for each number of places (its 32 marks, m0 lowest), a lane for each three bytes of lanes
  * (from, to, classes), a cart for each two bytes of carts (class, start), a narrow place for each byte of narrow (the place; the
- * same one may stand twice). Bytes of out past the result stay. Numbers that no floor can hold are refused as reading them would
- * be, at the offset that they would have in the file; bytes left over in lanes or carts are a record of wrong body length (4).
- * Then 18 with the length needed, if out is shorter. */
+ * same one may stand twice), a group for each number of groups (bit n for cart n; it may be empty). Bytes of out past the result
+ * stay. Numbers that no floor can hold are refused as reading them would be, at the offset that they would have in the file;
+ * bytes left over in lanes or carts are a record of wrong body length (4). Then 18 with the length needed, if out is shorter. */
 struct cartplan_verdict cartplan_write_floor(const uint32_t *places, size_t place_count,
                                              const uint8_t *lanes, size_t lanes_len,
                                              const uint8_t *carts, size_t carts_len,
                                              const uint8_t *narrow, size_t narrow_len,
+                                             const uint32_t *groups, size_t group_count,
                                              uint8_t *out, size_t out_len);
 
 /* Writes a plan for a floor to out: its head (h steps, first step l of the lap, drift d) and a row for each h bytes of rows.

@@ -31,12 +31,13 @@ pub extern "C" fn cartplan_write_floor(
     lanes: &[u8],
     carts: &[u8],
     narrow: &[u8],
+    groups: &[u32],
     out: &mut [u8],
 ) -> Code
-    ensures { λ c. ⌜ FloorWrittenCode (numbers (now (places .entry)) (now (lanes .entry)) (now (carts .entry)) (now (narrow .entry)))
+    ensures { λ c. ⌜ FloorWrittenCode (numbers (now (places .entry)) (now (lanes .entry)) (now (carts .entry)) (now (narrow .entry)) (now (groups .entry)))
         (now (out .entry)) c (now (out .exit)) ⌝ }
 {
-    refusal::code_of(floor::write(places, lanes, carts, narrow, out))
+    refusal::code_of(floor::write(places, lanes, carts, narrow, groups, out))
 }
 
 // Writes a plan for a floor.

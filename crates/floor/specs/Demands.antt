@@ -1,5 +1,5 @@
 -- What the promises of reading and writing a floor give: a reader of them alone can conclude this.
-use Prim.Native.Nat.{ℕ, _+_, _*_, _^_, _≤_, _<_}
+use Prim.Native.Nat.{ℕ, _+_, _*_, _/_, _%_, _^_, _≤_, _<_}
 use native.Mathlib.Nat.{add-zero}
 use native.Mathlib.Omega.{arith}
 use mathlib.Core.Path.{_≡_, refl, sym, ap, subst, _∙_}
@@ -19,6 +19,7 @@ use Rattle.floor.specs.Floor.{readFloor, floorVerdict}
 use Rattle.floor.specs.Numbers.{FloorNumbers, floorBytes, numbersOf, placeAt, laneAt, cartAt, narrowAt, groupAt, bodyAt, writeFloor}
 use Rattle.floor.specs.Valid.{ValidFloor}
 use Rattle.floor.specs.Promises.{FloorRead, FloorWritten}
+use Rattle.floor.specs.Absent.{only-present}
 use Rattle.floor.specs.declared.Floor.{Floor}
 use Rattle.floor.specs.declared.FloorAnswer.{FloorAnswer}
 use Rattle.floor.specs.declared.FloorAnswer.the-variants.{Read, Refused}
@@ -59,6 +60,9 @@ module _ (s : List ℕ) (r : FloorAnswer) (w : FloorRead s r) where
 
     pub group-carts : (g : ℕ) → g < f .groups → value (bodyAt 4 (groupAt f g) s) < 2 ^ f .carts
     group-carts g l = let a = w .accepted f e in rw (a .group g l) (a .valid .group-there g l)
+
+    pub group-present : (g n : ℕ) → g < f .groups → f .carts ≤ n → value (bodyAt 4 (groupAt f g) s) / 2 ^ n % 2 ≡ 0
+    group-present g n l m = only-present (f .carts) _ n (group-carts g l) m
 
     -- its numbers, written to a buffer with room, are its bytes again, and the rest of the buffer stays
     pub read-then-write : (before : List ℕ) (v : Verdict) (after : List ℕ) → FloorWritten (numbersOf s) before v after → length s ≤ length before

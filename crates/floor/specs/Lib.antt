@@ -15,6 +15,7 @@ pub mod Located
 pub mod Fitting
 pub mod Complete
 pub mod Refusing
+pub mod Absent
 pub mod Demands
 -- worked cases
 pub mod Examples

@@ -2,23 +2,22 @@
 use crate::Floor;
 use crate::RecordAnswer;
 ghost use mathlib.Core.Path.{_≡_};
+ghost use mathlib.Core.List.{[], _∷_};
 ghost use Prim.Native.Nat.{_^_};
 ghost use lib.Dec.{leb};
-ghost use Rattle.floor.specs.Floor.{judged};
+ghost use Rattle.floor.specs.Floor.{seen, judged};
+
+// Whether a record is counted of the kinds behind the places. Joined, one test takes fewer instructions than one each.
+fn any_counted(lanes: usize, carts: usize, narrow: usize, groups: usize) -> bool
+    ensures { λ r. ⌜ r ≡ seen (lanes ∷ carts ∷ narrow ∷ groups ∷ []) ⌝ }
+{
+    (lanes | carts | narrow | groups) != 0
+}
 
 pub(crate) fn judge_place(f: Floor, body: &[u8]) -> RecordAnswer
     ensures { λ r. ⌜ r ≡ judged f 1 (now (body .entry)) ⌝ }
 {
-    if 0 < f.lanes {
-        return RecordAnswer::Fault(3);
-    }
-    if 0 < f.carts {
-        return RecordAnswer::Fault(3);
-    }
-    if 0 < f.narrow {
-        return RecordAnswer::Fault(3);
-    }
-    if 0 < f.groups {
+    if any_counted(f.lanes, f.carts, f.narrow, f.groups) {
         return RecordAnswer::Fault(3);
     }
     if body.len() != 4 {
@@ -39,13 +38,7 @@ pub(crate) fn judge_place(f: Floor, body: &[u8]) -> RecordAnswer
 pub(crate) fn judge_lane(f: Floor, body: &[u8]) -> RecordAnswer
     ensures { λ r. ⌜ r ≡ judged f 2 (now (body .entry)) ⌝ }
 {
-    if 0 < f.carts {
-        return RecordAnswer::Fault(3);
-    }
-    if 0 < f.narrow {
-        return RecordAnswer::Fault(3);
-    }
-    if 0 < f.groups {
+    if any_counted(0, f.carts, f.narrow, f.groups) {
         return RecordAnswer::Fault(3);
     }
     if body.len() != 3 {
@@ -72,10 +65,7 @@ pub(crate) fn judge_lane(f: Floor, body: &[u8]) -> RecordAnswer
 pub(crate) fn judge_cart(f: Floor, body: &[u8]) -> RecordAnswer
     ensures { λ r. ⌜ r ≡ judged f 3 (now (body .entry)) ⌝ }
 {
-    if 0 < f.narrow {
-        return RecordAnswer::Fault(3);
-    }
-    if 0 < f.groups {
+    if any_counted(0, 0, f.narrow, f.groups) {
         return RecordAnswer::Fault(3);
     }
     if body.len() != 2 {

@@ -64,7 +64,7 @@ pub plans :
     × (verdict (two ++ (2 ∷ 0 ∷ 5 ∷ 0 ∷ 0 ∷ 0 ∷ [])) ≡ AboutPlan (refused 4 20 0))
     × (verdict (two ++ row 2) ≡ AboutPlan (refused 5 20 0))
     × (verdict two ≡ Accepted)
-    × (readPlan (record { places = 2; lanes = 0; carts = 2; narrow = 0 }) two ≡ accepted (record { head = headOf 1 0 0; rows = (0 ∷ []) ∷ (1 ∷ []) ∷ [] }))
+    × (readPlan (record { places = 2; lanes = 0; carts = 2; narrow = 0; groups = 0 }) two ≡ accepted (record { head = headOf 1 0 0; rows = (0 ∷ []) ∷ (1 ∷ []) ∷ [] }))
 unfolding computing
 plans = (refl, refl, refl, refl, refl, refl, refl, refl, refl, refl, refl, refl, refl, refl, refl, refl, refl)
 

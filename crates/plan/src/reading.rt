@@ -30,6 +30,7 @@ fn refuse(verdict: Verdict) -> PlanRead
             lanes: 0,
             carts: 0,
             narrow: 0,
+            groups: 0,
         },
         plan: Plan {
             head: Head {

@@ -9,18 +9,14 @@ use Rattle.record.specs.Parts.{parts}
 use Rattle.record.specs.Laid.{part-of, whole-parts}
 use Rattle.floor.specs.Numbers.{numbersOf, laneAt, cartAt, bodyAt}
 use Rattle.floor.specs.Promises.{AcceptedFloor}
-use Rattle.floor.specs.Walk.{length-floor}
+use Rattle.floor.specs.Located.{accepted-length}
 use Rattle.floor.specs.declared.Floor.{Floor}
 use Rattle.row.specs.Moves.{lanesIn, cartsIn}
 
 module _ (s : List ℕ) (f : Floor) (w : AcceptedFloor s f) where
   -- the file is at least as long as its places, lanes and carts
   pub file-length : 8 * f .places + (7 * f .lanes + 6 * f .carts) ≤ length s
-  file-length =
-      let v = w .valid in
-      let a = ap length (w .writes-back) in
-      let b = length-floor (numbersOf s) in
-      omega (arith, v .places, v .lanes, v .carts)
+  file-length = omega (arith, accepted-length s f w)
 
   pub lane-count : length (lanesIn s) ≡ f .lanes
   lane-count = whole-parts 3 (omega arith) (λ x. Unit {0}) (f .lanes) (numbersOf s .lanes) (w .valid .lanes) (λ j h. tt) .0

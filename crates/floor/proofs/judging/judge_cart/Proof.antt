@@ -1,4 +1,5 @@
 use native.Mathlib.Omega.{arith}
+use mathlib.Core.Path.{sym, _∙_}
 use borrow.Author.Tests.{lt-ltb, le-ltb, le-leb, lt-leb, eq-eqb, ne-eqb}
 use lib.ListN.{length, getD}
 use Rattle.floor.specs.Floor.{judged}
@@ -6,19 +7,22 @@ use borrow.Author.Needs.{needs}
 use Rattle.floor.proofs.judging.judge_cart.Statement.{statement}
 use Rattle.floor.proofs.judging.judge_cart.Tie as tie
 
+any-counted-requires : tie.Need-any-counted-requires
+any-counted-requires c κs = search needs
+
 returns : tie.Need-returns
 unfolding judged
 returns c =
     let a = c .before .before .before .args in
-    simp (lt-ltb 0 (a .f .narrow) (omega arith))
+    simp (sym (c .before .any-counted .ensures) ∙ c .if1 .taken)
 
 returns-2 : tie.Need-returns-2
 unfolding judged
 returns-2 c =
-    let a = c .before .before .before .before .before .args in
+    let a = c .before .before .before .before .args in
     simp (
-      le-ltb 0 (a .f .narrow) (omega arith),
-      lt-ltb 0 (a .f .groups) (omega arith),
+      sym (c .before .before .any-counted .ensures) ∙ c .before .if1 .left,
+      ne-eqb (length (a .body .now)) 2 (λ e. omega arith),
     )
 
 returns-3 : tie.Need-returns-3
@@ -26,32 +30,20 @@ unfolding judged
 returns-3 c =
     let a = c .before .before .before .before .before .before .args in
     simp (
-      le-ltb 0 (a .f .narrow) (omega arith),
-      le-ltb 0 (a .f .groups) (omega arith),
-      ne-eqb (length (a .body .now)) 2 (λ e. omega arith),
+      sym (c .before .before .before .before .any-counted .ensures) ∙ c .before .before .before .if1 .left,
+      eq-eqb (length (a .body .now)) 2 (omega arith),
+      le-leb 32 (a .f .carts) (omega arith),
     )
+
+shared-slice-read-if4 : tie.Need-shared-slice-read-if4
+shared-slice-read-if4 c = search needs
 
 returns-4 : tie.Need-returns-4
 unfolding judged
 returns-4 c =
     let a = c .before .before .before .before .before .before .before .before .args in
     simp (
-      le-ltb 0 (a .f .narrow) (omega arith),
-      le-ltb 0 (a .f .groups) (omega arith),
-      eq-eqb (length (a .body .now)) 2 (omega arith),
-      le-leb 32 (a .f .carts) (omega arith),
-    )
-
-shared-slice-read-if5 : tie.Need-shared-slice-read-if5
-shared-slice-read-if5 c = search needs
-
-returns-5 : tie.Need-returns-5
-unfolding judged
-returns-5 c =
-    let a = c .before .before .before .before .before .before .before .before .before .before .args in
-    simp (
-      le-ltb 0 (a .f .narrow) (omega arith),
-      le-ltb 0 (a .f .groups) (omega arith),
+      sym (c .before .before .before .before .before .before .any-counted .ensures) ∙ c .before .before .before .before .before .if1 .left,
       eq-eqb (length (a .body .now)) 2 (omega arith),
       lt-leb 32 (a .f .carts) (omega arith),
       lt-ltb 7 (getD (a .body .now) 0 0) (omega arith),
@@ -63,13 +55,12 @@ shared-slice-read-wide c = search needs
 wide-requires : tie.Need-wide-requires
 wide-requires c κs = search needs
 
-returns-6 : tie.Need-returns-6
+returns-5 : tie.Need-returns-5
 unfolding judged
-returns-6 c =
-    let a = c .before .before .before .before .before .before .before .before .before .before .before .before .before .before .args in
+returns-5 c =
+    let a = c .before .before .before .before .before .before .before .before .before .before .before .before .args in
     simp (
-      le-ltb 0 (a .f .narrow) (omega arith),
-      le-ltb 0 (a .f .groups) (omega arith),
+      sym (c .before .before .before .before .before .before .before .before .before .before .any-counted .ensures) ∙ c .before .before .before .before .before .before .before .before .before .if1 .left,
       eq-eqb (length (a .body .now)) 2 (omega arith),
       lt-leb 32 (a .f .carts) (omega arith),
       le-ltb 7 (getD (a .body .now) 0 0) (omega arith),
@@ -79,13 +70,12 @@ returns-6 c =
 add-t4 : tie.Need-add-t4
 add-t4 c = search needs
 
-returns-7 : tie.Need-returns-7
+returns-6 : tie.Need-returns-6
 unfolding judged
-returns-7 c =
-    let a = c .before .before .before .before .before .before .before .before .before .before .before .before .before .before .before .args in
+returns-6 c =
+    let a = c .before .before .before .before .before .before .before .before .before .before .before .before .before .args in
     simp (
-      le-ltb 0 (a .f .narrow) (omega arith),
-      le-ltb 0 (a .f .groups) (omega arith),
+      sym (c .before .before .before .before .before .before .before .before .before .before .before .any-counted .ensures) ∙ c .before .before .before .before .before .before .before .before .before .before .if1 .left,
       eq-eqb (length (a .body .now)) 2 (omega arith),
       lt-leb 32 (a .f .carts) (omega arith),
       le-ltb 7 (getD (a .body .now) 0 0) (omega arith),
@@ -96,14 +86,14 @@ pub judge-cart-spec : {M : Type 1} → statement M
 judge-cart-spec =
     tie.close
     (tie.spec
+    any-counted-requires
     returns
     returns-2
     returns-3
+    shared-slice-read-if4
     returns-4
-    shared-slice-read-if5
-    returns-5
     shared-slice-read-wide
     wide-requires
-    returns-6
+    returns-5
     add-t4
-    returns-7)
+    returns-6)
