@@ -11,7 +11,8 @@ use Rattle.grammar.specs.Grammar.{Counted, Clause}
 use Rattle.row.specs.Lasso.{stepOf}
 use Rattle.row.specs.Round.{pick, step-low, step-below, step-from, step-lap}
 use Rattle.cltl.specs.Meaning.{Rows, Proper}
-use Rattle.cltl.specs.Rules.{tally, every, window, throughout, quorum, judge, leaves, asked, text, count, slack, someText, joint, joined, rules}
+use Rattle.cltl.specs.Counting.{tally, every}
+use Rattle.cltl.specs.Rules.{window, throughout, quorum, judge, leaves, asked, text, count, slack, someText, uniform, joint, joined, rules}
 use Rattle.cltl.specs.Running.{back, walk, lapCount, runningCount, countRead, jointRead, rulesRead}
 use Rattle.cltl.specs.Basics.{and-l, and-r, and-i, bool-ext}
 use Rattle.cltl.specs.Tally.{every-at, every-of, every-agrees}
@@ -191,8 +192,8 @@ module _ (P : Rows) (proper : Proper P) (d : ℕ) (few : d ≤ 16) where
 
   joint-read : (xs : List (Bool × Counted)) (s : ℕ) → jointRead P d xs s ≡ joint P d xs s
   unfolding jointRead joint
-  joint-read [] s = refl
-  joint-read (x ∷ xs) s = ap (ltb (slack P (x ∷ xs))) (sym (throughout-above (P .h) (P .l) (proper .lap) (P .carts) d few (someText P (x ∷ xs)) s))
+  joint-read xs s =
+      ap (λ (n : ℕ). uniform P xs && ltb (slack P xs) n) (sym (throughout-above (P .h) (P .l) (proper .lap) (P .carts) d few (someText P xs) s))
 
   pub rules-read : (c : Clause) (s : ℕ) → rulesRead P d c s ≡ rules P d c s
   unfolding rulesRead rules joined

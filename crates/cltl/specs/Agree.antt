@@ -5,7 +5,8 @@ use mathlib.Core.Bool.{Bool, _&&_, _||_}
 use native.Mathlib.Omega.{arith}
 use native.Mathlib.Nat.{le-refl}
 use lib.Dec.{leb, eqb}
-use Rattle.cltl.specs.Rules.{tally, throughout, quorum}
+use Rattle.cltl.specs.Counting.{tally}
+use Rattle.cltl.specs.Rules.{throughout, quorum}
 use Rattle.cltl.specs.Step.{lowest}
 use Rattle.cltl.specs.Quorum.{window-cong}
 use Rattle.cltl.specs.Tally.{every-agrees}

@@ -7,17 +7,18 @@ use native.Mathlib.Omega.{arith}
 use native.Mathlib.Nat.{eq-or-lt-of-le, le-refl}
 use lib.Dec.{T, eqb, eqb→eq, T-not}
 use lib.Ieee.Fits.{eq→eqb}
-use Rattle.grammar.specs.Grammar.{Inner, Counted, amount, counted}
+use Rattle.grammar.specs.Grammar.{Inner, Over, amount, Counted, counted}
 use Rattle.row.specs.Lasso.{stepOf}
-use Rattle.row.specs.Round.{step-low, step-below}
+use Rattle.row.specs.Round.{step-low}
 use Rattle.cltl.specs.Threshold.{threshold, quota}
-use Rattle.cltl.specs.Meaning.{Rows, Proper, AtLeast, Run, Satisfies, Counts}
-use Rattle.cltl.specs.Rules.{tally, every, window, throughout, quorum, inner, count}
+use Rattle.cltl.specs.Meaning.{Rows, Proper, AtLeast, Run, Satisfies, among, size, Counts}
+use Rattle.cltl.specs.Counting.{tally, every}
+use Rattle.cltl.specs.Rules.{window, throughout, quorum, text, count}
 use Rattle.cltl.specs.Basics.{lt-or-le, T-or-not}
 use Rattle.cltl.specs.Broken.{Val, Broken}
-use Rattle.cltl.specs.Inner.{inner-sound, inner-opp}
+use Rattle.cltl.specs.Members.{size-tally, text-exact, text-split}
 use Rattle.cltl.specs.Quorum.{throughout-quorum, all-quorum}
-use Rattle.cltl.specs.Tally.{every-at, tally-mono, tally-not, tally-least, tally-most, at-least-map}
+use Rattle.cltl.specs.Tally.{every-at, tally-mono, tally-least, tally-among, at-least-map}
 use Rattle.cltl.specs.Standing.{Standing, highest, gather, gathered}
 
 -- a number below n that passes the test, or none does
@@ -149,35 +150,43 @@ module _ (h l carts d m : ℕ) (some : 0 < carts) (f : ℕ → ℕ → Bool) (s 
 
 module _ (P : Rows) (proper : Proper P) (d : ℕ) where
   -- fewer than its threshold satisfy the text, or its negation: the count is broken, or holds
-  module _ (a : Inner) (m : ℕ) (K : ℕ → ℕ) where
+  module _ (a : Inner) (k : ℕ) (percent : Bool) (o : Over) (K : ℕ → ℕ) where
+    abbrev x : Counted
+    x = counted a (amount k percent o)
+
+    abbrev m : ℕ
+    m = threshold k percent (size P o)
+
+    -- those of a standing
+    abbrev Here : ℕ → Type 0
+    Here i = T (among P o i) × Satisfies P i a (K i)
+
     abbrev yes : Bool → ℕ
-    yes p = tally (λ i. inner P i p a (stepOf (P .h) (P .l) (K i))) (P .carts)
+    yes p = tally (λ i. text P i (p, x) (stepOf (P .h) (P .l) (K i))) (P .carts)
 
-    both : yes false + yes true ≡ P .carts
-    both = tally-not _ _ (λ i. inner-opp P proper i a (stepOf (P .h) (P .l) (K i)) (step-below (P .h) (P .l) (proper .lap) (K i))) (P .carts)
-
-    few-hold : (p : Bool) → yes p < quota p m (P .carts) → Val (not p) (AtLeast (λ i. Satisfies P i a (K i)) m (P .carts))
+    few-hold : (p : Bool) → yes p < quota p m (size P o) → Val (not p) (AtLeast Here m (P .carts))
     unfolding quota
-    few-hold true x =
+    few-hold true few =
         λ many.
-        let b = tally-most (λ i. inner P i false a (stepOf (P .h) (P .l) (K i))) _ (P .carts) (λ i _ t. inner-sound P proper i false a (K i) t) m many in
-        let c = both in
+        let b =
+        tally-among (λ i. text P i (false, x) (stepOf (P .h) (P .l) (K i))) (among P o) Here (P .carts)
+        (λ i _ t. let u = text-exact P proper i (false, x) (K i) .0 t in (u .0, λ w. u .1 (w .1))) (λ i _ w. w .0) m many in
+        let c = text-split P proper x a k percent o refl K in
+        let e = size-tally P o in
         omega arith
-    few-hold false x =
-        let c = both in
-        tally-least (λ i. inner P i true a (stepOf (P .h) (P .l) (K i))) _ (P .carts) (λ i _ t. inner-sound P proper i true a (K i) t) m (omega arith)
+    few-hold false few =
+        let c = text-split P proper x a k percent o refl K in
+        tally-least (λ i. text P i (true, x) (stepOf (P .h) (P .l) (K i))) Here (P .carts) (λ i _ t. text-exact P proper i (true, x) (K i) .0 t) m (omega arith)
 
-  same-standing : (p : Bool) (a : Inner) (k : ℕ) (percent : Bool) (K : ℕ → ℕ) (r : Run (P .carts) d) (t : ℕ) → ((i : ℕ) → i < P .carts → r .at t i ≡ K i)
-      → Val p (AtLeast (λ i. Satisfies P i a (K i)) (threshold k percent (P .carts)) (P .carts)) → Val p (Counts P (r .at) (counted a (amount k percent)) t)
-  same-standing true a k percent K r t e x =
-      at-least-map _ _ (P .carts) (λ i p. subst (λ (v : ℕ). Satisfies P i a v) (sym (e i p))) (threshold k percent (P .carts)) x
-  same-standing false a k percent K r t e x =
-      λ y. x (at-least-map _ _ (P .carts) (λ i p. subst (λ (v : ℕ). Satisfies P i a v) (e i p)) (threshold k percent (P .carts)) y)
+    same-standing : (p : Bool) (r : Run (P .carts) d) (t : ℕ) → ((i : ℕ) → i < P .carts → r .at t i ≡ K i) → Val p (AtLeast Here m (P .carts))
+        → Val p (Counts P (r .at) x t)
+    same-standing true r t e y = at-least-map Here _ (P .carts) (λ i p w. (w .0, subst (λ (v : ℕ). Satisfies P i a v) (sym (e i p)) (w .1))) m y
+    same-standing false r t e y = λ z. y (at-least-map _ Here (P .carts) (λ i p w. (w .0, subst (λ (v : ℕ). Satisfies P i a v) (e i p) (w .1))) m z)
 
   pub count-complete : (p : Bool) (x : Counted) (s : ℕ) → s < P .h → (T (count P d p x s) → ⊥) → Broken P d p x s
   unfolding count
-  count-complete p (counted a (amount k percent)) s low broken =
-      let b = breaks (P .h) (P .l) (P .carts) d _ (proper .some) (λ i. inner P i p a) s low broken in
+  count-complete p (counted a (amount k percent o)) s low broken =
+      let b = breaks (P .h) (P .l) (P .carts) d _ (proper .some) (λ i. text P i (p, counted a (amount k percent o))) s low broken in
       let K : ℕ → ℕ = b .0 .counter in
       let spread : (i j : ℕ) → i < P .carts → j < P .carts → K i ≤ K j + d = (λ i j p q. let x = b .0 .ahead i p in let y = b .0 .behind j q in omega arith) in
       let e = gathered (P .carts) d K spread in
@@ -187,7 +196,5 @@ module _ (P : Rows) (proper : Proper P) (d : ℕ) where
         moment = highest K (P .carts);
         behind = λ i q. subst (λ (v : ℕ). s ≤ v) (sym (e i q)) (b .0 .behind i q);
         last = (z .0, z .1, e (z .0) (z .1) ∙ z .2);
-        other =
-            same-standing (not p) a k percent K (gather (P .carts) d K spread) (highest K (P .carts)) e
-            (few-hold a (threshold k percent (P .carts)) K p (b .1));
+        other = same-standing a k percent o K (not p) (gather (P .carts) d K spread) (highest K (P .carts)) e (few-hold a k percent o K p (b .1));
       }

@@ -1,50 +1,49 @@
 -- Without drift the rules are exactly truth in step, "next" included.
 use Prim.Native.Nat.{ℕ, _+_, _-_, _≤_, _<_}
-use mathlib.Core.Path.{_≡_, sym, ap, subst, _∙_}
+use mathlib.Core.Path.{_≡_, refl, sym, ap, subst, _∙_}
 use mathlib.Core.Bool.{Bool, true, false, not, Bool·not-not}
 use mathlib.Core.Logic.{_⊎_, ⊎-elim, _↔_}
 use native.Mathlib.Omega.{arith}
 use lib.Dec.{T}
-use Rattle.grammar.specs.Grammar.{Inner, Counted, amount, counted, Clause}
+use Rattle.grammar.specs.Grammar.{amount, Counted, counted, Clause}
 use Rattle.row.specs.Lasso.{stepOf}
-use Rattle.row.specs.Round.{step-below}
+use Rattle.row.specs.Round.{step-low, step-below}
 use Rattle.cltl.specs.Threshold.{threshold, quota}
-use Rattle.cltl.specs.Meaning.{Rows, Proper, inStep, Counts, InStepAt}
-use Rattle.cltl.specs.Rules.{tally, judge, nothing, leaves, inner, asked, text, count, someText, joined, rules, plainRules}
+use Rattle.cltl.specs.Meaning.{Rows, Proper, inStep, size, Counts, InStepAt}
+use Rattle.cltl.specs.Counting.{tally}
+use Rattle.cltl.specs.Rules.{judge, nothing, leaves, asked, text, count, someText, joined, rules, plainRules}
 use Rattle.cltl.specs.Basics.{lt-or-le, bool-opp}
 use Rattle.cltl.specs.Broken.{Val}
 use Rattle.cltl.specs.Operators.{judge-plain, exact-sound, exact-complete}
-use Rattle.cltl.specs.Inner.{inner-opp}
+use Rattle.cltl.specs.Members.{text-split}
 use Rattle.cltl.specs.Quorum.{throughout-none, quorum-none, none-quorum}
 use Rattle.cltl.specs.Joint.{some-map, leaf-ruled, pigeonhole, joint-more}
-use Rattle.cltl.specs.Tally.{tally-not}
 use Rattle.cltl.specs.Hindmost.{least-at}
 use Rattle.cltl.specs.Sound.{count-sound}
 
 module _ (P : Rows) (proper : Proper P) where
-  -- the carts that satisfy inner text, or its negation, at a step
-  abbrev having : Bool → Inner → ℕ → ℕ
-  having p a s = tally (λ i. inner P i p a s) (P .carts)
+  -- the carts that satisfy a count's text, or its negation, at a step
+  abbrev having : Bool → Counted → ℕ → ℕ
+  having p x s = tally (λ i. text P i (p, x) s) (P .carts)
 
-  count-none : (p : Bool) (a : Inner) (k : ℕ) (percent : Bool) (s : ℕ) → s < P .h
-      → (T (count P 0 p (counted a (amount k percent)) s) → quota p (threshold k percent (P .carts)) (P .carts) ≤ having p a s)
-      × (quota p (threshold k percent (P .carts)) (P .carts) ≤ having p a s → T (count P 0 p (counted a (amount k percent)) s))
+  count-none : (p : Bool) (x : Counted) (s : ℕ) → s < P .h → T (count P 0 p x s) ↔ (asked P (p, x) ≤ having p x s)
   unfolding count
-  count-none p a k percent s q = (
-    λ y. quorum-none (P .h) (P .l) (P .carts) _ (λ i. inner P i p a) s (proper .some) y q,
-    λ y. none-quorum (P .h) (P .l) (P .carts) _ (λ i. inner P i p a) s q y,
+  count-none p x s q = (
+    λ y. quorum-none (P .h) (P .l) (P .carts) (asked P (p, x)) (λ i. text P i (p, x)) s (proper .some) y q,
+    λ y. none-quorum (P .h) (P .l) (P .carts) (asked P (p, x)) (λ i. text P i (p, x)) s q y,
   )
 
   count-opp : (x : Counted) (s : ℕ) → s < P .h → count P 0 false x s ≡ not (count P 0 true x s)
   unfolding quota
-  count-opp (counted a (amount k percent)) s q =
-      let m : ℕ = threshold k percent (P .carts) in
-      let e : having false a s + having true a s ≡ P .carts = tally-not _ _ (λ i. inner-opp P proper i a s q) (P .carts) in
-      let yes = count-none true a k percent s q in
-      let no = count-none false a k percent s q in
-      bool-opp (count P 0 false (counted a (amount k percent)) s) (count P 0 true (counted a (amount k percent)) s)
+  count-opp (counted a (amount k percent o)) s q =
+      let x : Counted = counted a (amount k percent o) in
+      let m : ℕ = threshold k percent (size P o) in
+      let e : having false x s + having true x s ≡ size P o = rw (step-low (P .h) (P .l) s q) at (text-split P proper x a k percent o refl (λ i. s)) in
+      let yes = count-none true x s q in
+      let no = count-none false x s q in
+      bool-opp (count P 0 false x s) (count P 0 true x s)
       (λ x y. let x′ = no .0 x in let y′ = yes .0 y in omega arith)
-      (λ f. no .1 (⊎-elim (λ g. omega arith) (λ g. absurd (f (yes .1 g))) (lt-or-le (having true a s) m)))
+      (λ f. no .1 (⊎-elim (λ g. omega arith) (λ g. absurd (f (yes .1 g))) (lt-or-le (having true x s) m)))
 
   count-opps : (p : Bool) (x : Counted) (s : ℕ) → s < P .h → count P 0 (not p) x s ≡ not (count P 0 p x s)
   count-opps true x s q = count-opp x s q

@@ -5,11 +5,12 @@ use mathlib.Core.Path.{_≡_, refl}
 use mathlib.Core.Bool.{Bool, true, false, not, cond, _&&_}
 use mathlib.Core.Logic.{_⊎_, inl, inr}
 use lib.Dec.{eqb, leb}
-use Rattle.grammar.specs.Grammar.{top, leaf, neg, and, next, until, release, ev, gl, amount, counted, Clause}
+use Rattle.grammar.specs.Grammar.{top, leaf, neg, and, next, until, release, ev, gl, amount, fleet, counted, Clause}
 use Rattle.row.specs.Lasso.{nextStep, stepOf}
 use Rattle.cltl.specs.Threshold.{threshold, quota}
 use Rattle.cltl.specs.Meaning.{Rows, Run, Bears, Satisfies}
-use Rattle.cltl.specs.Rules.{fix, window, quorum, tally, every, leaves, judge, mark, inner, count, slack, someText, joint, joined, rules, hasNext}
+use Rattle.cltl.specs.Counting.{tally, every}
+use Rattle.cltl.specs.Rules.{fix, window, quorum, leaves, judge, mark, inner, count, slack, someText, sameCarts, allOver, uniform, joint, joined, rules, hasNext}
 use Rattle.cltl.specs.Step.{lowest, failing}
 
 -- tests of a step
@@ -27,15 +28,15 @@ but k s = not (eqb s k)
 
 -- document 01's rows 0 1 1 0 and 0 0 1 1: cart i is on place 1 at steps i + 1 and i + 2; place 0 bears m0 only, place 1 m1 only
 abbrev places : Rows
-places = record { carts = 2; h = 4; l = 0; bears = λ i s k. eqb k (cond (leb (i + 1) s && leb s (i + 2)) 1 0) }
+places = record { carts = 2; h = 4; l = 0; bears = λ i s k. eqb k (cond (leb (i + 1) s && leb s (i + 2)) 1 0); member = λ g i. false }
 
 -- `[mk,m]`
 abbrev atLeast : ℕ → ℕ → Clause
-atLeast k m = leaf (counted (leaf k) (amount m false))
+atLeast k m = leaf (counted (leaf k) (amount m false fleet))
 
 -- `[mk,p%]`
 abbrev share : ℕ → ℕ → Clause
-share k p = leaf (counted (leaf k) (amount p true))
+share k p = leaf (counted (leaf k) (amount p true fleet))
 
 -- whether it is kept with drift d, and the step that a refusal has
 abbrev judged : ℕ → Clause → Bool × ℕ
@@ -43,7 +44,7 @@ judged d c = (rules places d c 0, failing places d c)
 
 -- the definitions that the table computes with, under one name
 computing : ℕ → Clause → Bool × ℕ
-unfolding threshold quota tally every fix window quorum nextStep stepOf leaves judge mark inner count slack someText joint joined rules lowest failing
+unfolding threshold quota tally every fix window quorum nextStep stepOf leaves judge mark inner count slack someText sameCarts allOver uniform joint joined rules lowest failing
 computing d c = judged d c
 
 pub worked :
@@ -90,7 +91,7 @@ pub worked :
     × (hasNext (neg (gl (until top (next (atLeast 1 1))))) ≡ true)
     × (hasNext (ev (release (next (atLeast 1 1)) top)) ≡ true)
     × (hasNext (neg (and top (until (atLeast 0 0) (release (atLeast 0 3) (atLeast 0 0))))) ≡ false)
-    × (hasNext (leaf (counted (next (leaf 1)) (amount 1 false))) ≡ false)
+    × (hasNext (leaf (counted (next (leaf 1)) (amount 1 false fleet))) ≡ false)
     -- "The step is the lowest where the body fails if the clause's outermost operator is G, else 0."
     × (judged 0 (gl (atLeast 0 1)) ≡ (false, 2))
     × (judged 1 (gl (atLeast 0 1)) ≡ (false, 1))

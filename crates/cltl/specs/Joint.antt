@@ -8,8 +8,9 @@ use lib.Dec.{T, leb→le}
 use Rattle.grammar.specs.Grammar.{Form, leaf, neg, and, or, Counted}
 use Rattle.cltl.specs.Meaning.{Rows, Holds}
 use Rattle.cltl.specs.Broken.{Val}
-use Rattle.cltl.specs.Rules.{tally, throughout, both, leaves, judge, asked, text, slack, someText, joint}
-use Rattle.cltl.specs.Basics.{lt-or-le, or-l, or-r}
+use Rattle.cltl.specs.Counting.{tally}
+use Rattle.cltl.specs.Rules.{throughout, both, leaves, judge, asked, text, slack, someText, uniform, joint}
+use Rattle.cltl.specs.Basics.{lt-or-le, and-r, or-l, or-r}
 use Rattle.cltl.specs.Tally.{tally-or, tally-none}
 
 -- one of a list has Q
@@ -82,4 +83,4 @@ module _ (P : Rows) where
   -- what the joined rule says: there are counts, and more carts than their slack satisfy their or throughout
   pub joint-more : (d : ℕ) (xs : List (Bool × Counted)) (s : ℕ) → T (joint P d xs s) → slack P xs < throughout (P .h) (P .l) (P .carts) d (someText P xs) s
   unfolding joint
-  joint-more d (x ∷ xs) s z = leb→le _ _ z
+  joint-more d xs s z = leb→le _ _ (and-r (uniform P xs) _ z)

@@ -4,24 +4,25 @@ use mathlib.Core.Path.{_≡_, refl}
 use mathlib.Core.Bool.{Bool, true, false, cond, _&&_}
 use lib.ListN.{length}
 use lib.Dec.{eqb, leb}
-use Rattle.grammar.specs.Grammar.{top, leaf, neg, and, or, next, until, release, ev, gl, amount, counted, Clause}
+use Rattle.grammar.specs.Grammar.{top, leaf, neg, and, or, next, until, release, ev, gl, amount, fleet, counted, Clause}
 use Rattle.row.specs.Lasso.{nextStep, stepOf}
 use Rattle.cltl.specs.Threshold.{threshold, quota}
 use Rattle.cltl.specs.Meaning.{Rows}
-use Rattle.cltl.specs.Rules.{fix, window, quorum, tally, every, judge, leaves, mark, inner, count, slack, someText, joint, joined, rules, plainRules}
+use Rattle.cltl.specs.Counting.{tally, every}
+use Rattle.cltl.specs.Rules.{fix, window, quorum, judge, leaves, mark, inner, count, slack, someText, sameCarts, allOver, uniform, joint, joined, rules, plainRules}
 use Rattle.cltl.specs.Step.{lowest, failing}
 
 -- "Three carts carry marks as in example 3 of source document 002: one always m1, one m1 once and then m2, one always m2"; from step 2 on none has a mark
 abbrev tables : (h l : ℕ) → Rows
-tables h l = record { carts = 3; h = h; l = l; bears = λ i s k. leb s 1 && eqb k (cond (leb (i + s) 1) 1 2) }
+tables h l = record { carts = 3; h = h; l = l; bears = λ i s k. leb s 1 && eqb k (cond (leb (i + s) 1) 1 2); member = λ g i. false }
 
 -- two carts, at step 0 the one on m1 and the other on m2, and then on neither
 abbrev once : Rows
-once = record { carts = 2; h = 2; l = 1; bears = λ i s k. eqb s 0 && eqb k (i + 1) }
+once = record { carts = 2; h = 2; l = 1; bears = λ i s k. eqb s 0 && eqb k (i + 1); member = λ g i. false }
 
 -- `[mk,m]`; m3 is nowhere
 abbrev atLeast : ℕ → ℕ → Clause
-atLeast k m = leaf (counted (leaf k) (amount m false))
+atLeast k m = leaf (counted (leaf k) (amount m false fleet))
 
 abbrev a : Clause
 a = atLeast 1 2
@@ -32,7 +33,7 @@ b = atLeast 2 2
 abbrev hopeless : Clause
 hopeless = atLeast 3 3
 
--- whether a clause is kept on example 3's rows with drift d, and by document 01 alone
+-- whether a clause is kept on example 3's rows with drift d, and without joining
 abbrev kept : ℕ → Clause → Bool
 kept d c = rules (tables 2 1) d c 0
 
@@ -45,7 +46,7 @@ counts p c = length (leaves p c)
 
 -- the definitions that the table computes with, under one name
 computing : Rows → ℕ → Clause → Bool × Bool × ℕ
-unfolding threshold quota tally every fix window quorum nextStep stepOf leaves judge mark inner count slack someText joint joined rules plainRules lowest failing
+unfolding threshold quota tally every fix window quorum nextStep stepOf leaves judge mark inner count slack someText sameCarts allOver uniform joint joined rules plainRules lowest failing
 computing P d c = (rules P d c 0, plainRules P d c 0, failing P d c)
 
 pub worked :
@@ -73,7 +74,7 @@ pub worked :
     × (kept 1 (neg (and (atLeast 1 1) b)) ≡ false)
     × (rules (tables 3 2) 2 (neg (and a b)) 0 ≡ true)
     -- a share is a threshold like any other
-    × (kept 1 (or (leaf (counted (leaf 1) (amount 67 true))) b) ≡ true)
+    × (kept 1 (or (leaf (counted (leaf 1) (amount 67 true fleet))) b) ≡ true)
     -- a written or under one negation is an and
     × (kept 1 (neg (or a b)) ≡ false)
     × (kept 1 (and a b) ≡ false)

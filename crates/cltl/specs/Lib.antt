@@ -1,4 +1,5 @@
 -- definitions
+pub mod Counting
 pub mod Threshold
 pub mod Meaning
 pub mod Rules
@@ -10,6 +11,7 @@ pub mod Promises
 -- worked cases
 pub mod Examples
 pub mod JointExamples
+pub mod GroupExamples
 pub mod RunningExamples
 -- laws
 pub mod Basics
@@ -21,6 +23,7 @@ pub mod JointWording
 pub mod Tally
 pub mod Hindmost
 pub mod Inner
+pub mod Members
 pub mod Quorum
 pub mod Joint
 pub mod Sound

@@ -1,21 +1,23 @@
--- Runs, and what is true of them: document 01 'Runs'. Nothing here computes.
+-- Runs, and what is true of them: document 01 'Runs', and of counts over a group document 02, 6). Nothing here computes.
 use Prim.Native.Nat.{ℕ, zero, suc, _+_, _≤_, _<_}
 use mathlib.Core.Path.{_≡_, refl}
-use mathlib.Core.Bool.{Bool}
+use mathlib.Core.Bool.{Bool, true}
 use mathlib.Core.Logic.{_⊎_, inr}
 use native.Mathlib.Omega.{arith}
 use lib.Dec.{T}
-use Rattle.grammar.specs.Grammar.{Form, top, leaf, neg, and, or, next, until, release, ev, gl, Inner, Counted, amount, counted, Clause}
+use Rattle.grammar.specs.Grammar.{Form, top, leaf, neg, and, or, next, until, release, ev, gl, Inner, Over, fleet, group, amount, Counted, counted, Clause}
 use Rattle.row.specs.Lasso.{stepOf}
+use Rattle.cltl.specs.Counting.{tally}
 use Rattle.cltl.specs.Threshold.{threshold}
 
 -- "Rows and marks are those of the files": so many carts, h steps with the lap from l on, and whether the place on a step of a cart's row
--- bears a mark.
+-- bears a mark; and by document 02, 6) whether a group has a cart as its member.
 pub record Rows : Type 0 where
   pub carts : ℕ
   pub h : ℕ
   pub l : ℕ
   pub bears : ℕ → ℕ → ℕ → Bool
+  pub member : ℕ → ℕ → Bool
 
 -- what every readable floor and plan have
 pub record Proper (P : Rows) : Type 0 where
@@ -80,9 +82,19 @@ module _ (P : Rows) where
   abbrev pub Satisfies : ℕ → Inner → ℕ → Type 0
   Satisfies i a v = Holds (Bears i) a v
 
-  -- "A count holds if at least its threshold of carts satisfy the inner text at their counters of moment t."
+  -- the carts that a count is over: all, or "only that group's carts"
+  abbrev pub among : Over → ℕ → Bool
+  among fleet i = true
+  among (group g) i = P .member g i
+
+  -- how many these are: "Percentages and negation use the group's size."
+  abbrev pub size : Over → ℕ
+  size fleet = P .carts
+  size (group g) = tally (P .member g) (P .carts)
+
+  -- "A count holds if at least its threshold of carts satisfy the inner text at their counters of moment t", of the carts that it is over.
   abbrev pub Counts : (ℕ → ℕ → ℕ) → Counted → ℕ → Type 0
-  Counts at (counted a (amount k percent)) t = AtLeast (λ i. Satisfies i a (at t i)) (threshold k percent (P .carts)) (P .carts)
+  Counts at (counted a (amount k percent o)) t = AtLeast (λ i. T (among o i) × Satisfies i a (at t i)) (threshold k percent (size o)) (P .carts)
 
   abbrev pub TrueAt : (ℕ → ℕ → ℕ) → Clause → ℕ → Type 0
   TrueAt at c t = Holds (Counts at) c t

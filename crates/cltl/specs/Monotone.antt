@@ -1,26 +1,27 @@
 -- With a smaller drift the rules keep no less.
 use Prim.Native.Nat.{ℕ, suc, _≤_}
 use mathlib.Core.Bool.{Bool, true}
-use mathlib.Core.List.{List, _∷_}
+use mathlib.Core.List.{List}
 use native.Mathlib.Omega.{arith}
 use lib.Dec.{T, leb→le, le→leb}
-use Rattle.grammar.specs.Grammar.{Counted, amount, counted, Clause}
+use Rattle.grammar.specs.Grammar.{Counted, Clause}
 use Rattle.cltl.specs.Meaning.{Rows}
-use Rattle.cltl.specs.Rules.{throughout, leaves, count, slack, someText, joint, joined, rules}
+use Rattle.cltl.specs.Rules.{throughout, leaves, count, slack, someText, uniform, joint, joined, rules}
+use Rattle.cltl.specs.Basics.{and-l, and-r, and-i}
 use Rattle.cltl.specs.Operators.{judge-mono}
 use Rattle.cltl.specs.Quorum.{throughout-mono, quorum-mono}
 
 module _ (P : Rows) (d d′ : ℕ) (less : d′ ≤ d) where
   count-mono : (p : Bool) (x : Counted) (s : ℕ) → T (count P d p x s) → T (count P d′ p x s)
   unfolding count
-  count-mono p (counted a (amount k percent)) s y = quorum-mono (P .h) (P .l) (P .carts) _ _ d d′ s less y
+  count-mono p x s y = quorum-mono (P .h) (P .l) (P .carts) _ _ d d′ s less y
 
   joint-mono : (xs : List (Bool × Counted)) (s : ℕ) → T (joint P d xs s) → T (joint P d′ xs s)
   unfolding joint
-  joint-mono (x ∷ xs) s y =
-      let fewer = throughout-mono (P .h) (P .l) (P .carts) (someText P (x ∷ xs)) d d′ s less in
-      let many = leb→le (suc (slack P (x ∷ xs))) (throughout (P .h) (P .l) (P .carts) d (someText P (x ∷ xs)) s) y in
-      le→leb (suc (slack P (x ∷ xs))) (throughout (P .h) (P .l) (P .carts) d′ (someText P (x ∷ xs)) s) (omega arith)
+  joint-mono xs s y =
+      let fewer = throughout-mono (P .h) (P .l) (P .carts) (someText P xs) d d′ s less in
+      let many = leb→le (suc (slack P xs)) (throughout (P .h) (P .l) (P .carts) d (someText P xs) s) (and-r (uniform P xs) _ y) in
+      and-i (uniform P xs) _ (and-l (uniform P xs) _ y) (le→leb (suc (slack P xs)) (throughout (P .h) (P .l) (P .carts) d′ (someText P xs) s) (omega arith))
 
   pub rules-mono : (c : Clause) (s : ℕ) → T (rules P d c s) → T (rules P d′ c s)
   unfolding rules joined

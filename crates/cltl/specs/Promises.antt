@@ -1,6 +1,6 @@
 -- What is claimed of cLTL+, for any rows with a cart and a lap, any clauses and drifts (of long windows, drifts 0 to 16).
 use Prim.Native.Nat.{ℕ, suc, _+_, _*_, _-_, _≤_, _<_, min}
-use mathlib.Core.Path.{_≡_, refl, ap, subst, _∙_}
+use mathlib.Core.Path.{_≡_, refl, sym, ap, subst, _∙_}
 use mathlib.Core.Bool.{Bool, true, false, cond, _&&_, _||_}
 use mathlib.Core.List.{List, [], _∷_}
 use mathlib.Core.Logic.{_⊎_, _↔_}
@@ -8,18 +8,19 @@ use native.Mathlib.Omega.{arith}
 use lib.Dec.{T}
 use lib.ListN.{length}
 use Rattle.cltl.specs.Globally.{globally-broken}
-use Rattle.grammar.specs.Grammar.{top, leaf, neg, and, or, next, until, release, ev, gl, Inner, Counted, amount, counted, Clause}
+use Rattle.grammar.specs.Grammar.{top, leaf, neg, and, or, next, until, release, ev, gl, Inner, Over, amount, Counted, counted, Clause}
 use Rattle.row.specs.Lasso.{nextStep, stepOf}
 use Rattle.row.specs.Round.{step-low}
 use Rattle.cltl.specs.Threshold.{threshold, Nearest, quota}
-use Rattle.cltl.specs.Meaning.{Rows, Proper, Until, AtLeast, Run, Satisfies, Counts, TrueOf, InStepAt, TrueInStep}
-use Rattle.cltl.specs.Rules.{judge, leaves, inner, asked, count, slack, someText, joint, joined, rules, plainRules, hasNext}
+use Rattle.cltl.specs.Meaning.{Rows, Proper, Until, AtLeast, Run, Satisfies, among, size, Counts, TrueOf, InStepAt, TrueInStep}
+use Rattle.cltl.specs.Rules.{judge, leaves, inner, over, asked, count, slack, someText, uniform, joint, joined, rules, plainRules, hasNext}
 use Rattle.cltl.specs.Running.{walk, runningCount, rulesRead}
 use Rattle.cltl.specs.Lap.{fix-law, reach, forever}
 use Rattle.cltl.specs.Wording.{nearest, none-below-half, count-holds, asks-none}
 use Rattle.cltl.specs.Pace.{until-map}
 use Rattle.cltl.specs.Joint.{Some}
-use Rattle.cltl.specs.JointWording.{Text, total, ask-is-or, ask-or, slack-total, asks-no-cart, mixed-none, plain-kept, joint-holds}
+use Rattle.cltl.specs.JointWording.{total, ask-is-or, ask-or, slack-total, asks-no-cart, mixed-none, plain-kept, joint-holds, EachOver, each-over}
+use Rattle.cltl.specs.Members.{Text, SameCarts, same-size, same-count, same-holds}
 use Rattle.cltl.specs.Inner.{inner-sound, inner-complete}
 use Rattle.cltl.specs.Sound.{rules-sound}
 use Rattle.cltl.specs.Monotone.{rules-mono}
@@ -58,7 +59,7 @@ module _ (P : Rows) (d s : ℕ) where
   -- "F a is true U a; G a is !F !a; a R b is !(!a U !b)."
   pub written-out : (a b : Clause)
       → (Here (ev a) ≡ Here (until top a)) × (Here (gl a) ≡ Here (neg (ev (neg a)))) × (Here (release a b) ≡ Here (neg (until (neg a) (neg b))))
-  unfolding rules judge leaves joint joined
+  unfolding rules judge leaves joint joined uniform
   written-out a b = (refl, refl, refl)
 
   -- "Negations outside counts are first driven inward."
@@ -70,15 +71,16 @@ module _ (P : Rows) (d s : ℕ) where
   inward a b = (refl, refl, refl, refl, refl, refl, refl, refl)
 
   -- "Then !`[a,m]` becomes `[!a,N+1−m]`, N being the carts, never below 0."
-  pub negated-count : (a : Inner) (k : ℕ) (percent : Bool)
-      → Here (neg (leaf (counted a (amount k percent)))) ≡ Here (leaf (counted (neg a) (amount (suc (P .carts) - threshold k percent (P .carts)) false)))
+  -- By document 02 N is the size of the group where the count is over one.
+  pub negated-count : (a : Inner) (k : ℕ) (percent : Bool) (o : Over)
+      → Here (neg (leaf (counted a (amount k percent o)))) ≡ Here (leaf (counted (neg a) (amount (suc (size P o) - threshold k percent (size P o)) false o)))
   unfolding rules judge count quota threshold inner
-  negated-count a k true = refl
-  negated-count a k false = refl
+  negated-count a k true o = refl
+  negated-count a k false o = refl
 
   -- "`true` holds and its negation doesn't; an and is true if both sides are"
   pub plain-rules : (a b : Clause) → (Here top ≡ true) × (Here (neg top) ≡ false) × (Here (and a b) ≡ (Here a && Here b))
-  unfolding rules judge leaves joint joined
+  unfolding rules judge leaves joint joined uniform
   plain-rules a b = (refl, refl, refl)
 
   -- ".. an or if either is"; and "also" by the joined rule, where its sides, through nested ors, are all counts
@@ -92,13 +94,14 @@ module _ (P : Rows) (d s : ℕ) where
   mixed-or a b none = ap (λ (z : Bool). z || (Here a || Here b)) (mixed-none P d s a b none)
 
   -- a negated count in an or is joined as what it becomes
-  pub negated-joined : (a : Inner) (k : ℕ) (percent : Bool) (xs : List (Bool × Counted)) → joint P d ((false, counted a (amount k percent)) ∷ xs) s
-      ≡ joint P d ((true, counted (neg a) (amount (suc (P .carts) - threshold k percent (P .carts)) false)) ∷ xs) s
-  unfolding joint slack someText quota threshold inner judge
-  negated-joined a k true xs = refl
-  negated-joined a k false xs = refl
+  pub negated-joined : (a : Inner) (k : ℕ) (percent : Bool) (o : Over) (xs : List (Bool × Counted))
+      → joint P d ((false, counted a (amount k percent o)) ∷ xs) s
+      ≡ joint P d ((true, counted (neg a) (amount (suc (size P o) - threshold k percent (size P o)) false o)) ∷ xs) s
+  unfolding joint uniform slack someText quota threshold inner judge
+  negated-joined a k true o xs = refl
+  negated-joined a k false o xs = refl
 
-  -- by document 01 alone an or is true if either side is, and whatever is kept so is kept
+  -- without joining an or is true if either side is, and whatever is kept so is kept
   pub plain-or : (a b : Clause) → plainRules P d (or a b) s ≡ (plainRules P d a s || plainRules P d b s)
   unfolding plainRules judge
   plain-or a b = refl
@@ -121,24 +124,24 @@ module _ (P : Rows) (d s : ℕ) where
 
   module _ (proper : Proper P) (low : s < P .h) where
     -- "a count with threshold m is true if at least m carts satisfy the inner text at all of counters s to s + d; with m = 1 also if all N carts satisfy
-    -- it at s itself"
-    pub count-rule : (a : Inner) (k : ℕ) (percent : Bool) → let m = threshold k percent (P .carts) in
-        T (Here (leaf (counted a (amount k percent))))
+    -- it at s itself". "then only that group's carts are counted", and "The all-carts case for threshold 1 is used only where the group is the whole fleet".
+    pub count-rule : (a : Inner) (k : ℕ) (percent : Bool) (o : Over) → let m = threshold k percent (size P o) in
+        T (Here (leaf (counted a (amount k percent o))))
         ↔
-        (AtLeast (λ i. (j : ℕ) → j ≤ d → Satisfies P i a (s + j)) m (P .carts) ⊎
-        ((m ≡ 1) × ((i : ℕ) → i < P .carts → Satisfies P i a s)))
-    count-rule a k percent = count-holds P proper d s low a k percent
+        (AtLeast (λ i. T (among P o i) × ((j : ℕ) → j ≤ d → Satisfies P i a (s + j))) m (P .carts) ⊎
+        ((m ≡ 1) × ((i : ℕ) → i < P .carts → T (among P o i)) × ((i : ℕ) → i < P .carts → Satisfies P i a s)))
+    count-rule a k percent o = count-holds P proper d s low a k percent o
 
     -- "more carts than the sum of (threshold − 1) satisfy the or of the inner texts at all of counters s to s + d": at each of them some text,
-    -- which need not be the same one at all
+    -- which need not be the same one at all; and "only if all its counts are over the same carts"
     pub joint-rule : (xs : List (Bool × Counted)) → T (joint P d xs s)
-        ↔ AtLeast (λ i. (j : ℕ) → j ≤ d → Some (λ x. Text P i x (s + j)) xs) (suc (slack P xs)) (P .carts)
+        ↔ (T (uniform P xs) × AtLeast (λ i. (j : ℕ) → j ≤ d → Some (λ x. Text P i x (s + j)) xs) (suc (slack P xs)) (P .carts))
     joint-rule xs = joint-holds P proper d s xs
 
     -- a count that asks for no cart, as a share of less than half a cart does, is true always, and its negation never
-    pub no-carts : (a : Inner) (k : ℕ) (percent : Bool) → threshold k percent (P .carts) ≡ 0
-        → T (Here (leaf (counted a (amount k percent)))) × (T (Here (neg (leaf (counted a (amount k percent))))) → ⊥)
-    no-carts a k percent none = asks-none P proper d s low a k percent none
+    pub no-carts : (a : Inner) (k : ℕ) (percent : Bool) (o : Over) → threshold k percent (size P o) ≡ 0
+        → T (Here (leaf (counted a (amount k percent o)))) × (T (Here (neg (leaf (counted a (amount k percent o))))) → ⊥)
+    no-carts a k percent o none = asks-none P proper d s low a k percent o none
 
     module _ (a b : Clause) where
       -- "a U b: b here, or a here and a U b at the step after, with b reached"; "a U b then asks, where b isn't yet true, for "a or b" by this rule
@@ -154,19 +157,39 @@ module _ (P : Rows) (d s : ℕ) where
           until-map s (λ w y. ask-is-or (joined P d true (or a b) (stepOf (P .h) (P .l) w)) (rules P d a (stepOf (P .h) (P .l) w)) _ y) (λ w y. y)
           (reach (P .h) (P .l) (proper .lap) (λ v. joined P d true (or a b) v || rules P d a v) (λ v. rules P d b v) s (rw (step-low (P .h) (P .l) s low) x))
 
-      -- by document 01 alone: a itself
+      -- without joining: a itself
       pub plain-until : plainRules P d (until a b) s ≡ (plainRules P d b s || (plainRules P d a s && plainRules P d (until a b) after))
       unfolding plainRules judge
       plain-until = fix-law (P .h) (P .l) (proper .lap) true _ _ s low
 
       -- "a R b: b here, and either a here or a R b at the step after, with no need that a ever comes": b for ever is enough
       pub release-rule : Here (release a b) ≡ (Here b && (Here a || rules P d (release a b) after))
-      unfolding rules judge leaves joint joined
+      unfolding rules judge leaves joint joined uniform
       release-rule = fix-law (P .h) (P .l) (proper .lap) false _ _ s low
 
       pub release-unended : ((u : ℕ) → s ≤ u → On b u) → T (Here (release a b))
-      unfolding rules judge leaves joint joined
+      unfolding rules judge leaves joint joined uniform
       release-unended f = rw (step-low (P .h) (P .l) s low) at (forever (P .h) (P .l) (proper .lap) (λ v. rules P d a v) (λ v. rules P d b v) (P .h) s f)
+
+---- 'Counts over a group', in document 02's words; `among P o i` says that cart i is of the fleet or of the group that a count is over.
+module _ (P : Rows) where
+  -- "The same carts", and "the whole fleet", are sets of carts: groups of the same carts have the same size, and their counts are true together, by the
+  -- rules and at every moment of a run
+  pub same-carts-size : (o o′ : Over) → SameCarts P o o′ → size P o ≡ size P o′
+  same-carts-size = same-size P
+
+  pub same-carts-rule : Proper P → (d : ℕ) (p : Bool) (a : Inner) (k : ℕ) (percent : Bool) (o o′ : Over) → SameCarts P o o′ → (s : ℕ) → s < P .h
+      → count P d p (counted a (amount k percent o)) s ≡ count P d p (counted a (amount k percent o′)) s
+  same-carts-rule = same-count P
+
+  pub same-carts-run : (at : ℕ → ℕ → ℕ) (a : Inner) (k : ℕ) (percent : Bool) (o o′ : Over) → SameCarts P o o′ → (t : ℕ)
+      → Counts P at (counted a (amount k percent o)) t ↔ Counts P at (counted a (amount k percent o′)) t
+  same-carts-run at a k percent o o′ e t = (same-holds P at a k percent o o′ e t, same-holds P at a k percent o′ o (λ i p. sym (e i p)) t)
+
+  -- "only if all its counts are over the same carts": each is over those of the first
+  pub uniform-rule : (x : Bool × Counted) (xs : List (Bool × Counted)) → T (uniform P (x ∷ xs)) ↔ EachOver P (over P x) xs
+  unfolding uniform
+  uniform-rule x xs = each-over P (over P x) xs
 
 ---- 'Long windows', in document 02's words: the window read by a running count.
 -- "cut off at 17": one more where the text is true, 17 at most, and none where it is not; behind the last step comes the lap's own count. So a step's truth is
@@ -189,11 +212,11 @@ same-verdicts = rules-read
 ---- Runs.
 -- "A count holds if at least its threshold of carts satisfy the inner text at their counters of moment t": for a
 -- percentage, if at least the nearest number of carts do
-pub share-holds : (P : Rows) (at : ℕ → ℕ → ℕ) (a : Inner) (k t : ℕ)
-    → Counts P at (counted a (amount k true)) t ↔ ((m : ℕ) × Nearest k (P .carts) m × AtLeast (λ i. Satisfies P i a (at t i)) m (P .carts))
-share-holds P at a k t = (
-  λ x. (threshold k true (P .carts), percentage k (P .carts) (threshold k true (P .carts)) .0 refl, x),
-  λ x. subst (λ (m : ℕ). AtLeast (λ i. Satisfies P i a (at t i)) m (P .carts)) (percentage k (P .carts) (x .0) .1 (x .1)) (x .2),
+pub share-holds : (P : Rows) (at : ℕ → ℕ → ℕ) (a : Inner) (k t : ℕ) (o : Over) → Counts P at (counted a (amount k true o)) t
+    ↔ ((m : ℕ) × Nearest k (size P o) m × AtLeast (λ i. T (among P o i) × Satisfies P i a (at t i)) m (P .carts))
+share-holds P at a k t o = (
+  λ x. (threshold k true (size P o), percentage k (size P o) (threshold k true (size P o)) .0 refl, x),
+  λ x. subst (λ (m : ℕ). AtLeast (λ i. T (among P o i) × Satisfies P i a (at t i)) m (P .carts)) (percentage k (size P o) (x .0) .1 (x .1)) (x .2),
 )
 
 module _ (P : Rows) (proper : Proper P) where
@@ -209,7 +232,7 @@ module _ (P : Rows) (proper : Proper P) where
   pub smaller : (d d′ : ℕ) → d′ ≤ d → (c : Clause) (s : ℕ) → T (rules P d c s) → T (rules P d′ c s)
   smaller d d′ less c s kept = rules-mono P d d′ less c s kept
 
-  -- "Drift 0 gives the old verdicts": those of document 01 alone
+  -- "Drift 0 gives the old verdicts": those without joining
   pub old-verdicts : (c : Clause) (s : ℕ) → s < P .h → rules P 0 c s ≡ plainRules P 0 c s
   old-verdicts c s low = rules-plain P proper c s low
 

@@ -8,7 +8,8 @@ use lib.Dec.{T, leb, eqb, leb→le, eqb→eq, le→leb}
 use lib.Ieee.Fits.{eq→eqb}
 use Rattle.row.specs.Lasso.{nextStep, stepOf}
 use Rattle.row.specs.Round.{step-low, step-below, step-next}
-use Rattle.cltl.specs.Rules.{tally, every, window, throughout, quorum}
+use Rattle.cltl.specs.Counting.{tally, every}
+use Rattle.cltl.specs.Rules.{window, throughout, quorum}
 use Rattle.cltl.specs.Basics.{and-l, and-r, and-i, or-l, or-r, or-cases, join-mono}
 use Rattle.cltl.specs.Tally.{every-at, every-of, every-agrees, tally-mono, tally-all}
 

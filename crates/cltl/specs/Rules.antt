@@ -1,32 +1,29 @@
--- The drift rules of document 01 and document 02, 4), at a step. A flag says what is judged: the text itself (true), or its negation, driven inward
+-- The drift rules of document 01 and document 02, 4) and 6), at a step. A flag says what is judged: the text itself (true), or its negation, driven inward
 -- (false).
 use Prim.Native.Nat.{ℕ, zero, suc, _+_, _-_}
 use mathlib.Core.Bool.{Bool, true, false, not, cond, _&&_, _||_}
 use mathlib.Core.List.{List, [], _∷_, _++_}
 use lib.Dec.{leb, ltb, eqb}
-use Rattle.grammar.specs.Grammar.{Form, top, leaf, neg, and, or, next, until, release, ev, gl, Inner, Counted, amount, counted, Clause}
+use Rattle.grammar.specs.Grammar.{Form, top, leaf, neg, and, or, next, until, release, ev, gl, Inner, Over, amount, Counted, counted, Clause}
 use Rattle.row.specs.Lasso.{nextStep, stepOf}
+use Rattle.cltl.specs.Counting.{tally, every}
 use Rattle.cltl.specs.Threshold.{threshold, quota}
-use Rattle.cltl.specs.Meaning.{Rows}
+use Rattle.cltl.specs.Meaning.{Rows, among, size}
 
 -- "and" (true) or "or"
 abbrev pub join : Bool → Bool → Bool → Bool
 join true x y = x && y
 join false x y = x || y
 
+-- two tests that say the same
+abbrev pub same : Bool → Bool → Bool
+same true y = y
+same false y = not y
+
 -- one step of "until" (true) or of "release": a here, b here, and the same at the step after
 abbrev pub mix : Bool → Bool → Bool → Bool → Bool
 mix true a b rest = b || (a && rest)
 mix false a b rest = b && (a || rest)
-
--- how many of the numbers below n pass a test, and whether all do
-unfoldable pub tally : (ℕ → Bool) → ℕ → ℕ
-tally f zero = zero
-tally f (suc n) = cond (f n) (suc (tally f n)) (tally f n)
-
-unfoldable pub every : (ℕ → Bool) → ℕ → Bool
-every f zero = true
-every f (suc n) = f n && every f n
 
 module _ (h l : ℕ) where
   -- "a U b: b here, or a here and a U b at the step after, with b reached" in fewer than n moves.
@@ -97,12 +94,16 @@ module _ (P : Rows) where
   unfoldable pub inner : ℕ → Bool → Inner → ℕ → Bool
   inner i p a s = judge (P .h) (P .l) (mark i) nothing p a s
 
-  -- a count, or its negation: its threshold, and whether cart i satisfies its text
+  -- a count, or its negation: the carts that it is over, its threshold, and whether cart i is one of them and satisfies its text. No other cart is counted, so
+  -- that "all N carts" satisfy it only where these are the whole fleet.
+  abbrev pub over : Bool × Counted → Over
+  over (p, counted a (amount k percent o)) = o
+
   abbrev pub asked : Bool × Counted → ℕ
-  asked (p, counted a (amount k percent)) = quota p (threshold k percent (P .carts)) (P .carts)
+  asked (p, counted a (amount k percent o)) = quota p (threshold k percent (size P o)) (size P o)
 
   abbrev pub text : ℕ → Bool × Counted → ℕ → Bool
-  text i (p, counted a x) s = inner i p a s
+  text i (p, counted a (amount k percent o)) s = among P o i && inner i p a s
 
   unfoldable pub count : ℕ → Bool → Counted → ℕ → Bool
   count d p x s = quorum (P .h) (P .l) (P .carts) d (asked (p, x)) (λ i. text i (p, x)) s
@@ -117,11 +118,22 @@ module _ (P : Rows) where
   someText [] i s = false
   someText (x ∷ xs) i s = text i x s || someText xs i s
 
+  -- "only if all its counts are over the same carts": there are counts, and each is over the carts of the first
+  unfoldable pub sameCarts : Over → Over → Bool
+  sameCarts o o′ = every (λ i. same (among P o i) (among P o′ i)) (P .carts)
+
+  unfoldable pub allOver : Over → List (Bool × Counted) → Bool
+  allOver o [] = true
+  allOver o (x ∷ xs) = sameCarts o (over x) && allOver o xs
+
+  unfoldable pub uniform : List (Bool × Counted) → Bool
+  uniform [] = false
+  uniform (x ∷ xs) = allOver (over x) xs
+
   -- "An or whose sides, through nested ors, are all counts is also true if more carts than the sum of (threshold − 1) satisfy the or of the inner
   -- texts at all of counters s to s + d." So each or of them, also one inside another.
   unfoldable pub joint : ℕ → List (Bool × Counted) → ℕ → Bool
-  joint d [] s = false
-  joint d (x ∷ xs) s = ltb (slack (x ∷ xs)) (throughout (P .h) (P .l) (P .carts) d (someText (x ∷ xs)) s)
+  joint d xs s = uniform xs && ltb (slack xs) (throughout (P .h) (P .l) (P .carts) d (someText xs) s)
 
   unfoldable pub joined : ℕ → Bool → Clause → ℕ → Bool
   joined d p c s = joint d (leaves p c) s
@@ -130,7 +142,7 @@ module _ (P : Rows) where
   unfoldable pub rules : ℕ → Clause → ℕ → Bool
   rules d c s = judge (P .h) (P .l) (count d) (joined d) true c s
 
-  -- the same by document 01 alone, where an or is true only if a side is
+  -- the same without joining, as document 01 has it: an or is true only if a side is
   unfoldable pub plainRules : ℕ → Clause → ℕ → Bool
   plainRules d c s = judge (P .h) (P .l) (count d) nothing true c s
 

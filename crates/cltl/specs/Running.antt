@@ -1,12 +1,13 @@
 -- Document 02, 5): windows read by a running count.
 use Prim.Native.Nat.{ℕ, zero, suc, _-_, min}
 use mathlib.Core.Bool.{Bool, true, false, _&&_, _||_}
-use mathlib.Core.List.{List, [], _∷_}
+use mathlib.Core.List.{List}
 use lib.Dec.{leb, ltb, eqb}
 use Rattle.grammar.specs.Grammar.{Counted, Clause}
 use Rattle.row.specs.Lasso.{stepOf}
 use Rattle.cltl.specs.Meaning.{Rows}
-use Rattle.cltl.specs.Rules.{tally, every, judge, leaves, asked, text, slack, someText}
+use Rattle.cltl.specs.Counting.{tally, every}
+use Rattle.cltl.specs.Rules.{judge, leaves, asked, text, slack, someText, uniform}
 
 -- "A running count, cut off at 17, of how many counters in a row .. keep an inner text true": one counter further back
 abbrev pub back : Bool → ℕ → ℕ
@@ -38,8 +39,7 @@ module _ (P : Rows) (d : ℕ) where
   countRead p x s = leb (asked P (p, x)) (throughoutRead (λ i. text P i (p, x)) s) || (eqb (asked P (p, x)) 1 && every (λ i. text P i (p, x) s) (P .carts))
 
   unfoldable pub jointRead : List (Bool × Counted) → ℕ → Bool
-  jointRead [] s = false
-  jointRead (x ∷ xs) s = ltb (slack P (x ∷ xs)) (throughoutRead (someText P (x ∷ xs)) s)
+  jointRead xs s = uniform P xs && ltb (slack P xs) (throughoutRead (someText P xs) s)
 
   unfoldable pub rulesRead : Clause → ℕ → Bool
   rulesRead c s = judge (P .h) (P .l) countRead (λ p c. jointRead (leaves p c)) true c s

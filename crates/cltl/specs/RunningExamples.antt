@@ -3,11 +3,12 @@ use Prim.Native.Nat.{ℕ, suc, _+_}
 use mathlib.Core.Path.{_≡_, refl}
 use mathlib.Core.Bool.{Bool, true, false, not, cond, _&&_}
 use lib.Dec.{eqb, leb, ltb}
-use Rattle.grammar.specs.Grammar.{leaf, or, amount, counted, Clause}
+use Rattle.grammar.specs.Grammar.{leaf, or, amount, fleet, counted, Clause}
 use Rattle.row.specs.Lasso.{nextStep, stepOf}
 use Rattle.cltl.specs.Threshold.{threshold, quota}
 use Rattle.cltl.specs.Meaning.{Rows}
-use Rattle.cltl.specs.Rules.{tally, every, fix, leaves, judge, mark, inner, slack, someText}
+use Rattle.cltl.specs.Counting.{tally, every}
+use Rattle.cltl.specs.Rules.{fix, leaves, judge, mark, inner, slack, someText, sameCarts, allOver, uniform}
 use Rattle.cltl.specs.Running.{walk, lapCount, runningCount, countRead, jointRead, rulesRead}
 
 -- tests of a step
@@ -19,22 +20,22 @@ but k s = not (eqb s k)
 
 -- two carts on three steps, the lap from step 1 on: both bear m0 but cart 0 at step 0
 abbrev rows : Rows
-rows = record { carts = 2; h = 3; l = 1; bears = λ i s k. eqb k 0 && not (eqb i 0 && eqb s 0) }
+rows = record { carts = 2; h = 3; l = 1; bears = λ i s k. eqb k 0 && not (eqb i 0 && eqb s 0); member = λ g i. false }
 
 abbrev atLeast : ℕ → ℕ → Clause
-atLeast k m = leaf (counted (leaf k) (amount m false))
+atLeast k m = leaf (counted (leaf k) (amount m false fleet))
 
 -- document 002's example 3: of three carts one always bears m1, one m1 once and then m2, one always m2
 abbrev three : Rows
-three = record { carts = 3; h = 2; l = 1; bears = λ i s k. eqb k (cond (leb (i + s) 1) 1 2) }
+three = record { carts = 3; h = 2; l = 1; bears = λ i s k. eqb k (cond (leb (i + s) 1) 1 2); member = λ g i. false }
 
 -- cart 0 bears m1 and cart 1 m2, at step 0 alone
 abbrev once : Rows
-once = record { carts = 2; h = 2; l = 1; bears = λ i s k. eqb s 0 && eqb k (suc i) }
+once = record { carts = 2; h = 2; l = 1; bears = λ i s k. eqb s 0 && eqb k (suc i); member = λ g i. false }
 
 -- the definitions that the table computes with, under one name
 computing : ℕ → Clause → ℕ → Bool
-unfolding threshold quota tally every fix nextStep stepOf leaves judge mark inner slack someText walk lapCount runningCount countRead jointRead rulesRead
+unfolding threshold quota tally every fix nextStep stepOf leaves judge mark inner slack someText sameCarts allOver uniform walk lapCount runningCount countRead jointRead rulesRead
 computing d c s = rulesRead rows d c s
 
 pub worked :

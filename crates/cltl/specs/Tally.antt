@@ -1,12 +1,12 @@
 -- Counting below a number, by a test and as a statement; the least of some numbers.
 use Prim.Native.Nat.{ℕ, zero, suc, _+_, _≤_, _<_, min}
 use mathlib.Core.Path.{_≡_, refl, sym, ap, subst}
-use mathlib.Core.Bool.{Bool, true, false, not, cond, _||_, true≢false, false≢true}
+use mathlib.Core.Bool.{Bool, true, false, not, cond, _&&_, _||_, true≢false, false≢true}
 use mathlib.Core.Logic.{_⊎_, inl, inr, ⊎-elim}
 use native.Mathlib.Omega.{arith}
 use native.Mathlib.Nat.{eq-or-lt-of-le, le-refl}
 use lib.Dec.{T}
-use Rattle.cltl.specs.Rules.{tally, every}
+use Rattle.cltl.specs.Counting.{tally, every}
 use Rattle.cltl.specs.Meaning.{AtLeast}
 use Rattle.cltl.specs.Basics.{and-l, and-r, and-i, lt-or-le}
 
@@ -31,22 +31,54 @@ cond-not : (b : Bool) (k : ℕ) → (T b → ⊥) → cond b (suc k) k ≡ k
 cond-not true k h = absurd (h tt)
 cond-not false k h = refl
 
+cond-yes : (b : Bool) (k : ℕ) → T b → cond b (suc k) k ≡ suc k
+cond-yes true k t = refl
+cond-yes false k t = absurd t
+
+cond-mono : (b b′ : Bool) (k k′ : ℕ) → (T b → T b′) → k ≤ k′ → cond b (suc k) k ≤ cond b′ (suc k′) k′
+cond-mono true true k k′ f h = omega arith
+cond-mono true false k k′ f h = absurd (f tt)
+cond-mono false true k k′ f h = omega arith
+cond-mono false false k k′ f h = h
+
 pub tally-le : (f : ℕ → Bool) (n : ℕ) → tally f n ≤ n
 unfolding tally
 tally-le f zero = omega arith
 tally-le f (suc n) = let h = tally-le f n in let c = cond-le (f n) (tally f n) in omega arith
 
-pub tally-most : (f : ℕ → Bool) (P : ℕ → Type 0) (n : ℕ) → ((i : ℕ) → i < n → T (f i) → P i → ⊥) → (m : ℕ) → AtLeast P m n → m + tally f n ≤ n
+-- of the numbers that pass the test s, m have P, and none of these passes f
+pub tally-among : (f s : ℕ → Bool) (P : ℕ → Type 0) (n : ℕ) → ((i : ℕ) → i < n → T (f i) → T (s i) × (P i → ⊥)) → ((i : ℕ) → i < n → P i → T (s i))
+    → (m : ℕ) → AtLeast P m n → m + tally f n ≤ tally s n
 unfolding tally
-tally-most f P zero g zero a = omega arith
-tally-most f P (suc n) g zero a = let h = tally-le f n in let c = cond-le (f n) (tally f n) in omega arith
-tally-most f P zero g (suc m) a = absurd a
-tally-most f P (suc n) g (suc m) a =
+tally-among f s P zero g q zero a = omega arith
+tally-among f s P (suc n) g q zero a =
+    let h = tally-among f s P n (λ i p. g i (omega arith)) (λ i p. q i (omega arith)) zero tt in
+    let c = cond-mono (f n) (s n) (tally f n) (tally s n) (λ t. g n (le-refl (suc n)) t .0) (omega arith) in
+    omega arith
+tally-among f s P zero g q (suc m) a = absurd a
+tally-among f s P (suc n) g q (suc m) a =
     ⊎-elim
-    (λ y. let h = tally-most f P n (λ i p. g i (omega arith)) m (y .1) in let c = cond-not (f n) (tally f n)
-    (λ t. g n (le-refl (suc n)) t (y .0)) in omega arith)
-    (λ y. let h = tally-most f P n (λ i p. g i (omega arith)) (suc m) y in let c = cond-le (f n) (tally f n) in omega arith)
+    (λ y.
+    let h = tally-among f s P n (λ i p. g i (omega arith)) (λ i p. q i (omega arith)) m (y .1) in
+    let b = cond-not (f n) (tally f n) (λ t. g n (le-refl (suc n)) t .1 (y .0)) in
+    let c = cond-yes (s n) (tally s n) (q n (le-refl (suc n)) (y .0)) in
+    omega arith)
+    (λ y.
+    go (f n) (s n) (λ t. g n (le-refl (suc n)) t .0) (tally f n) (tally s n)
+    (tally-among f s P n (λ i p. g i (omega arith)) (λ i p. q i (omega arith)) (suc m) y))
     a
+  where
+    go : (b c : Bool) → (T b → T c) → (x y : ℕ) → suc m + x ≤ y → suc m + cond b (suc x) x ≤ cond c (suc y) y
+    go true true t x y h = omega arith
+    go true false t x y h = absurd (t tt)
+    go false true t x y h = omega arith
+    go false false t x y h = h
+
+pub tally-most : (f : ℕ → Bool) (P : ℕ → Type 0) (n : ℕ) → ((i : ℕ) → i < n → T (f i) → P i → ⊥) → (m : ℕ) → AtLeast P m n → m + tally f n ≤ n
+tally-most f P n g m a =
+    let most = tally-among f (λ i. true) P n (λ i p t. (tt, g i p t)) (λ i p y. tt) m a in
+    let all = tally-le (λ i. true) n in
+    omega arith
 
 pub one-of : (P : ℕ → Type 0) (n i : ℕ) → i < n → P i → AtLeast P 1 n
 one-of P zero i h p = omega arith
@@ -104,12 +136,6 @@ low-at f (suc n) =
     let r : (i : ℕ) × (i ≤ n) × (f i ≡ low f n) = low-at f n in
     ⊎-elim (λ q. (suc n, omega arith, omega arith)) (λ q. (r .0, omega arith, omega arith)) (lt-or-le (f (suc n)) (low f n))
 
-cond-mono : (b b′ : Bool) (k k′ : ℕ) → (T b → T b′) → k ≤ k′ → cond b (suc k) k ≤ cond b′ (suc k′) k′
-cond-mono true true k k′ f h = omega arith
-cond-mono true false k k′ f h = absurd (f tt)
-cond-mono false true k k′ f h = omega arith
-cond-mono false false k k′ f h = h
-
 pub tally-mono : (f g : ℕ → Bool) (n : ℕ) → ((i : ℕ) → i < n → T (f i) → T (g i)) → tally f n ≤ tally g n
 unfolding tally
 tally-mono f g zero h = omega arith
@@ -124,16 +150,21 @@ tally-all f (suc n) h = go (f n) (h n (le-refl (suc n))) (tally-all f n (λ i p.
     go true t e = ap suc e
     go false t e = absurd t
 
-pub tally-not : (f g : ℕ → Bool) → ((i : ℕ) → f i ≡ not (g i)) → (n : ℕ) → tally f n + tally g n ≡ n
+-- those that pass s are those that pass f too and those that do not
+pub tally-split : (s f g : ℕ → Bool) → ((i : ℕ) → f i ≡ not (g i)) → (n : ℕ) → tally (λ i. s i && f i) n + tally (λ i. s i && g i) n ≡ tally s n
 unfolding tally
-tally-not f g h zero = refl
-tally-not f g h (suc n) = go (f n) (g n) (h n) (tally-not f g h n)
+tally-split s f g h zero = refl
+tally-split s f g h (suc n) = go (s n) (f n) (g n) (h n) _ _ _ (tally-split s f g h n)
   where
-    go : (b c : Bool) → b ≡ not c → tally f n + tally g n ≡ n → cond b (suc (tally f n)) (tally f n) + cond c (suc (tally g n)) (tally g n) ≡ suc n
-    go true true q e = absurd (true≢false q)
-    go true false q e = omega arith
-    go false true q e = omega arith
-    go false false q e = absurd (false≢true q)
+    go : (a b c : Bool) → b ≡ not c → (x y z : ℕ) → x + y ≡ z → cond (a && b) (suc x) x + cond (a && c) (suc y) y ≡ cond a (suc z) z
+    go false b c q x y z e = e
+    go true true true q x y z e = absurd (true≢false q)
+    go true true false q x y z e = omega arith
+    go true false true q x y z e = omega arith
+    go true false false q x y z e = absurd (false≢true q)
+
+pub tally-not : (f g : ℕ → Bool) → ((i : ℕ) → f i ≡ not (g i)) → (n : ℕ) → tally f n + tally g n ≡ n
+tally-not f g h n = let e = tally-split (λ i. true) f g h n in let all = tally-all (λ i. true) n (λ i p. tt) in omega arith
 
 pub tally-or : (f g : ℕ → Bool) (n : ℕ) → tally (λ i. f i || g i) n ≤ tally f n + tally g n
 unfolding tally

@@ -5,15 +5,16 @@ use mathlib.Core.Bool.{Bool, true, false, not, Bool·not-not}
 use mathlib.Core.Logic.{_⊎_, inl, inr, ⊎-elim, _↔_}
 use native.Mathlib.Omega.{arith}
 use lib.Dec.{T, T-not}
-use Rattle.grammar.specs.Grammar.{leaf, neg, Inner, amount, counted}
+use Rattle.grammar.specs.Grammar.{leaf, neg, Inner, Over, amount, Counted, counted}
 use Rattle.row.specs.Lasso.{stepOf}
 use Rattle.row.specs.Round.{step-low}
 use Rattle.cltl.specs.Threshold.{threshold, distance, Nearest, quota}
-use Rattle.cltl.specs.Meaning.{Rows, Proper, AtLeast, Satisfies}
-use Rattle.cltl.specs.Rules.{window, throughout, judge, inner, count, rules}
-use Rattle.cltl.specs.Inner.{inner-sound, inner-complete}
+use Rattle.cltl.specs.Meaning.{Rows, Proper, AtLeast, Satisfies, among, size}
+use Rattle.cltl.specs.Rules.{window, throughout, judge, text, count, rules}
+use Rattle.cltl.specs.Basics.{and-l}
+use Rattle.cltl.specs.Members.{size-tally, whole-size, Text, text-exact}
 use Rattle.cltl.specs.Quorum.{window-at, window-of, quorum-cases, throughout-quorum, all-quorum}
-use Rattle.cltl.specs.Tally.{tally-least, tally-le, tally-most, tally-not}
+use Rattle.cltl.specs.Tally.{tally-least, tally-most, tally-not, tally-mono, at-least-map}
 
 threshold-nearest : (k N : ℕ) → Nearest k N (threshold k true N)
 unfolding threshold
@@ -56,38 +57,54 @@ module _ (h l carts : ℕ) (f : ℕ → ℕ → Bool) (Sat : ℕ → ℕ → Typ
         omega arith,
   )
 
-module _ (P : Rows) (proper : Proper P) (d s : ℕ) (low : s < P .h) (a : Inner) (k : ℕ) (percent : Bool) where
+module _ (P : Rows) (proper : Proper P) (d s : ℕ) (low : s < P .h) (a : Inner) (k : ℕ) (percent : Bool) (o : Over) where
   abbrev m : ℕ
-  m = threshold k percent (P .carts)
+  m = threshold k percent (size P o)
 
-  abbrev at : ℕ → ℕ → Bool
-  at i v = inner P i true a v
+  abbrev x : Counted
+  x = counted a (amount k percent o)
 
-  along : (m ≤ throughout (P .h) (P .l) (P .carts) d at s) ↔ AtLeast (λ i. (j : ℕ) → j ≤ d → Satisfies P i a (s + j)) m (P .carts)
+  abbrev at : Bool → ℕ → ℕ → Bool
+  at p i v = text P i (p, x) v
+
+  -- throughout, of the carts that the count is over
+  abbrev Along : ℕ → Type 0
+  Along i = T (among P o i) × ((j : ℕ) → j ≤ d → Satisfies P i a (s + j))
+
+  along : (m ≤ throughout (P .h) (P .l) (P .carts) d (at true) s) ↔ AtLeast Along m (P .carts)
   along =
-      throughout-holds (P .h) (P .l) (P .carts) at (λ i. Satisfies P i a) (λ i v. (inner-sound P proper i true a v, inner-complete P proper i true a v)) d s m
+      let holds = throughout-holds (P .h) (P .l) (P .carts) (at true) (λ i. Text P i (true, x)) (λ i v. text-exact P proper i (true, x) v) d s m in (
+        λ q. at-least-map _ Along (P .carts) (λ i _ y. (y 0 (omega arith) .0, λ j z. y j z .1)) m (holds .0 q),
+        λ y. holds .1 (at-least-map Along _ (P .carts) (λ i _ z j q. (z .0, z .1 j q)) m y),
+      )
 
-  pub count-holds : T (rules P d (leaf (counted a (amount k percent))) s)
-      ↔ (AtLeast (λ i. (j : ℕ) → j ≤ d → Satisfies P i a (s + j)) m (P .carts) ⊎ ((m ≡ 1) × ((i : ℕ) → i < P .carts → Satisfies P i a s)))
+  pub count-holds : T (rules P d (leaf x) s)
+      ↔ (AtLeast Along m (P .carts)
+      ⊎ ((m ≡ 1) × ((i : ℕ) → i < P .carts → T (among P o i)) × ((i : ℕ) → i < P .carts → Satisfies P i a s)))
   unfolding rules judge count quota
-  count-holds = (
-    λ x.
-        ⊎-elim (λ q. inl (along .0 q)) (λ q. inr (q .0, λ i p. inner-sound P proper i true a s (rw (step-low (P .h) (P .l) s low) (q .1 i p))))
-        (quorum-cases (P .h) (P .l) (P .carts) m at d s x),
-    ⊎-elim (λ x. throughout-quorum (P .h) (P .l) (P .carts) m at d s (along .1 x))
-        (λ x.
-        all-quorum (P .h) (P .l) (P .carts) m at d s (x .0)
-        (λ i p. rw (step-low (P .h) (P .l) s low) at (inner-complete P proper i true a s (x .1 i p)))),
-  )
+  count-holds =
+      let here : (i : ℕ) → T (at true i s) ↔ Text P i (true, x) s = λ i. rw (step-low (P .h) (P .l) s low) at (text-exact P proper i (true, x) s) in (
+        λ y.
+            ⊎-elim (λ q. inl (along .0 q)) (λ q. inr (q .0, (λ i p. here i .0 (q .1 i p) .0), λ i p. here i .0 (q .1 i p) .1))
+            (quorum-cases (P .h) (P .l) (P .carts) m (at true) d s y),
+        ⊎-elim (λ y. throughout-quorum (P .h) (P .l) (P .carts) m (at true) d s (along .1 y))
+            (λ y. all-quorum (P .h) (P .l) (P .carts) m (at true) d s (y .0) (λ i p. here i .1 (y .1 i p, y .2 i p))),
+      )
 
   -- asking for no cart: there are enough always, and the negation asks for one more than there are
-  pub asks-none : m ≡ 0 → T (rules P d (leaf (counted a (amount k percent))) s) × (T (rules P d (neg (leaf (counted a (amount k percent)))) s) → ⊥)
+  pub asks-none : m ≡ 0 → T (rules P d (leaf x) s) × (T (rules P d (neg (leaf x)) s) → ⊥)
   unfolding rules judge count quota
   asks-none e = (
-    throughout-quorum (P .h) (P .l) (P .carts) m at d s (omega (arith, e)),
-    λ x.
-        let but : ℕ → ℕ → Bool = λ i v. inner P i false a v in
+    throughout-quorum (P .h) (P .l) (P .carts) m (at true) d s (omega (arith, e)),
+    λ y.
+        let few = tally-mono (λ i. window (P .h) (P .l) (at false i) d s) (among P o) (P .carts)
+        (λ i _ z. and-l (among P o i) _ (window-at (P .h) (P .l) (at false i) d s 0 (omega arith) z)) in
+        let n = size-tally P o in
+        ⊎-elim (λ q. omega (arith, e))
+        (λ q.
+        let all = whole-size P o (λ i p. and-l (among P o i) _ (q .1 i p)) in
         let some = proper .some in
-        let few = tally-le (λ i. window (P .h) (P .l) (but i) d s) (P .carts) in
-        ⊎-elim (λ q. omega (arith, e)) (λ q. let o = q .0 in omega (arith, e)) (quorum-cases (P .h) (P .l) (P .carts) _ but d s x),
+        let one = q .0 in
+        omega (arith, e))
+        (quorum-cases (P .h) (P .l) (P .carts) _ (at false) d s y),
   )

@@ -5,7 +5,7 @@ use mathlib.Core.Path.{_≡_, refl, ap, subst, subst₂, _∙_}
 use mathlib.Core.Logic.{_⊎_, inl, inr, ⊎-elim, _↔_}
 use mathlib.Core.Bool.{Bool, cond}
 use mathlib.Core.List.{List, _++_, flatten}
-use lib.ListN.{length, take, drop}
+use lib.ListN.{length, take, drop, getD}
 use borrow.Author.Tests.{le-ltb}
 use Rattle.endian.specs.Little.{bytes}
 use Rattle.refusal.specs.Codes.{refused, codeOf}
@@ -25,12 +25,15 @@ use Rattle.plan.specs.declared.PlanRead.{PlanRead}
 use Rattle.moves.specs.Promises.{Moving, CartDeparts}
 use Rattle.moves.specs.Demands.{read-once}
 use Rattle.edit.specs.Replaced.{replaced}
-use Rattle.grammar.specs.Grammar.{Clause}
+use Rattle.grammar.specs.Grammar.{top, Clause}
+use Rattle.grammar.specs.Groups.{groups}
 use Rattle.cltl.specs.Meaning.{Run, TrueOf, TrueInStep}
 use Rattle.conflict.specs.Meaning.{Vertex, Swap, Conflict, Earliest}
 use Rattle.conflict.specs.OfPlan.{planRoutes, ConflictFree}
 use Rattle.plancheck.specs.Check.{planRows}
-use Rattle.plancheck.specs.Meaning.{Plain, Kept, ReadAndOpen, NoneAhead}
+use Rattle.plancheck.specs.Meaning.{HasGroups, FirstLacking, Plain, Kept, ReadAndOpen, NoneAhead}
+use Rattle.plancheck.specs.FirstClause.{first-21}
+use Rattle.plancheck.specs.Stages.{same-clauses}
 use Rattle.plancheck.specs.Demands.{never-meet, never-exchanged}
 use Rattle.controller.specs.Told.{read-both}
 use Rattle.controller.specs.Edge.{FloorReadCode, PlanReadCode, FloorWrittenCode, PlanWrittenCode, RulesReadCode, MovesCheckedCode, PlanCheckedCode, MovedOnCode, RowReplacedCode}
@@ -147,16 +150,49 @@ module _ (floor plan rules : List ℕ) (c : Code) (w : PlanCheckedCode floor pla
         n (conflict-twenty a (r .at t a)
         (record { run = r; moment = t; other = b; cart-there = here; other-there = there; two = two; counter = refl; conflicting = x }))
 
+  -- 21: cartplan_check_moves and cartplan_read_rules say 0, and in the caller's own reading `first` is the lowest clause that names a group the floor lacks and
+  -- `second` the first such group in its text
+  pub twenty-one-moves : c .number ≡ 21 → (c′ : Code) → MovesCheckedCode floor plan c′ → c′ .number ≡ 0
+  twenty-one-moves e c′ m =
+      let x = w .lacks-21 e in
+      m .accepted .1 (record { floor-is = x .floor-is; numbers = x .numbers; read = x .readable .files; unending = x .readable .moves })
+
+  pub twenty-one-rules : c .number ≡ 21 → (c′ : Code) → RulesReadCode rules c′ → c′ .number ≡ 0
+  twenty-one-rules e c′ r = let x = w .lacks-21 e in r .accepted .1 (x .clauses, x .readable .clauses)
+
+  module _ (f : Floor) (p : PlanNumbers) (cs : List Clause) (r : ReadAndOpen floor plan rules f p cs) where
+    pub twenty-one-lacking : c .number ≡ 21
+        → (c .first < length cs) × FirstLacking (f .groups) (groups (getD cs (c .first) top)) (c .second)
+        × ((j : ℕ) → j < c .first → HasGroups (f .groups) (getD cs j top))
+    twenty-one-lacking e =
+        let x = w .lacks-21 e in
+        let same = read-once floor plan (x .floor-is) f (x .numbers) p (x .readable .files) (r .files) in
+        subst₂
+        (λ (g : Floor) (ds : List Clause). (c .first < length ds)
+        × FirstLacking (g .groups) (groups (getD ds (c .first) top)) (c .second) × ((j : ℕ) → j < c .first → HasGroups (g .groups) (getD ds j top)))
+        (same .0) (same-clauses rules (x .clauses) cs (x .readable .clauses) (r .clauses)) (x .there, x .first, x .before)
+
+    -- all read without a conflict: 21 about the rules, with those numbers, where a clause names such a group; and where it is not 21 no clause does
+    pub lacking-twenty-one : ConflictFree floor f p → (k g : ℕ) → k < length cs → FirstLacking (f .groups) (groups (getD cs k top)) g
+        → ((j : ℕ) → j < k → HasGroups (f .groups) (getD cs j top)) → (c .about ≡ 3) × (c .number ≡ 21) × (c .first ≡ k) × (c .second ≡ g)
+    lacking-twenty-one free k g l x before = w .told-21 k g
+        (record { floor-is = f; numbers = p; clauses = cs; readable = r; no-20 = free; there = l; first = x; before = before })
+
+    pub not-twenty-one : ConflictFree floor f p → (c .number ≡ 21 → ⊥) → All (HasGroups (f .groups)) cs
+    not-twenty-one free n =
+        ⊎-elim (λ a. a .0) (λ x. absurd (n (lacking-twenty-one free (x .index) _ (x .there) (x .bad) (x .before) .1))) (first-21 (f .groups) cs)
+
   -- 0 too for the plan with the bytes of a smaller drift
   pub zero-smaller : c .number ≡ 0 → (f : Floor) (p : PlanNumbers) → ReadAs floor plan f p → (d : ℕ) → d ≤ p .head .drift
       → (c′ : Code) → PlanCheckedCode floor (stored plan 8 (bytes 2 d)) rules c′ → c′ .number ≡ 0
   zero-smaller z f p files d less c′ w′ =
       ap (λ (x : Code). x .number) (w′ .coded .code) ∙ ap (λ (v : Verdict). codeOf v .number) (w .means .smaller z f p files d less .1)
 
-  -- at drift 0: 0 exactly if floor, plan and sheet are read, moves are open without end, no run of drift 0 has a conflict, and every clause is true in
-  -- step
+  -- at drift 0: 0 exactly if floor, plan and sheet are read, moves are open without end, no run of drift 0 has a conflict, no clause names a group that the
+  -- floor lacks, and every clause is true in step
   pub zero-in-step : (f : Floor) (p : PlanNumbers) → ReadAs floor plan f p → p .head .drift ≡ 0
-      → (c .number ≡ 0) ↔ ((cs : List Clause) × ReadAndOpen floor plan rules f p cs × ConflictFree floor f p × All (TrueInStep (planRows floor f p)) cs)
+      → (c .number ≡ 0) ↔ ((cs : List Clause) × ReadAndOpen floor plan rules f p cs × ConflictFree floor f p × All (HasGroups (f .groups)) cs
+      × All (TrueInStep (planRows floor f p)) cs)
   zero-in-step f p files none = w .means .in-step f p files none
 
   -- nothing refused ahead: 0 exactly if the drift rules keep every clause

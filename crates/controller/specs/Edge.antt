@@ -38,14 +38,14 @@ use Rattle.edit.specs.Promises.{fileLength, Later, NewRow}
 use Rattle.conflict.specs.Meaning.{Conflict}
 use Rattle.conflict.specs.OfPlan.{planRoutes}
 use Rattle.plancheck.specs.Check.{checked}
-use Rattle.plancheck.specs.Meaning.{IsLineOf, Conflict20, Next16, Fails17, PlanRefused, SheetRefused}
+use Rattle.plancheck.specs.Meaning.{IsLineOf, Conflict20, Lacks21, Next16, Fails17, PlanRefused, SheetRefused}
 use Rattle.plancheck.specs.Promises.{Means}
 
 -- the refusal that four numbers tell
 abbrev pub refusalIn : Code → Refusal
 refusalIn c = record { number = c .number; first = c .first; second = c .second }
 
--- the four numbers of an operation's answer, which is one that document 01 names for it
+-- the four numbers of an operation's answer, which is one that document 01 or 02 names for it
 pub record Coded (t : Refusals) (v : Verdict) (c : Code) : Type 0 where
   pub code : c ≡ codeOf v
   pub answered : Answered t c
@@ -121,6 +121,10 @@ pub record PlanCheckedCode (floor plan rules : List ℕ) (c : Code) : Type 0 whe
   -- "Where no earlier refusal comes .., a plan is refused on this ground exactly if such a run exists."
   pub exists-20 : (m : Moving floor plan) → let P = planRoutes floor (m .floor-is) (m .numbers) in let d = m .numbers .head .drift in
       (c .number ≡ 20) ↔ ((a : ℕ) × (k : ℕ) × Conflict P d a k)
+  -- 21, by the clause in `first` and the group in `second`: nothing is refused before, and they are the lowest clause that names a group the floor lacks and
+  -- the first such group in its text; and where that is so, it is told
+  pub lacks-21 : c .number ≡ 21 → Lacks21 floor plan rules (c .first) (c .second)
+  pub told-21 : (k g : ℕ) → Lacks21 floor plan rules k g → (c .about ≡ 3) × (c .number ≡ 21) × (c .first ≡ k) × (c .second ≡ g)
   -- 16 and 17, by the clause in `first` and the step in `second`
   pub next-16 : c .number ≡ 16 → (c .second ≡ 0) × Next16 floor plan rules (c .first)
   pub fails-17 : c .number ≡ 17 → Fails17 floor plan rules (c .first) (c .second)

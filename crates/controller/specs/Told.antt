@@ -319,6 +319,9 @@ plan-checked floor s sheet v w g c q = subst (PlanCheckedCode floor s sheet) (sy
     λ e. w .exists-20 m .0 (codeOf v .first, codeOf v .second, of-number checkingPlan 20 refl v g e .0 refl),
     λ x. ap num (w .exists-20 m .1 x .2),
   );
+  lacks-21 = λ e. w .lacks-21 (codeOf v .first) (codeOf v .second) .0 (of-number checkingPlan 21 refl v g e .1 refl);
+  told-21 = λ k x y. let e = w .lacks-21 k x .1 y in
+      (ap (λ (u : Verdict). codeOf u .about) e, ap num e, ap (λ (u : Verdict). codeOf u .first) e, ap (λ (u : Verdict). codeOf u .second) e);
   next-16 = λ e. w .next-16 (codeOf v .first) (codeOf v .second) (of-number checkingPlan 16 refl v g e .1 refl);
   fails-17 = λ e. w .fails-17 (codeOf v .first) (codeOf v .second) (of-number checkingPlan 17 refl v g e .1 refl);
   shown = λ o cs a p picked. shown-clause floor s sheet v w cs a (refusalIn (codeOf v)) (of-numbers checkingPlan clauseNumbers refl refl v g o) o p picked;

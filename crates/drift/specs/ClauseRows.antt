@@ -8,16 +8,16 @@ use native.Mathlib.Omega.{arith}
 use lib.Dec.{eqb, ltb, eqb·suc-zero}
 use lib.ListN.{length}
 use borrow.Author.Tests.{ne-eqb}
-use Rattle.grammar.specs.Grammar.{Form, top, leaf, Amount, amount, Counted, counted, Clause}
+use Rattle.grammar.specs.Grammar.{Form, top, leaf, Amount, Counted, counted, Clause}
 use Rattle.grammar.specs.Nodes.{countN, Op₁, neg₁, next₁, ev₁, gl₁, Op₂, and₂, or₂, until₂, release₂}
 use Rattle.cltl.specs.Meaning.{Rows, Proper}
-use Rattle.cltl.specs.Rules.{both, leaves, judge, quorum, asked, text, count, joint, joined}
+use Rattle.cltl.specs.Rules.{both, leaves, judge, quorum, asked, text, count, uniform, joint, joined}
 use Rattle.cltl.specs.Basics.{lt-or-le}
 use Rattle.cltl.specs.Operators.{judge-plain}
 use Rattle.cltl.specs.Exact.{joining-plain}
 use Rattle.mask.specs.Mask.{on, Row}
 use Rattle.drift.specs.declared.Judged.{Judged}
-use Rattle.drift.specs.Tree.{kindAt, firstAt, secondAt, thirdAt, one, two, oneOf, twoOf, amountBy, Ordered, innerTree, clauseTree}
+use Rattle.drift.specs.Tree.{kindAt, firstAt, secondAt, one, two, oneOf, twoOf, Ordered, innerTree, clauseTree, amountAt}
 use Rattle.drift.specs.Operator.{isOr, orOf, oneRule, twoRule}
 use Rattle.drift.specs.Answer.{ClauseRow, PartRow, joinable, joinedWithDrift, Gathered, ClauseJudged}
 use Rattle.drift.specs.Kinds.{kind-count}
@@ -114,7 +114,7 @@ module _ (P : Rows) (d : ℕ) (nodes : List ℕ) (proper : Proper P) (p : Bool) 
   none m = top
 
   abbrev counts : ℕ → Amount → Form Counted
-  counts i y = leaf (counted (innerTree nodes (length nodes) i) y)
+  counts i x = leaf (counted (innerTree nodes (length nodes) i) x)
 
   -- by the tree of the node, however deep the look
   gathered : (xs : ℕ → List (Bool × Counted)) → ((n : ℕ) → k ≤ n → joinable d p (clauseTree nodes (suc n) k) ≡ xs n) → ((n : ℕ) → k ≤ n → Gathered P (xs n) t r)
@@ -135,15 +135,14 @@ module _ (P : Rows) (d : ℕ) (nodes : List ℕ) (proper : Proper P) (p : Bool) 
       mark-at : 1 ≤ kind → TruthIs (P .h) (P .l) (proper .lap) nodes rule (joinedWithDrift P d) none counts p k (on (r .row))
       mark-at u = at-mark (P .h) (P .l) (proper .lap) nodes rule (joinedWithDrift P d) none counts p k (on (r .row)) kind x ek ex (omega arith) (g .at)
 
-  module _ (m : ℕ) (em : m ≡ secondAt nodes k + 256 * thirdAt nodes k) (q : 10 ≤ kind) where
+  module _ (q : 10 ≤ kind) where
     abbrev this : Counted
-    this = counted (innerTree nodes (length nodes) x) (amount m (eqb kind 11))
+    this = counted (innerTree nodes (length nodes) x) (amountAt nodes k)
 
     count-tree : (n : ℕ) → clauseTree nodes (suc n) k ≡ leaf this
     count-tree n =
-        looked-up nodes n k (countN (firstAt nodes k) (amountBy (kindAt nodes k) (secondAt nodes k) (thirdAt nodes k)))
-        (kind-count (kindAt nodes k) _ _ _ (omega arith))
-        ∙ ap₂ (λ (i j : ℕ). counts i (amount j (eqb (kindAt nodes k) 11))) (sym ex) (sym em) ∙ ap (λ (o : ℕ). counts x (amount m (eqb o 11))) (sym ek)
+        looked-up nodes n k (countN (firstAt nodes k) (amountAt nodes k)) (kind-count (kindAt nodes k) _ _ _ (omega arith))
+        ∙ ap (λ (i : ℕ). counts i (amountAt nodes k)) (sym ex)
 
     pub count-judged : Row (P .h) (r .row) (quorum (P .h) (P .l) (P .carts) d (asked P (p, this)) (λ i. text P i (p, this)))
         → Gathered P (cond (eqb d 0) [] ((p, this) ∷ [])) t r
@@ -152,7 +151,7 @@ module _ (P : Rows) (d : ℕ) (nodes : List ℕ) (proper : Proper P) (p : Bool) 
     count-judged g f = record {
       rows = λ n z. record {
         low = g .low;
-        at = at-count (P .h) (P .l) (proper .lap) nodes rule (joinedWithDrift P d) none counts p k (on (r .row)) kind x ek ex m em q (g .at) n z;
+        at = at-count (P .h) (P .l) (proper .lap) nodes rule (joinedWithDrift P d) none counts p k (on (r .row)) kind x ek ex q (g .at) n z;
       };
       counts = gathered (λ n. cond (eqb d 0) [] ((p, this) ∷ [])) (λ n z. ap (joinable d p) (count-tree n)) (λ n z. f);
     }
@@ -232,7 +231,7 @@ module _ (P : Rows) (d : ℕ) (nodes : List ℕ) (proper : Proper P) (p : Bool) 
 
 -- a part's row is a clause's: without drift joining makes no difference
 pub part-row : (P : Rows) → Proper P → (d : ℕ) (nodes : List ℕ) (p : Bool) (k r : ℕ) → PartRow P d nodes p k r → ClauseRow P d nodes p k r
-unfolding joint joined
+unfolding joint joined uniform
 part-row P proper zero nodes p k r f n z =
     row-of (P .h) r _ _
     (λ s q. judge-plain (P .h) (P .l) (proper .lap) (count P 0) (joinedWithDrift P 0) (λ p c s q e. absurd e) p (clauseTree nodes n k) s q

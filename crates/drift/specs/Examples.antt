@@ -2,7 +2,7 @@
 use mathlib.Core.Path.{_≡_, refl}
 use mathlib.Core.Bool.{true, false}
 use mathlib.Core.List.{[], _∷_}
-use Rattle.grammar.specs.Grammar.{leaf, or, amount, counted, Clause}
+use Rattle.grammar.specs.Grammar.{leaf, or, fleet, group, amount, counted, Clause}
 use Rattle.grammar.specs.Nodes.{topN, markN, countN, and₂, or₂, until₂, release₂}
 use Rattle.cltl.specs.Rules.{leaves}
 use Rattle.drift.specs.Tree.{isLeaf}
@@ -13,7 +13,7 @@ use Rattle.drift.specs.Tallies.{tallyAt}
 use Rattle.drift.specs.Places.{constantAt, leafAt, pairsEnd, otherOf}
 
 abbrev either : Clause
-either = or (leaf (counted (leaf 0) (amount 1 false))) (leaf (counted (leaf 1) (amount 2 false)))
+either = or (leaf (counted (leaf 0) (amount 1 false fleet))) (leaf (counted (leaf 1) (amount 2 false fleet)))
 
 -- by their kinds: `true` and a mark, from ! to R operators, the two kinds of counts
 pub kinds :
@@ -38,7 +38,7 @@ pub ors :
     × (isOr release₂ true ≡ false)
     × (isOr release₂ false ≡ true)
     -- the counts of [m0,1] | [m1,2] are joined with drift, of its negation none are, and without drift none
-    × (joinable 1 true either ≡ ((true, counted (leaf 0) (amount 1 false)) ∷ (true, counted (leaf 1) (amount 2 false)) ∷ []))
+    × (joinable 1 true either ≡ ((true, counted (leaf 0) (amount 1 false fleet)) ∷ (true, counted (leaf 1) (amount 2 false fleet)) ∷ []))
     × (joinable 1 false either ≡ [])
     × (joinable 0 true either ≡ [])
 unfolding leaves
@@ -60,7 +60,7 @@ pub worked :
     × (leafAt 2 3 (markN 2) ≡ 9)
     × (leafAt 2 3 (markN 31) ≡ 9)
     -- a count inside a count is `true`
-    × (leafAt 2 3 (countN 0 (amount 1 false)) ≡ 6)
+    × (leafAt 2 3 (countN 0 (amount 1 false fleet)) ≡ 6)
     × (constantAt 2 3 true ≡ 6)
     × (constantAt 2 3 false ≡ 9)
     × (pairsEnd 2 3 ≡ 48)

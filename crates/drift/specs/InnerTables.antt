@@ -1,17 +1,18 @@
 -- The table of inner text, node by node.
 use Prim.Native.Nat.{ℕ, _+_, _≤_, _<_}
-use mathlib.Core.Path.{_≡_, refl, sym, ap, _∙_}
-use mathlib.Core.Bool.{Bool, true, false, not}
+use mathlib.Core.Path.{_≡_, refl, sym, ap, ap₂, _∙_}
+use mathlib.Core.Bool.{Bool, true, false, not, _&&_}
 use mathlib.Core.List.{List}
 use lib.ListN.{length}
-use Rattle.grammar.specs.Grammar.{Form, top, leaf, Amount}
+use Rattle.grammar.specs.Grammar.{Form, top, leaf, Over, Amount, amount, counted}
 use Rattle.grammar.specs.Nodes.{Op₁, neg₁, next₁, ev₁, gl₁}
-use Rattle.cltl.specs.Meaning.{Rows, Proper}
-use Rattle.cltl.specs.Rules.{judge, nothing, mark, inner, quorum}
+use Rattle.cltl.specs.Meaning.{Rows, Proper, among}
+use Rattle.cltl.specs.Rules.{judge, nothing, mark, inner, over, text, quorum}
 use Rattle.cltl.specs.Inner.{inner-opp}
 use Rattle.cltl.specs.Agree.{quorum-agrees}
-use Rattle.mask.specs.Mask.{Row, signed}
+use Rattle.mask.specs.Mask.{on, Row, signed}
 use Rattle.table.specs.Table.{told}
+use Rattle.quorum.specs.Words.{within}
 use Rattle.drift.specs.Tree.{oneOf, twoOf, Ordered, innerTree, kindAt, firstAt, secondAt}
 use Rattle.drift.specs.Operator.{under, oneRule, twoRule, exactRule}
 use Rattle.drift.specs.Answer.{InnerTable}
@@ -40,7 +41,7 @@ module _ (P : Rows) (proper : Proper P) (nodes t : List ℕ) (k at kind x : ℕ)
   marks m = leaf m
 
   abbrev none : ℕ → Amount → Form ℕ
-  none i y = top
+  none i x = top
 
   abbrev Is : (ℕ → ℕ → Bool) → Type 0
   Is f = (i : ℕ) → i < P .carts → Same (P .h) (told t at i) (f i)
@@ -51,7 +52,7 @@ module _ (P : Rows) (proper : Proper P) (nodes t : List ℕ) (k at kind x : ℕ)
 
   pub inner-count : 10 ≤ kind → Is (λ i s. true) → InnerTable P nodes k t at
   unfolding inner innerTree judge
-  inner-count e g = record { is = λ i n s q z u. at-count (P .h) (P .l) (proper .lap) nodes (rule i) nothing marks none true k _ kind x ek ex _ refl e (g i q) n z s u }
+  inner-count e g = record { is = λ i n s q z u. at-count (P .h) (P .l) (proper .lap) nodes (rule i) nothing marks none true k _ kind x ek ex e (g i q) n z s u }
 
   pub inner-mark : kind ≡ 1 → Is (λ i s. P .bears i s x) → InnerTable P nodes k t at
   unfolding inner innerTree judge mark
@@ -88,9 +89,17 @@ inner-signed P proper nodes t k at r true n z i q s u = r .is i n s q z u
 inner-signed P proper nodes t k at r false n z i q s u = ap not (r .is i n s q z u) ∙ sym (inner-opp P proper i (innerTree nodes n k) s u)
 
 -- so does the rule for a count over it
-pub count-signed : (P : Rows) → Proper P → (nodes t : List ℕ) (k at d m : ℕ) (p : Bool) (r : ℕ) → k < length nodes → InnerTable P nodes k t at
-    → Row (P .h) r (quorum (P .h) (P .l) (P .carts) d m (λ i s. signed p (told t at i s)))
-    → Row (P .h) r (quorum (P .h) (P .l) (P .carts) d m (λ i. inner P i p (innerTree nodes (length nodes) k)))
-count-signed P proper nodes t k at d m p r q f g =
-    row-of (P .h) r _ _
-    (quorum-agrees (P .carts) (P .h) (P .l) (proper .lap) d m _ _ (λ i c s u. inner-signed P proper nodes t k at f p (length nodes) q i c s u)) g
+module _ (P : Rows) (proper : Proper P) (nodes t : List ℕ) (k at : ℕ) (p : Bool) (q : k < length nodes) (f : InnerTable P nodes k t at)
+    (x : Amount) (who : ℕ) (over-is : (i : ℕ) → i < P .carts → on who i ≡ among P (over P (p, counted (innerTree nodes (length nodes) k) x)) i) where
+  -- of the carts that it is over
+  pub text-signed : (i : ℕ) → i < P .carts
+      → Same (P .h) (within who (λ i s. signed p (told t at i s)) i) (text P i (p, counted (innerTree nodes (length nodes) k) x))
+  text-signed i c s u = go x (over-is i c)
+    where
+      go : (x : Amount) → on who i ≡ among P (over P (p, counted (innerTree nodes (length nodes) k) x)) i
+          → (on who i && signed p (told t at i s)) ≡ text P i (p, counted (innerTree nodes (length nodes) k) x) s
+      go (amount m percent o) e = ap₂ (λ (a b : Bool). a && b) e (inner-signed P proper nodes t k at f p (length nodes) q i c s u)
+
+  pub count-signed : (d m r : ℕ) → Row (P .h) r (quorum (P .h) (P .l) (P .carts) d m (within who (λ i s. signed p (told t at i s))))
+      → Row (P .h) r (quorum (P .h) (P .l) (P .carts) d m (λ i. text P i (p, counted (innerTree nodes (length nodes) k) x)))
+  count-signed d m r g = row-of (P .h) r _ _ (quorum-agrees (P .carts) (P .h) (P .l) (proper .lap) d m _ _ text-signed) g

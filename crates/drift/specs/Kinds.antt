@@ -7,7 +7,7 @@ use lib.Dec.{T, eqb, ltb, ltb→lt, lt→ltb}
 use borrow.Author.Tests.{eq-eqb, ne-eqb, lt-ltb, le-ltb}
 use Rattle.grammar.specs.Nodes.{topN, markN, countN, oneN, twoN}
 use Rattle.cltl.specs.Basics.{or-cases, or-l, or-r, lt-or-le}
-use Rattle.drift.specs.Tree.{isLeaf, nodeOf, oneOf, twoOf, amountBy}
+use Rattle.drift.specs.Tree.{isLeaf, nodeOf, oneOf, twoOf, amountOf}
 use native.Mathlib.Omega.{arith}
 
 module _ (kind x y z : ℕ) where
@@ -29,7 +29,7 @@ module _ (kind x y z : ℕ) where
       let b : (kind ≡ 1) → ⊥ = (λ d. omega arith) in
       rw (ne-eqb kind 0 a, ne-eqb kind 1 b, le-ltb kind 6 p, lt-ltb kind 10 q)
 
-  pub kind-count : 10 ≤ kind → nodeOf kind x y z ≡ countN x (amountBy kind y z)
+  pub kind-count : 10 ≤ kind → nodeOf kind x y z ≡ countN x (amountOf kind y z)
   kind-count p =
       let a : (kind ≡ 0) → ⊥ = (λ d. omega arith) in
       let b : (kind ≡ 1) → ⊥ = (λ d. omega arith) in

@@ -17,4 +17,6 @@ still-lent g t w b t′ w′ l kept e = record {
   pairs = omega (arith, l .pairs, kept .size);
   windows = e;
   bits = l .bits;
+  fleet = l .fleet;
+  groups = l .groups;
 }

@@ -3,6 +3,7 @@ pub mod Tree
 pub mod Operator
 pub mod Ground
 pub mod Answer
+pub mod Lacking
 pub mod Need
 pub mod Places
 pub mod Lent
@@ -26,5 +27,7 @@ pub mod InnerTables
 pub mod NodeTables
 pub mod ClauseRows
 pub mod Gathering
+pub mod Carts
 pub mod Trees
 pub mod Off
+pub mod Lacked

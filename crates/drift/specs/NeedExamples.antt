@@ -4,7 +4,7 @@ use mathlib.Core.Path.{_≡_, refl}
 use mathlib.Core.Bool.{true, false}
 use mathlib.Core.List.{List, [], _∷_}
 use native.Mathlib.Omega.{arith}
-use Rattle.grammar.specs.Grammar.{top, leaf, neg, and, or, next, until, release, ev, gl, Inner, amount, counted, Clause}
+use Rattle.grammar.specs.Grammar.{top, leaf, neg, and, or, next, until, release, ev, gl, Inner, fleet, amount, counted, Clause}
 use Rattle.drift.specs.Tree.{nodeAt, tree, innerTree, clauseTree}
 use Rattle.drift.specs.Need.{more, need, markNeed, countNeed, needNode, InTurn}
 
@@ -74,10 +74,10 @@ pub worked :
     × (inside (innerTree nodes 4 3) ≡ 1)
     -- a count needs what its text needs, and two of them as two operands do
     × (needNode needs (nodeAt nodes 4) ≡ 1)
-    × (outside (leaf (counted (m 0) (amount 1 false))) ≡ 0)
-    × (outside (leaf (counted four (amount 1 false))) ≡ 2)
-    × (outside (or (leaf (counted four (amount 1 false))) (leaf (counted four (amount 2 true)))) ≡ 3)
-    × (outside (or (leaf (counted four (amount 1 false))) (leaf (counted both (amount 2 true)))) ≡ 2)
+    × (outside (leaf (counted (m 0) (amount 1 false fleet))) ≡ 0)
+    × (outside (leaf (counted four (amount 1 false fleet))) ≡ 2)
+    × (outside (or (leaf (counted four (amount 1 false fleet))) (leaf (counted four (amount 2 true fleet)))) ≡ 3)
+    × (outside (or (leaf (counted four (amount 1 false fleet))) (leaf (counted both (amount 2 true fleet)))) ≡ 2)
     × (outside (clauseTree nodes 9 8) ≡ 2)
 unfolding need clauseTree innerTree tree
 worked = (

@@ -9,7 +9,7 @@ use lib.Dec.{eqb}
 use Rattle.grammar.specs.Grammar.{Amount}
 use Rattle.grammar.specs.Nodes.{Node, topN, markN, countN, oneN, twoN}
 use Rattle.cltl.specs.Basics.{lt-or-le}
-use Rattle.drift.specs.Tree.{isLeaf, kindAt, firstAt, secondAt, thirdAt, nodeAt, oneOf, twoOf, amountBy}
+use Rattle.drift.specs.Tree.{isLeaf, kindAt, firstAt, secondAt, thirdAt, nodeAt, oneOf, twoOf, amountAt}
 use Rattle.drift.specs.Kinds.{kind-top, kind-mark, kind-one, kind-two, kind-count, leaf-kind}
 
 -- what holds of a node, by the tests on its kind
@@ -20,7 +20,7 @@ module _ {A : Type 0} (f : Node → A) (nodes : List ℕ) (k kind : ℕ) (ek : k
   pub of-mark : kind ≡ 1 → f (markN (firstAt nodes k)) ≡ f (nodeAt nodes k)
   of-mark e = sym (ap f (kind-mark (kindAt nodes k) _ _ _ (sym ek ∙ e)))
 
-  pub of-count : 10 ≤ kind → f (countN (firstAt nodes k) (amountBy (kindAt nodes k) (secondAt nodes k) (thirdAt nodes k))) ≡ f (nodeAt nodes k)
+  pub of-count : 10 ≤ kind → f (countN (firstAt nodes k) (amountAt nodes k)) ≡ f (nodeAt nodes k)
   of-count q = sym (ap f (kind-count (kindAt nodes k) _ _ _ (omega arith)))
 
   -- the same of every leaf

@@ -7,11 +7,11 @@ use mathlib.Core.Logic.{⊎-elim}
 use native.Mathlib.Omega.{arith}
 use lib.Dec.{eqb}
 use borrow.Author.Tests.{ne-eqb}
-use Rattle.grammar.specs.Grammar.{Form, Amount, amount}
+use Rattle.grammar.specs.Grammar.{Form, Amount}
 use Rattle.grammar.specs.Nodes.{Node, topN, markN, countN, oneN, twoN, next₁, ev₁, gl₁}
 use Rattle.cltl.specs.Rules.{judge}
 use Rattle.cltl.specs.Basics.{lt-or-le}
-use Rattle.drift.specs.Tree.{kindAt, firstAt, secondAt, thirdAt, nodeAt, oneOf, twoOf, amountBy, OperandsBelow, tree, Ordered}
+use Rattle.drift.specs.Tree.{kindAt, firstAt, secondAt, thirdAt, nodeAt, oneOf, twoOf, OperandsBelow, tree, Ordered, amountAt}
 use Rattle.drift.specs.Operator.{under, oneRule, twoRule, orOf}
 use Rattle.drift.specs.OperatorTruth.{Same, TruthIs, node-truth, one-truth, two-truth, top-truth}
 use Rattle.drift.specs.Kinds.{kind-top, kind-mark, kind-one, kind-two, kind-count}
@@ -30,7 +30,7 @@ module _ (block : List ℕ) (k : ℕ) (o : Ordered block (k + 1)) where
   two-low p q = is-below (twoN (twoOf (kindAt block k)) (firstAt block k) (secondAt block k)) (kind-two _ _ _ _ p q)
 
   pub count-low : 10 ≤ kindAt block k → firstAt block k < k
-  count-low p = is-below (countN (firstAt block k) (amountBy (kindAt block k) (secondAt block k) (thirdAt block k))) (kind-count _ _ _ _ p)
+  count-low p = is-below (countN (firstAt block k) (amountAt block k)) (kind-count _ _ _ _ p)
 
   -- every operator and count has a first operand
   pub first-low : 2 ≤ kindAt block k → firstAt block k < k
@@ -57,12 +57,10 @@ module _ (h l : ℕ) (ok : l < h) (block : List ℕ) {L : Type 0} (rule : Bool �
     pub at-mark : kind ≡ 1 → Same h f (judge h l rule also p (mark x)) → J p k f
     at-mark e g = node-truth h l ok block rule also mark count p k f (markN x) (kind-mark _ _ _ _ (sym ek ∙ e) ∙ ap markN (sym ex)) (λ n m. g)
 
-    pub at-count : (m : ℕ) → m ≡ secondAt block k + 256 * thirdAt block k → 10 ≤ kind → Same h f (judge h l rule also p (count x (amount m (eqb kind 11)))) → J p k f
-    at-count m em q g =
-        node-truth h l ok block rule also mark count p k f (countN x (amount m (eqb kind 11)))
-        (kind-count (kindAt block k) _ _ _ (omega arith) ∙ ap₂ (λ (i n : ℕ). countN i (amount n (eqb (kindAt block k) 11))) (sym ex) (sym em) ∙ ap
-        (λ (o : ℕ). countN x (amount m (eqb o 11))) (sym ek))
-        (λ n m. g)
+    pub at-count : 10 ≤ kind → Same h f (judge h l rule also p (count x (amountAt block k))) → J p k f
+    at-count q g =
+        node-truth h l ok block rule also mark count p k f (countN x (amountAt block k))
+        (kind-count (kindAt block k) _ _ _ (omega arith) ∙ ap (λ (i : ℕ). countN i (amountAt block k)) (sym ex)) (λ n m. g)
 
     module _ (a : ℕ → Bool) (o : Ordered block (k + 1)) where
       pub at-one : 2 ≤ kind → kind < 6 → J (under (oneOf kind) p) x a → Same h f (oneRule h l p (oneOf kind) a) → J p k f

@@ -1,5 +1,5 @@
 -- The tallies of single marks, kept from count to count.
-use Prim.Native.Nat.{ℕ, _+_, _*_, _≤_, _<_}
+use Prim.Native.Nat.{ℕ, _+_, _-_, _*_, _^_, _≤_, _<_}
 use mathlib.Core.Path.{_≡_}
 use mathlib.Core.Bool.{Bool, cond}
 use mathlib.Core.List.{List}
@@ -7,6 +7,7 @@ use mathlib.Core.Logic.{_⊎_}
 use lib.ListN.{getD, length}
 use Rattle.mask.specs.Mask.{signed}
 use Rattle.table.specs.Table.{told}
+use Rattle.quorum.specs.Words.{within}
 use Rattle.quorum.specs.Tallies.{Tallied}
 use Rattle.drift.specs.declared.Ground.{Ground}
 
@@ -22,9 +23,9 @@ pub record KeptAt (g : Ground) (from : ℕ) (p : Bool) (at : ℕ) : Type 0 where
   pub place : at ≡ tallyAt g from p
   pub room : at + g .h ≤ 2048
 
--- the tallies from an offset on are those of the text, or of its negation, whose table begins at another
+-- the tallies from an offset on are those of all carts, of the text, or of its negation, whose table begins at another
 abbrev pub TalliesOf : Ground → (t : List ℕ) (from : ℕ) → Bool → (at : ℕ) → List ℕ → Type 0
-TalliesOf g t from p at tallies = Tallied (g .h) (g .l) (g .carts) (g .d) (λ i s. signed p (told t from i s)) at tallies
+TalliesOf g t from p at tallies = Tallied (g .h) (g .l) (g .carts) (g .d) (within (2 ^ g .carts - 1) (λ i s. signed p (told t from i s))) at tallies
 
 -- What is kept: of each mark and of its negation nothing yet, which 255 in the first byte says (no tally is above 32), or the tallies of all steps.
 pub record Tallies (g : Ground) (t tallies : List ℕ) : Type 0 where

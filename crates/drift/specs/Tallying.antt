@@ -1,7 +1,7 @@
 -- Tallies are made one text at a time, and stay.
-use Prim.Native.Nat.{ℕ, _+_, _*_, _≤_, _<_}
+use Prim.Native.Nat.{ℕ, _+_, _-_, _*_, _^_, _≤_, _<_}
 use mathlib.Core.Path.{_≡_, refl, sym, ap, subst, _∙_}
-use mathlib.Core.Bool.{Bool, true, false}
+use mathlib.Core.Bool.{Bool, true, false, _&&_}
 use mathlib.Core.List.{List}
 use mathlib.Core.Logic.{_⊎_, inl, inr, ⊎-elim}
 use native.Mathlib.Omega.{arith}
@@ -9,11 +9,12 @@ use lib.ListN.{getD, replicate, length-replicate, getD-replicate}
 use Rattle.cltl.specs.Rules.{throughout}
 use Rattle.cltl.specs.Basics.{lt-or-le}
 use Rattle.cltl.specs.Agree.{throughout-agrees}
-use Rattle.mask.specs.Mask.{signed}
+use Rattle.mask.specs.Mask.{on, signed}
 use Rattle.table.specs.Table.{told, Stored, Apart, Kept}
 use Rattle.table.specs.Layout.{pairsAt}
 use Rattle.table.specs.Storing.{apart-word}
 use Rattle.table.specs.Keeping.{kept-told, table-ends}
+use Rattle.quorum.specs.Words.{within}
 use Rattle.drift.specs.declared.Ground.{Ground}
 use Rattle.drift.specs.Ground.{InRange}
 use Rattle.drift.specs.Tallies.{tallyAt, KeptAt, TalliesOf, Tallies}
@@ -56,7 +57,7 @@ no-tallies g r t = record {
 -- the tallies of a text are stored
 abbrev MadeOf : Ground → (t : List ℕ) (from : ℕ) → Bool → (at : ℕ) (before after : List ℕ) → Type 0
 MadeOf g t from p at before after =
-    Stored (λ s x. x ≡ throughout (g .h) (g .l) (g .carts) (g .d) (λ i s. signed p (told t from i s)) s) at 0 (g .h) before after
+    Stored (λ s x. x ≡ throughout (g .h) (g .l) (g .carts) (g .d) (within (2 ^ g .carts - 1) (λ i s. signed p (told t from i s))) s) at 0 (g .h) before after
 
 module _ (g : Ground) (r : InRange g) where
   -- as long as the tables of the marks do
@@ -73,11 +74,11 @@ module _ (g : Ground) (r : InRange g) where
           omega (arith, table-ends (g .h) (here .mark) (g .marks + 2) (omega arith))
 
       same : (from : ℕ) (p : Bool) → from + g .h ≤ pairsAt (g .marks) (g .h) → (s : ℕ)
-          → throughout (g .h) (g .l) (g .carts) (g .d) (λ i s. signed p (told t from i s)) s
-          ≡ throughout (g .h) (g .l) (g .carts) (g .d) (λ i s. signed p (told t′ from i s)) s
+          → throughout (g .h) (g .l) (g .carts) (g .d) (within (2 ^ g .carts - 1) (λ i s. signed p (told t from i s))) s
+          ≡ throughout (g .h) (g .l) (g .carts) (g .d) (within (2 ^ g .carts - 1) (λ i s. signed p (told t′ from i s))) s
       same from p end s =
           throughout-agrees (g .carts) (g .h) (g .l) (r .lap) (g .d) _ _
-          (λ i _ s u. ap (signed p) (sym (kept-told (pairsAt (g .marks) (g .h)) t t′ kept from (g .h) i s end u))) s
+          (λ i _ s u. ap (λ (b : Bool). on (2 ^ g .carts - 1) i && signed p b) (sym (kept-told (pairsAt (g .marks) (g .h)) t t′ kept from (g .h) i s end u))) s
 
   module _ (t : List ℕ) (from : ℕ) (p : Bool) (at : ℕ) (here : KeptAt g from p at) where
     -- what is there already

@@ -1,10 +1,10 @@
 -- A block of nodes, four bytes to each, and the text that a node stands for.
-use Prim.Native.Nat.{ℕ, zero, suc, _+_, _*_, _≤_, _<_}
+use Prim.Native.Nat.{ℕ, zero, suc, _+_, _*_, _/_, _%_, _≤_, _<_}
 use mathlib.Core.Bool.{Bool, cond, _||_}
 use mathlib.Core.List.{List}
 use lib.Dec.{eqb, ltb}
 use lib.ListN.{getD, length}
-use Rattle.grammar.specs.Grammar.{Form, top, leaf, neg, and, or, next, until, release, ev, gl, Inner, Amount, amount, counted, Clause}
+use Rattle.grammar.specs.Grammar.{Form, top, leaf, neg, and, or, next, until, release, ev, gl, Inner, Over, fleet, group, Amount, amount, counted, Clause}
 use Rattle.grammar.specs.Nodes.{Node, topN, markN, countN, oneN, twoN, Op₁, neg₁, next₁, ev₁, gl₁, Op₂, and₂, or₂, until₂, release₂}
 
 abbrev pub oneOf : ℕ → Op₁
@@ -13,15 +13,20 @@ oneOf kind = cond (eqb kind 2) neg₁ (cond (eqb kind 3) next₁ (cond (eqb kind
 abbrev pub twoOf : ℕ → Op₂
 twoOf kind = cond (eqb kind 6) and₂ (cond (eqb kind 7) or₂ (cond (eqb kind 8) until₂ release₂))
 
--- a count's amount, by its kind and the last two bytes
-abbrev pub amountBy : ℕ → ℕ → ℕ → Amount
-amountBy kind y z = amount (y + 256 * z) (eqb kind 11)
+-- the carts that a count is over, by a number: 0 the fleet, any other the group one below
+abbrev pub overOf : ℕ → Over
+overOf zero = fleet
+overOf (suc g) = group g
+
+-- what a count asks for, by its kind and its last two bytes: of the last byte two bits are the number's, the others tell the carts
+abbrev pub amountOf : ℕ → ℕ → ℕ → Amount
+amountOf kind y z = amount (y + 256 * (z % 4)) (eqb kind 11) (overOf (z / 4))
 
 -- by its kind (0 true, 1 a mark, 2 to 5 ! X F G, 6 to 9 & | U R, 10 a count, 11 one by percentage) and the three bytes behind it
 abbrev pub nodeOf : ℕ → ℕ → ℕ → ℕ → Node
 nodeOf kind x y z =
     cond (eqb kind 0) topN
-    (cond (eqb kind 1) (markN x) (cond (ltb kind 6) (oneN (oneOf kind) x) (cond (ltb kind 10) (twoN (twoOf kind) x y) (countN x (amountBy kind y z)))))
+    (cond (eqb kind 1) (markN x) (cond (ltb kind 6) (oneN (oneOf kind) x) (cond (ltb kind 10) (twoN (twoOf kind) x y) (countN x (amountOf kind y z)))))
 
 -- `true`, a mark or a count: no operator
 abbrev pub isLeaf : ℕ → Bool
@@ -40,6 +45,9 @@ module _ (block : List ℕ) (k : ℕ) where
 
   abbrev pub thirdAt : ℕ
   thirdAt = getD block (4 * k + 3) 0
+
+  abbrev pub amountAt : Amount
+  amountAt = amountOf kindAt secondAt thirdAt
 
   abbrev pub nodeAt : Node
   nodeAt = nodeOf kindAt firstAt secondAt thirdAt

@@ -14,9 +14,9 @@ use Rattle.cltl.specs.Meaning.{Rows}
 use Rattle.cltl.specs.Rules.{hasNext, rules}
 use Rattle.cltl.specs.Basics.{lt-or-le}
 use Rattle.cltl.specs.Step.{lowest, failing}
-use Rattle.drift.specs.Tree.{isLeaf, nodeAt, one, two, oneOf, twoOf, formOf, tree, innerTree, clauseTree, Ordered}
+use Rattle.drift.specs.Tree.{isLeaf, nodeAt, one, two, oneOf, twoOf, formOf, tree, innerTree, clauseTree, Ordered, amountAt}
 use Rattle.drift.specs.Kinds.{kind-top, kind-mark, kind-one, kind-two, kind-count}
-use Rattle.drift.specs.Tree.{kindAt, firstAt, secondAt, thirdAt, amountBy}
+use Rattle.drift.specs.Tree.{kindAt, firstAt, secondAt, thirdAt}
 use Rattle.drift.specs.NodeIs.{of-leaf}
 use Rattle.drift.specs.NodeTruth.{one-low, two-low}
 
@@ -148,4 +148,4 @@ module _ (P : Rows) (d : ℕ) (block : List ℕ) (k : ℕ) where
       count-at z =
           sym
           (ap (failing P d)
-          (looked-up block n k (countN (firstAt block k) (amountBy (kindAt block k) (secondAt block k) (thirdAt block k))) (kind-count _ _ _ _ z)))
+          (looked-up block n k (countN (firstAt block k) (amountAt block k)) (kind-count _ _ _ _ z)))

@@ -1,9 +1,9 @@
 // A clause on the rows of all carts. A negation goes inward as a flag, down to the counts.
 use crate::Ground;
 use crate::Judged;
-use crate::counts::quota;
+use crate::counts::asked_at;
 use crate::counts::slack_of;
-use crate::counts::threshold;
+use crate::counts::who_at;
 use crate::inner::inner_table;
 use crate::joining::alone;
 use crate::joining::one_judged;
@@ -11,7 +11,6 @@ use crate::joining::two_judged;
 use crate::needs::in_turn;
 use crate::nodes::first_at;
 use crate::nodes::kind_at;
-use crate::nodes::number_at;
 use crate::operators::under;
 use crate::tallies::count_told;
 ghost use mathlib.Core.Path.{_≡_};
@@ -32,7 +31,7 @@ fn leaf_judged(
     needs: &[u8],
     t: &mut [u32],
     w: &mut [u32; 81],
-    bits: &[u32; 32],
+    bits: &[u32; 41],
     tallies: &mut [u8; 2048],
     g: Ground,
     at: usize,
@@ -46,12 +45,12 @@ fn leaf_judged(
     ensures { λ r. ⌜ Kept at (now (t .entry)) (now (t .exit)) × (length (now (w .exit)) ≡ 81) × Placed (g .marks) (g .h) at (r .at)
         × (r .at + g .h ≤ length (now (t .exit))) × Tallies g (now (t .exit)) (now (tallies .exit)) ⌝ }
     ensures { λ r. ⌜ ((bears : ℕ → ℕ → ℕ → Bool) → Shown (g .marks) (g .carts) (g .h) bears (now (t .entry))
-        → ClauseJudged (rowsOn (g .carts) (g .h) (g .l) bears) (g .d) (now (nodes .entry)) p k (now (t .exit)) r) ⌝ }
+        → ClauseJudged (rowsOn (g .carts) (g .h) (g .l) bears (now (bits .entry))) (g .d) (now (nodes .entry)) p k (now (t .exit)) r) ⌝ }
 {
-    let percent = kind_at(nodes, k) == 11;
-    let m = quota(p, threshold(number_at(nodes, k), percent, g.carts), g.carts);
+    let who = who_at(nodes, bits, k);
+    let m = asked_at(nodes, who, g.carts, p, k);
     let from = inner_table(nodes, needs, t, g, at, first_at(nodes, k));
-    let row = count_told(t, from, p, m, w, bits, g, tallies);
+    let row = count_told(t, from, p, m, who, w, bits, g, tallies);
     if g.d == 0 {
         return alone(row, g);
     }
@@ -61,6 +60,7 @@ fn leaf_judged(
         at: from,
         sign: p,
         slack: slack_of(m),
+        who,
     }
 }
 
@@ -70,7 +70,7 @@ fn clause_judged(
     needs: &[u8],
     t: &mut [u32],
     w: &mut [u32; 81],
-    bits: &[u32; 32],
+    bits: &[u32; 41],
     tallies: &mut [u8; 2048],
     g: Ground,
     at: usize,
@@ -84,7 +84,7 @@ fn clause_judged(
     ensures { λ r. ⌜ Kept at (now (t .entry)) (now (t .exit)) × (length (now (w .exit)) ≡ 81) × Placed (g .marks) (g .h) at (r .at)
         × (r .at + g .h ≤ length (now (t .exit))) × Tallies g (now (t .exit)) (now (tallies .exit)) ⌝ }
     ensures { λ r. ⌜ ((bears : ℕ → ℕ → ℕ → Bool) → Shown (g .marks) (g .carts) (g .h) bears (now (t .entry))
-        → ClauseJudged (rowsOn (g .carts) (g .h) (g .l) bears) (g .d) (now (nodes .entry)) p k (now (t .exit)) r) ⌝ }
+        → ClauseJudged (rowsOn (g .carts) (g .h) (g .l) bears (now (bits .entry))) (g .d) (now (nodes .entry)) p k (now (t .exit)) r) ⌝ }
 {
     let kind = kind_at(nodes, k);
     if 9 < kind {
@@ -112,7 +112,7 @@ pub fn clause_row(
     needs: &[u8],
     t: &mut [u32],
     w: &mut [u32; 81],
-    bits: &[u32; 32],
+    bits: &[u32; 41],
     tallies: &mut [u8; 2048],
     g: Ground,
     p: bool,
@@ -124,7 +124,7 @@ pub fn clause_row(
     ensures { λ _. ⌜ Kept (pairsAt (g .marks) (g .h)) (now (t .entry)) (now (t .exit)) × (length (now (w .exit)) ≡ 81)
         × Tallies g (now (t .exit)) (now (tallies .exit)) ⌝ }
     ensures { λ r. ⌜ ((bears : ℕ → ℕ → ℕ → Bool) → Shown (g .marks) (g .carts) (g .h) bears (now (t .entry))
-        → ClauseRow (rowsOn (g .carts) (g .h) (g .l) bears) (g .d) (now (nodes .entry)) p k r) ⌝ }
+        → ClauseRow (rowsOn (g .carts) (g .h) (g .l) bears (now (bits .entry))) (g .d) (now (nodes .entry)) p k r) ⌝ }
 {
     let r = clause_judged(
         nodes,

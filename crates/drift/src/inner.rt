@@ -9,6 +9,7 @@ use crate::places::place_two;
 use crate::tables::constant_at;
 ghost use mathlib.Core.Path.{_≡_};
 ghost use mathlib.Core.Bool.{Bool};
+ghost use mathlib.Core.List.{List};
 ghost use Prim.Native.Nat.{ℕ, _+_, _≤_};
 ghost use lib.ListN.{getD, length};
 ghost use Rattle.table.specs.Table.{Kept};
@@ -58,8 +59,8 @@ pub fn inner_table(
     requires { ⌜ PairsFrom (g .marks) (g .h) at (getD (now needs) k 0) ⌝ }
     requires { ⌜ pairsEnd (g .marks) (g .h) ≤ length (now t) ⌝ }
     ensures { λ r. ⌜ Kept at (now (t .entry)) (now (t .exit)) × Placed (g .marks) (g .h) at r × (r + g .h ≤ length (now (t .exit))) ⌝ }
-    ensures { λ r. ⌜ ((bears : ℕ → ℕ → ℕ → Bool) → Shown (g .marks) (g .carts) (g .h) bears (now (t .entry))
-        → InnerTable (rowsOn (g .carts) (g .h) (g .l) bears) (now (nodes .entry)) k (now (t .exit)) r) ⌝ }
+    ensures { λ r. ⌜ ((bears : ℕ → ℕ → ℕ → Bool) (b : List ℕ) → Shown (g .marks) (g .carts) (g .h) bears (now (t .entry))
+        → InnerTable (rowsOn (g .carts) (g .h) (g .l) bears b) (now (nodes .entry)) k (now (t .exit)) r) ⌝ }
 {
     let kind = kind_at(nodes, k);
     if is_leaf(kind) {

@@ -26,7 +26,7 @@ ghost use Rattle.drift.specs.Places.{pairsEnd, Placed};
 ghost use Rattle.drift.specs.Lent.{Lent};
 ghost use Rattle.drift.specs.Answer.{rowsOn, Alone, Gathered};
 
-// What has no counts to join: the or of none has the table of none.
+// What has no counts to join has the table of none.
 pub fn alone(row: u64, g: Ground) -> Judged
     requires { ⌜ InRange g ⌝ }
     ensures { λ r. ⌜ Alone (g .marks) (g .h) row r ⌝ }
@@ -37,6 +37,7 @@ pub fn alone(row: u64, g: Ground) -> Judged
         at: constant_at(g, false),
         sign: true,
         slack: 0,
+        who: 0,
     }
 }
 
@@ -69,17 +70,17 @@ pub fn two_judged(
     second: Judged,
     t: &mut [u32],
     w: &mut [u32; 81],
-    bits: &[u32; 32],
+    bits: &[u32; 41],
     g: Ground,
     at: usize,
 ) -> Judged
     requires { ⌜ Lent g (now t) (now w) (now bits) ⌝ }
     requires { ⌜ (pairsAt (g .marks) (g .h) ≤ at) × (at + 2 * g .h ≤ pairsEnd (g .marks) (g .h)) ⌝ }
     requires { ⌜ Placed (g .marks) (g .h) at (first .at) × Placed (g .marks) (g .h) (at + 2 * g .h) (second .at) × (second .at + g .h ≤ length (now t)) ⌝ }
-    requires { ⌜ (first .row < 2 ^ g .h) × (second .row < 2 ^ g .h) × (first .slack ≤ 32) × (second .slack ≤ 32) ⌝ }
+    requires { ⌜ (first .row < 2 ^ g .h) × (second .row < 2 ^ g .h) × (first .slack ≤ 32) × (second .slack ≤ 32) × (first .who < 2 ^ g .carts) ⌝ }
     ensures { λ r. ⌜ Kept at (now (t .entry)) (now (t .exit)) × (length (now (w .exit)) ≡ 81) × Placed (g .marks) (g .h) at (r .at)
         × (r .at + g .h ≤ length (now (t .exit))) ⌝ }
-    ensures { λ r. ⌜ ((bears : ℕ → ℕ → ℕ → Bool) (xs ys : List (Bool × Counted)) → let P = rowsOn (g .carts) (g .h) (g .l) bears in
+    ensures { λ r. ⌜ ((bears : ℕ → ℕ → ℕ → Bool) (xs ys : List (Bool × Counted)) → let P = rowsOn (g .carts) (g .h) (g .l) bears (now (bits .entry)) in
         let zs = cond (isOr (twoOf kind) p) (both xs ys) [] in
         Gathered P xs (now (t .entry)) (cond swapped second first) → Gathered P ys (now (t .entry)) (cond swapped first second)
         → Row (g .h) (r .row) (twoRule (g .h) (g .l) p (twoOf kind) (joint P (g .d) zs) (on (cond swapped (second .row) (first .row)))
@@ -87,12 +88,20 @@ pub fn two_judged(
 {
     let a = chosen_row(swapped, second.row, first.row);
     let b = chosen_row(swapped, first.row, second.row);
-    if !(is_or(kind, p) & first.joins & second.joins) {
+    if !(is_or(kind, p) & first.joins & second.joins & (first.who == second.who)) {
         return alone(two_row(kind, p, 0, a, b, g.h, g.l), g);
     }
     let to = place_either(first.sign, second.sign, t, first.at, second.at, at, g);
     let slack = added(first.slack, second.slack);
-    let row = two_row(kind, p, together(t, to, slack, w, bits, g), a, b, g.h, g.l);
+    let row = two_row(
+        kind,
+        p,
+        together(t, to, slack, first.who, w, bits, g),
+        a,
+        b,
+        g.h,
+        g.l,
+    );
     if 7 < kind {
         return alone(row, g);
     }
@@ -102,5 +111,6 @@ pub fn two_judged(
         at: to,
         sign: true,
         slack,
+        who: first.who,
     }
 }

@@ -45,8 +45,8 @@ cart = record { number = 3; size = 2; most = 32; bad = λ before body. ltb 7 (ge
 abbrev pub narrow : Kind
 narrow = record { number = 6; size = 1; most = 256; bad = λ before body. absent before (getD body 0 0) }
 
--- 7 group, document 02, 6): "four bytes, bit n for cart n", "at most eight"; 6: "an absent cart", that is, a bit at the number of carts or above it; carts
--- are the third kind of the table
+-- 7 group, document 02, 6): "a four-byte body, bit n for cart n; up to eight groups, numbered from 0 (the ninth is 5, an absent cart 6)": 6 for a bit at the
+-- number of carts or above it; carts are the third kind of the table
 abbrev pub group : Kind
 group = record { number = 7; size = 4; most = 8; bad = λ before body. leb (2 ^ getD before 2 0) (value body) }
 

@@ -6,7 +6,7 @@ use Rattle.floor.specs.Numbers.{FloorNumbers}
 use Rattle.floor.specs.declared.Floor.{Floor}
 
 pub record ValidFloor (n : FloorNumbers) (f : Floor) : Type 0 where
-  -- "1 to 256" places, "0 to 1,024" lanes of three bytes, "1 to 32" carts of two; "at most 256" narrow places, "at most eight" groups
+  -- "1 to 256" places, "0 to 1,024" lanes of three bytes, "1 to 32" carts of two; "at most 256" narrow places, "up to eight groups"
   pub places : length (n .places) ≡ f .places
   pub lanes : length (n .lanes) ≡ 3 * f .lanes
   pub carts : length (n .carts) ≡ 2 * f .carts

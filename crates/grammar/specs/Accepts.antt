@@ -9,9 +9,9 @@ use native.Mathlib.Omega.{arith}
 use lib.ListN.{length, take, drop}
 use lib.Dec.{leb, ltb, eqb}
 use borrow.Author.Tests.{ltb-false, leb-true, leb-false, eqb-true}
-use Rattle.grammar.specs.Grammar.{Form, top, Spaces, none, Number, nought, without, Rank, small, Part, word, one-small, one-until, one-and, Mark, mark, Inner, Amount, amount, AmountText, written, Counted, counted, Count, count, Clause, Sheet, done, line}
+use Rattle.grammar.specs.Grammar.{Form, top, Spaces, none, Number, nought, without, Rank, small, Part, word, one-small, one-until, one-and, Mark, mark, Inner, fleet, ungrouped, Amount, amount, AmountText, written, Counted, counted, Count, count, Clause, Sheet, done, line}
 use Rattle.grammar.specs.Limits.{level, nodes, InRange, markLevel, markNodes, MarkOk, countLevel, countNodes, CountOk, most, Ranged, Fits}
-use Rattle.grammar.specs.Reader.{Got, no, bind, skip, expect, number, ors, markBy, marks, inners, amounts, countEnd, countBy, counts, clauses, clauseLine, lines, accepted, refused, outcome, start, readSheet}
+use Rattle.grammar.specs.Reader.{Got, no, bind, skip, number, ors, markBy, marks, inners, amounts, countEnd, countBy, counts, clauses, clauseLine, lines, accepted, refused, outcome, start, readSheet}
 use Rattle.grammar.specs.Answers.{AcceptedSheet, InSheet, Begins, BeginsInRange, WholeNumber, WholePercent, Token, Allowed, Large, OutOfRange}
 use Rattle.grammar.specs.Ends.{Swap, here, there, Mode, near, whole, not-near, Keeps, keeps-near, keeps-13, keeps-14, keeps-15, swap-trans, swap-short, Framed, frame-spaces, frame-token, frame-number, frame-percent, frame-amount, amount-short, frame, frame-mark, frame-count}
 use Rattle.grammar.specs.Each.{Each, gives, denies, each-bind, each-map, each-node, either, never, skip-spaces, each-expect, each-number, AmountOn, nought-on, each-amount}
@@ -83,10 +83,10 @@ LateCount = Refuses Count countLevel countNodes CountOk small
 
 -- the least text of an amount
 abbrev nil : Amount
-nil = amount 0 false
+nil = amount 0 false fleet
 
 nil-text : {r : List ℕ} → AmountText (48 ∷ r) r nil
-nil-text = written nought without
+nil-text = written nought without ungrouped
 
 bracket-refuses : (b : ℕ) {s r : List ℕ} → Spaces s (b ∷ r) → b ≡ 91 → LateCount s 14 (b ∷ r)
 bracket-refuses b {r = r} x e =
@@ -126,9 +126,9 @@ module _ (a : Inner) (s s₁ s₂ s₃ s₄ : List ℕ) (o : Spaces s (91 ∷ s�
         44 ∷ s₃,
         44 ∷ d' .0,
         o' .0,
-        Form.leaf (counted a (amount k q)),
+        Form.leaf (counted a (amount k q fleet)),
         swap-trans (o' .1) (swap-trans (p' .1) (c' .1)),
-        Part.leaf (count (o' .2) (p' .2) (c' .2) (d' .2) (written (y' .2) (z' .2)) none),
+        Part.leaf (count (o' .2) (p' .2) (c' .2) (d' .2) (written (y' .2) (z' .2) ungrouped) none),
         keeps-15 refl refl (Large.count d y z i) (there (swap-trans (d' .1) (swap-trans (y' .1) (z' .1)))),
         not-near,
       )

@@ -2,33 +2,37 @@
 use Prim.Native.Nat.{ℕ, zero, suc, _+_, _-_, _≤_, _<_}
 use mathlib.Core.Path.{_≡_, refl, ap, subst, sym, _∙_}
 use mathlib.Core.Logic.{_⊎_, inl, inr, ⊎-elim}
-use mathlib.Core.Bool.{Bool, true}
+use mathlib.Core.Bool.{Bool, true, false}
 use mathlib.Core.List.{List, [], _∷_, _++_}
 use native.Mathlib.Omega.{arith}
 use lib.ListN.{length, take}
 use lib.Dec.{leb, ltb, eqb}
 use borrow.Author.Tests.{ltb-true, leb-false, ne-eqb, le-ltb, lt-ltb}
-use Rattle.grammar.specs.Grammar.{Spaces, Number, nought, other, Percent, without, sign, Rank, Part, Mark, mark, Inner, Amount, amount, AmountText, written, counted, Count, count, Clause, Sheet, done, line}
+use Rattle.grammar.specs.Grammar.{Spaces, Number, nought, other, Percent, without, sign, Rank, Part, Mark, mark, Inner, Over, fleet, group, Group, ungrouped, grouped, Amount, AmountText, written, counted, Count, count, Clause, Sheet, done, line}
 use Rattle.grammar.specs.Limits.{level, nodes, InRange, markLevel, markNodes, MarkOk, countLevel, countNodes, AmountOk, CountOk, most, Sized, Ranged, Fits, FewLines, FewBytes}
-use Rattle.grammar.specs.Reader.{pick, Got, got, no, bind, skip, isDigit, expect, number, percent, ors, markBy, marks, inners, amounts, countEnd, countBy, counts, clauses, clauseLine, lines, accepted, refused, outcome, start, readSheet}
+use Rattle.grammar.specs.Reader.{pick, Got, got, no, bind, skip, isDigit, number, percent, ors, markBy, marks, inners, limits, groupDigit, overAt, overs, amounts, countEnd, countBy, counts, clauses, clauseLine, lines, accepted, refused, outcome, start, readSheet}
 use Rattle.grammar.specs.Answers.{RefusedBy, InSheet, Never, Beyond}
 use Rattle.grammar.specs.Ends.{Swap, here, there, whole, not-near, keeps-near, keeps-13, keeps-14, keeps-15, swap-short, token-in, frame-count}
-use Rattle.grammar.specs.Each.{Each, gives, denies, each-bind, each-map, each-both, each-node, either, number-keeps}
+use Rattle.grammar.specs.Each.{Each, gives, denies, each-bind, each-map, each-both, each-node, either, is-group, number-keeps}
 use Rattle.grammar.specs.Sound.{spaces-short, part-short}
 use Rattle.grammar.specs.Accepts.{GoesOn, on, full, refusal}
-use Rattle.grammar.specs.Short.{skip-short, expect-inside, expect-short, percent-short, marks-short, inners-short, threshold-short, counts-short, lines-short}
-use Rattle.grammar.specs.Agree.{SameHead, neither, both, near-step, near-nil, HeadNot, head-not, follow-digit, Near, Close, token, arrive, Match, Fault, limit, range, gone, fault-map, beyond, skipped, expect-agrees, number-agrees, percent-agrees, Agrees, AgreesLeaf, ors-agrees}
+use Rattle.grammar.specs.Short.{skip-short, expect-inside, expect-short, percent-short, group-digit-short, overs-short, marks-short, inners-short, threshold-short, counts-short, lines-short}
+use Rattle.grammar.specs.Agree.{SameHead, neither, both, near-step, near-nil, HeadNot, head-not, follow-digit, Near, Close, token, arrive, Match, Match₁, Fault, limit, range, gone, fault-map, beyond, skipped, expect-agrees, number-agrees, percent-agrees, Agrees, AgreesLeaf, ors-agrees}
 
 number-head : {s t : List ℕ} {k : ℕ} → Number s t k → HeadNot (λ b. eqb b 32) s
 number-head (nought {r = r}) = (48, r, refl, refl)
 number-head (other {b = b} {s = s} h i x) = (b, s, refl, ne-eqb b 32 (λ e. omega arith))
 
 amount-head : {s t : List ℕ} {x : Amount} → AmountText s t x → HeadNot (λ b. eqb b 32) s
-amount-head (written n p) = number-head n
+amount-head (written n p o) = number-head n
 
-percent-head : {s t r : List ℕ} {p : Bool} → Percent s t p → Spaces t (93 ∷ r) → HeadNot isDigit s
-percent-head without g = head-not isDigit refl refl g
-percent-head (sign {s = s}) g = (37, s, refl, refl)
+group-head : (f : ℕ → Bool) {s t r : List ℕ} {o : Over} → f 32 ≡ false → f 64 ≡ false → f 93 ≡ false → Group s t o → Spaces t (93 ∷ r) → HeadNot f s
+group-head f h i j ungrouped g = head-not f h j g
+group-head f h i j (grouped x k l) g = head-not f h i x
+
+percent-head : {s t : List ℕ} {p : Bool} → Percent s t p → HeadNot isDigit t → HeadNot isDigit s
+percent-head without h = h
+percent-head (sign {s = s}) h = (37, s, refl, refl)
 
 module _ (u u' : List ℕ) (same : SameHead u u') where
   marks-agrees : (l : ℕ) → AgreesLeaf u u' same Mark markLevel markNodes MarkOk l marks
@@ -66,29 +70,75 @@ module _ (u u' : List ℕ) (same : SameHead u u') where
   unfolding inners
   inners-agrees l = ors-agrees u u' same Mark markLevel markNodes MarkOk (λ i. marks) marks-agrees (λ i. marks-short) l
 
-  -- an amount, up to the `]` behind it
-  amount-agrees : {F G : Type 0} (n : ℕ) (s s' t' r' : List ℕ) (x : Amount) → AmountText s' t' x → Spaces t' (93 ∷ r') → Close u u' same s s'
-      → (G → AmountOk x) → Each (Match u u' same n x 0 t') (Fault u u' same F G) (amounts n s)
-  unfolding amounts
-  amount-agrees {F} {G} n s s' t' r' x (written {s₁ = s₁'} {n = k} {p = p} e f) g close ok =
+  -- a number with its `%`
+  limit-agrees : {F G : Type 0} (n : ℕ) (s s' s₁' t' : List ℕ) (k : ℕ) (p : Bool) → Number s' s₁' k → Percent s₁' t' p → HeadNot isDigit t'
+      → HeadNot (λ b. eqb b 37) t' → Close u u' same s s' → (G → k ≤ most p) → Each (Match₁ u u' same n (k, p) t') (Fault u u' same F G) (limits n s)
+  unfolding limits
+  limit-agrees {F} {G} n s s' s₁' t' k p e f d g close ok =
       each-bind (number n s) _
-      (each-map (number-agrees u u' same n s s' s₁' k e close (percent-head f g))
+      (each-map (number-agrees u u' same n s s' s₁' k e close (percent-head f d))
       (λ k₁ m r i.
       each-bind (percent m r) _
       (⊎-elim
       (λ j.
-      each-map (percent-agrees u u' same m r s₁' t' p f (j .2) (head-not (λ b. eqb b 37) refl refl g))
+      each-map (percent-agrees u u' same m r s₁' t' p f (j .2) g)
       (λ p₁ m₁ r₁ y.
-      either (Each (Match u u' same n (amount k p) 0 t') (Fault u u' same F G)) (leb k₁ (most p₁)) (got (amount k₁ p₁) m₁ r₁) (no 15 s)
-      (λ q. gives (⊎-elim (λ z. inl ((let kk = j .0 in let pp = z .0 in cc), omega (arith, j .1, z .1), z .2)) (λ z. inr (skipped u u' same r₁ z)) y))
+      either (Each (Match₁ u u' same n (k, p) t') (Fault u u' same F G)) (leb k₁ (most p₁)) (got (k₁, p₁) m₁ r₁) (no 15 s)
+      (λ q. gives (⊎-elim (λ z. inl ((let kk = j .0 in let pp = z .0 in cc), omega (arith, j .1, z .1), z .2)) (λ z. inr z) y))
       (λ q. denies (range u u' same (λ v. ⊎-elim (λ z. omega (arith, ok v, j .0, ap most (z .0), leb-false k₁ (most p₁) q)) (λ z. omega arith) y))))
       (λ w r₁ y. y))
       (λ j.
       each-map (percent-short (length r) m r (omega arith))
       (λ p₁ m₁ r₁ y.
-      either (Each (Match u u' same n (amount k p) 0 t') (Fault u u' same F G)) (leb k₁ (most p₁)) (got (amount k₁ p₁) m₁ r₁) (no 15 s)
-      (λ q. gives (inr (skipped u u' same r₁ (omega arith)))) (λ q. denies (range u u' same (λ v. omega arith))))
+      either (Each (Match₁ u u' same n (k, p) t') (Fault u u' same F G)) (leb k₁ (most p₁)) (got (k₁, p₁) m₁ r₁) (no 15 s)
+      (λ q. gives (inr (omega arith))) (λ q. denies (range u u' same (λ v. omega arith))))
       (λ w r₁ y. let h = y .0 in gone u u' same (omega arith)))
+      i))
+      (λ w r i. i))
+
+  group-digit-agrees : {F G : Type 0} (n : ℕ) (s t' : List ℕ) (b : ℕ) → 48 ≤ b → b ≤ 55 → Close u u' same s (b ∷ t')
+      → Each (Match u u' same n (group (b - 48)) 0 t') (Fault u u' same F G) (groupDigit n s)
+  unfolding groupDigit
+  group-digit-agrees {F} {G} n s t' b h i (inl near) =
+      let y = near-step same near b t' refl in
+      let P : Got Over → Type 0 = Each (Match u u' same n (group (b - 48)) 0 t') (Fault u u' same F G) in
+      subst (λ (r : List ℕ). P (groupDigit n r)) (sym (y .1))
+      (subst (λ (x : Bool). P (pick x (got (group (b - 48)) n (y .0)) (no 13 (b ∷ y .0)))) (sym (is-group b h i))
+      (gives (⊎-elim (λ z. inl (refl, omega arith, z)) (λ z. inr (skipped u u' same (y .0) z)) (y .2))))
+  group-digit-agrees n s t' b h i (inr past) = beyond u u' same 0 (length s) past (group-digit-short (length s) n s (omega arith))
+
+  over-agrees : {F G : Type 0} (n : ℕ) (s s' t' r' : List ℕ) (o : Over) → Group s' t' o → Spaces t' (93 ∷ r') → Near u u' same s s'
+      → Each (Match u u' same n o 0 t') (Fault u u' same F G) (overs n s)
+  unfolding overs overAt
+  over-agrees {F} {G} n s s' t' r' o ungrouped g near =
+      ⊎-elim
+      (λ z. subst (λ (r : List ℕ). Each (Match u u' same n fleet 0 s') (Fault u u' same F G) (overAt n s r)) (sym (z .1))
+      (gives (inl (refl, omega arith, near))))
+      (λ z. beyond u u' same 0 (length (skip s)) z (overs-short (length (skip s)) n s (omega arith)))
+      (token u u' same (λ e. omega arith) near g)
+  over-agrees {F} {G} n s s' t' r' o (grouped {b = b} x h i) g near =
+      ⊎-elim
+      (λ z. subst (λ (r : List ℕ). Each (Match u u' same n (group (b - 48)) 0 t') (Fault u u' same F G) (overAt n s r)) (sym (z .1))
+      (group-digit-agrees n (z .0) t' b h (omega arith) (z .2)))
+      (λ z. beyond u u' same 0 (length (skip s)) z (overs-short (length (skip s)) n s (omega arith)))
+      (token u u' same (λ e. omega arith) near x)
+
+  -- an amount, up to the `]` behind it
+  amount-agrees : {F G : Type 0} (n : ℕ) (s s' t' r' : List ℕ) (x : Amount) → AmountText s' t' x → Spaces t' (93 ∷ r') → Close u u' same s s'
+      → (G → AmountOk x) → Each (Match u u' same n x 0 t') (Fault u u' same F G) (amounts n s)
+  unfolding amounts
+  amount-agrees {F} {G} n s s' t' r' x (written {s₁ = s₁'} {s₂ = s₂'} {n = k} {p = p} {o = o} e f d) g close ok =
+      each-bind (limits n s) _
+      (each-map
+      (limit-agrees n s s' s₁' s₂' k p e f (group-head isDigit refl refl refl d g) (group-head (λ b. eqb b 37) refl refl refl d g) close ok)
+      (λ y m r i.
+      each-bind (overs m r) _
+      (⊎-elim
+      (λ j.
+      each-map (over-agrees m r s₂' t' r' o d g (j .2))
+      (λ o₁ m₁ r₁ z. gives (⊎-elim (λ v. inl ((let yy = j .0 in let oo = v .0 in cc), omega (arith, j .1, v .1), v .2)) (λ v. inr v) z)) (λ w r₁ z. z))
+      (λ j. let h = skip-short r in
+      each-map (overs-short (length r) m r h) (λ o₁ m₁ r₁ z. gives (inr (omega arith))) (λ w r₁ z. let q = z .0 in gone u u' same (omega arith)))
       i))
       (λ w r i. i))
 

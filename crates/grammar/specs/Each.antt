@@ -7,11 +7,11 @@ use native.Mathlib.Omega.{arith}
 use lib.ListN.{length}
 use lib.Dec.{leb, eqb}
 use borrow.Author.Tests.{leb-true, leb-false, le-leb, eqb-true, eqb-false}
-use Rattle.grammar.specs.Grammar.{Spaces, none, space, Digits, end, digit, Number, nought, other, Percent, without, sign, Amount, amount, AmountText, written}
+use Rattle.grammar.specs.Grammar.{Spaces, none, space, Digits, end, digit, Number, nought, other, Percent, without, sign, Over, fleet, group, Group, ungrouped, grouped, Amount, amount, AmountText, written}
 use Rattle.grammar.specs.Limits.{most, AmountOk}
-use Rattle.grammar.specs.Reader.{pick, Got, got, no, Reader, bind, node, skip, expectAt, expect, literal, isDigit, digits, number, percent, amounts}
+use Rattle.grammar.specs.Reader.{pick, Got, got, no, Reader, bind, node, skip, expectAt, expect, literal, isDigit, digits, number, percent, limits, isGroup, groupDigit, overAt, overs, amounts}
 use Rattle.grammar.specs.Answers.{WholeNumber, WholePercent}
-use Rattle.grammar.specs.Ends.{Swap, here, there}
+use Rattle.grammar.specs.Ends.{Swap, here, there, swap-trans, swap-short, frame-token, frame-number, frame-percent}
 
 pub data Each {A : Type 0} (P : A → ℕ → List ℕ → Type 0) (Q : ℕ → List ℕ → Type 0) : Got A → Type 0 where
   gives : {a : A} {n : ℕ} {r : List ℕ} → P a n r → Each P Q (got a n r)
@@ -155,12 +155,75 @@ each-percent {P} {Q} n (b ∷ s) y =
     (y true s (subst (λ (x : ℕ). WholePercent (x ∷ s) s true) (sym (eqb-true b 37 e)) (record { percent = sign; longest = λ r' p' x. sign-far x }))))
     (λ e. gives (y false (b ∷ s) (record { percent = without; longest = λ r' p' x. without-far (eqb-false b 37 e) x })))
 
+-- a number with its `%`; or 15 for a whole number out of range, or 13 where none stands
+pub each-limit : {P : ℕ × Bool → ℕ → List ℕ → Type 0} {Q : ℕ → List ℕ → Type 0} (n : ℕ) (s : List ℕ)
+    → ((k : ℕ) (p : Bool) (s₁ r : List ℕ) → Number s s₁ k → Percent s₁ r p → k ≤ most p → P (k, p) n r)
+    → ((k : ℕ) (p : Bool) (s₁ r : List ℕ) → WholeNumber s s₁ k → WholePercent s₁ r p → most p < k → Q 15 s) → Q 13 s → Each P Q (limits n s)
+unfolding limits
+each-limit {P} {Q} n s f g h =
+    each-bind (number n s) _
+    (each-number n s
+    (λ k s₁ y.
+    each-bind (percent n s₁) _
+    (each-percent n s₁
+    (λ p r z.
+    either (Each P Q) (leb k (most p)) (got (k, p) n r) _
+    (λ i. gives (f k p s₁ r (y .number) (z .percent) (leb-true k (most p) i)))
+    (λ i. denies (g k p s₁ r y z (leb-false k (most p) i))))))
+    h)
+
+pub group-range : (b : ℕ) → isGroup b ≡ true → (48 ≤ b) × (b ≤ 55)
+group-range b e = (leb-true 48 b (both-left (leb 48 b) (leb b 55) e), leb-true b 55 (both-right (leb 48 b) (leb b 55) e))
+
+pub is-group : (b : ℕ) → 48 ≤ b → b ≤ 55 → isGroup b ≡ true
+is-group b h i = simp (le-leb 48 b h, le-leb b 55 i)
+
+-- the carts; or 13 behind an `@`
+module _ {P : Over → ℕ → List ℕ → Type 0} {Q : ℕ → List ℕ → Type 0} where
+  each-group-digit : (n : ℕ) (s : List ℕ) → ((b : ℕ) (r : List ℕ) → s ≡ b ∷ r → 48 ≤ b → b ≤ 55 → P (group (b - 48)) n r) → Q 13 s
+      → Each P Q (groupDigit n s)
+  unfolding groupDigit
+  each-group-digit n [] f g = denies g
+  each-group-digit n (b ∷ r) f g =
+      either (Each P Q) (isGroup b) _ _ (λ e. let h = group-range b e in gives (f b r refl (h .0) (h .1))) (λ e. denies g)
+
+  each-over-at : (n : ℕ) (s r : List ℕ) → Spaces s r → ((o : Over) (r : List ℕ) → Group s r o → P o n r) → ((r : List ℕ) → Spaces s (64 ∷ r) → Q 13 r)
+      → Each P Q (overAt n s r)
+  unfolding overAt
+  each-over-at n s [] x f g = gives (f fleet s ungrouped)
+  each-over-at n s (b ∷ r) x f g =
+      either (Each P Q) (eqb b 64) (groupDigit n r) _
+      (λ e.
+      let y : Spaces s (64 ∷ r) = subst (λ (c : ℕ). Spaces s (c ∷ r)) (eqb-true b 64 e) x in
+      each-group-digit n r
+      (λ c t i h k. f (group (c - 48)) t (grouped (subst (λ (l : List ℕ). Spaces s (64 ∷ l)) i y) h (omega arith))) (g r y))
+      (λ e. gives (f fleet s ungrouped))
+
+  pub each-over : (n : ℕ) (s : List ℕ) → ((o : Over) (r : List ℕ) → Group s r o → P o n r) → ((r : List ℕ) → Spaces s (64 ∷ r) → Q 13 r)
+      → Each P Q (overs n s)
+  unfolding overs
+  each-over n s f g = each-over-at n s (skip s) (skip-spaces s) f g
+
 -- with what stands before r some amount in range goes on, whatever is to stand behind it
 abbrev pub AmountOn : List ℕ → List ℕ → Type 0
 AmountOn s r = (t : List ℕ) → (v s' : List ℕ) × (x : Amount) × Swap r v s s' × AmountText s' t x × AmountOk x
 
 pub nought-on : (s : List ℕ) → AmountOn s s
-nought-on s t = (48 ∷ t, 48 ∷ t, amount 0 false, here, written nought without, omega arith)
+nought-on s t = (48 ∷ t, 48 ∷ t, amount 0 false fleet, here, written nought without ungrouped, omega arith)
+
+-- behind its `@` group 0
+group-on : {s s₁ s₂ r : List ℕ} {k : ℕ} {p : Bool} → Number s s₁ k → Percent s₁ s₂ p → k ≤ most p → Spaces s₂ (64 ∷ r) → AmountOn s r
+group-on {k = k} {p = p} y z i x t =
+    let x' = frame-token x (48 ∷ t) in
+    let z' = frame-percent z (x' .0) in
+    let y' = frame-number y (z' .0) in (
+      48 ∷ t,
+      y' .0,
+      amount k p (group 0),
+      swap-trans (y' .1) (swap-trans (z' .1) (x' .1)),
+      written (y' .2) (z' .2) (grouped (x' .2) (omega arith) (omega arith)),
+      i,
+    )
 
 -- an amount; or 15 for a whole number out of range, or 13 where an amount goes on
 pub each-amount : {P : Amount → ℕ → List ℕ → Type 0} {Q : ℕ → List ℕ → Type 0} (n : ℕ) (s : List ℕ)
@@ -169,16 +232,13 @@ pub each-amount : {P : Amount → ℕ → List ℕ → Type 0} {Q : ℕ → List
     → ((r : List ℕ) → length r ≤ length s → AmountOn s r → Q 13 r) → Each P Q (amounts n s)
 unfolding amounts
 each-amount {P} {Q} n s f g h =
-    each-bind (number n s) _
-    (each-number n s
-    (λ k s₁ y.
-    each-bind (percent n s₁) _
-    (each-percent n s₁
-    (λ p r z.
-    either (Each P Q) (leb k (most p)) (got (amount k p) n r) _
-    (λ i. gives (f (amount k p) r (written (y .number) (z .percent)) (leb-true k (most p) i)))
-    (λ i. denies (g k p s₁ r y z (leb-false k (most p) i))))))
-    (h s (omega arith) (nought-on s)))
+    each-bind (limits n s) _
+    (each-limit n s
+    (λ k p s₁ r y z i.
+    each-bind (overs n r) _
+    (each-over n r (λ o t x. gives (f (amount k p o) t (written y z x) i))
+    (λ t x. let a = group-on y z i x in h t (swap-short (a [] .3)) a)))
+    g (h s (omega arith) (nought-on s)))
 
 -- these count no nodes
 pub literal-keeps : {A : Type 0} (w : List ℕ) (a : A) (n : ℕ) (s : List ℕ) → Each (λ a₁ m r. n ≡ m) (λ k r. Unit {0}) (literal w a n s)

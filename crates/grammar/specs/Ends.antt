@@ -5,7 +5,7 @@ use mathlib.Core.Bool.{Bool}
 use mathlib.Core.List.{List, [], _∷_, _++_}
 use native.Mathlib.Omega.{arith}
 use lib.ListN.{length}
-use Rattle.grammar.specs.Grammar.{Form, Spaces, none, space, Digits, end, digit, Number, nought, other, Percent, without, sign, AmountText, written, Rank, Part, word, parens, prefix, one-small, reach, one-until, one-and, Mark, mark, Amount, Counted, Count, count}
+use Rattle.grammar.specs.Grammar.{Form, Spaces, none, space, Digits, end, digit, Number, nought, other, Percent, without, sign, Over, Group, ungrouped, grouped, AmountText, written, Rank, Part, word, parens, prefix, one-small, reach, one-until, one-and, Mark, mark, Amount, Counted, Count, count}
 use Rattle.grammar.specs.Answers.{Token, Large}
 
 -- the second text is the first with its end u replaced by v
@@ -47,11 +47,16 @@ pub frame-percent : {p : Bool} {s r : List ℕ} → Percent s r p → Framed (λ
 frame-percent without t = (t, here, without)
 frame-percent sign t = (37 ∷ t, there here, sign)
 
+pub frame-group : {o : Over} {s r : List ℕ} → Group s r o → Framed (λ s r. Group s r o) s r
+frame-group ungrouped t = (t, here, ungrouped)
+frame-group (grouped {b = b} x h k) t = let y = frame-token x (b ∷ t) in (y .0, swap-trans (y .1) (there here), grouped (y .2) h k)
+
 pub frame-amount : {x : Amount} {s r : List ℕ} → AmountText s r x → Framed (λ s r. AmountText s r x) s r
-frame-amount (written n p) t =
-    let b = frame-percent p t in
+frame-amount (written n p o) t =
+    let c = frame-group o t in
+    let b = frame-percent p (c .0) in
     let a = frame-number n (b .0) in
-    (a .0, swap-trans (a .1) (b .1), written (a .2) (b .2))
+    (a .0, swap-trans (a .1) (swap-trans (b .1) (c .1)), written (a .2) (b .2) (c .2))
 
 pub amount-short : {x : Amount} {s r : List ℕ} → AmountText s r x → length r ≤ length s
 amount-short {r = r} x = swap-short (frame-amount x r .1)

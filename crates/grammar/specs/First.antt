@@ -8,7 +8,7 @@ use native.Mathlib.Omega.{arith}
 use lib.ListN.{length, take, drop, getD, length-drop}
 use lib.Seq.{take-length}
 use lib.Dec.{ltb}
-use Rattle.grammar.specs.Grammar.{Form, Spaces, none, space, Digits, end, digit, Number, nought, other, Percent, without, sign, Amount, AmountText, written, prefixByte, reachByte, Rank, Part, word, parens, prefix, one-small, reach, one-until, one-and, Mark, mark, Counted, Count, count, Clause, Sheet, done, line}
+use Rattle.grammar.specs.Grammar.{Form, Spaces, none, space, Digits, end, digit, Number, nought, other, Percent, without, sign, Over as Carts, Group, ungrouped, grouped, Amount, AmountText, written, prefixByte, reachByte, Rank, Part, word, parens, prefix, one-small, reach, one-until, one-and, Mark, mark, Counted, Count, count, Clause, Sheet, done, line}
 use Rattle.grammar.specs.Limits.{nodes, markNodes, countNodes}
 use Rattle.grammar.specs.Begun.{isNode, opensLevel, Begun, onBy, after, begun, TooMany}
 use Rattle.grammar.specs.Reader.{Got, lines, accepted, refused, outcome, start, readSheet}
@@ -37,8 +37,12 @@ percent-after : {p : Bool} {s r : List ℕ} (x : Begun) → Percent s r p → af
 percent-after x without = refl
 percent-after x sign = refl
 
+group-after : {o : Carts} {s r : List ℕ} (x : Begun) → Group s r o → after x s ≡ after x r
+group-after x ungrouped = refl
+group-after x (grouped {b = b} {r = r} y h k) = spaces-after x y ∙ ap (λ (z : Begun). after z r) (quiet-digit b (is-digit b h (omega arith)) .same x)
+
 amount-after : {a : Amount} {s r : List ℕ} (x : Begun) → AmountText s r a → after x s ≡ after x r
-amount-after x (written n p) = number-after x n ∙ percent-after x p
+amount-after x (written n p o) = number-after x n ∙ percent-after x p ∙ group-after x o
 
 record Adds (x : Begun) (s r : List ℕ) (n : ℕ) : Type 0 where
   to : Begun

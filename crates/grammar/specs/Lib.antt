@@ -3,6 +3,7 @@ pub mod Grammar
 pub mod Limits
 pub mod Reader
 pub mod Nodes
+pub mod Groups
 pub mod Begun
 pub mod Answers
 -- promises

@@ -69,7 +69,7 @@ most false = 999
 most true = 100
 
 abbrev pub AmountOk : Amount → Type 0
-AmountOk (amount n p) = n ≤ most p
+AmountOk (amount n p o) = n ≤ most p
 
 abbrev pub CountOk : Counted → Type 0
 CountOk (counted a x) = InRange MarkOk a × AmountOk x

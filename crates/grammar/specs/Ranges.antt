@@ -5,7 +5,7 @@ use mathlib.Core.Logic.{_⊎_, inl, inr, ⊎-elim}
 use mathlib.Core.Bool.{Bool, true, false}
 use mathlib.Core.List.{List, [], _∷_}
 use native.Mathlib.Omega.{arith}
-use Rattle.grammar.specs.Grammar.{Form, Spaces, none, space, Digits, end, digit, Number, nought, other, Percent, without, sign, Amount, AmountText, written, Prefix, not, next, finally, globally, prefixByte, Reach, U, R, reachByte, Rank, Part, word, parens, prefix, one-small, reach, one-until, one-and, Mark, mark, Counted, Count, count, Clause, Sheet, done, line}
+use Rattle.grammar.specs.Grammar.{Form, Spaces, none, space, Digits, end, digit, Number, nought, other, Percent, without, sign, Over, Group, ungrouped, grouped, Amount, AmountText, written, Prefix, not, next, finally, globally, prefixByte, Reach, U, R, reachByte, Rank, Part, word, parens, prefix, one-small, reach, one-until, one-and, Mark, mark, Counted, Count, count, Clause, Sheet, done, line}
 use Rattle.grammar.specs.Limits.{InRange, MarkOk, AmountOk, CountOk, most, Ranged}
 use Rattle.grammar.specs.Reader.{skip, isDigit}
 use Rattle.grammar.specs.Ends.{Swap, here, there}
@@ -73,8 +73,12 @@ module _ (h : ℕ) (x : List ℕ) (key : (h ≡ 109) ⊎ (h ≡ 44)) where
   percent-past without t = t
   percent-past sign t = step (λ e. omega arith) (λ e. omega arith) t
 
+  group-past : {o : Over} {s r : List ℕ} → Group s r o → Behind s → Behind r
+  group-past ungrouped t = t
+  group-past (grouped y i j) t = step (λ e. omega arith) (λ e. omega arith) (token-past (λ e. omega arith) (λ e. omega arith) y t)
+
   amount-past : {a : Amount} {s r : List ℕ} → AmountText s r a → Behind s → Behind r
-  amount-past (written n p) t = percent-past p (number-past n t)
+  amount-past (written n p o) t = group-past o (percent-past p (number-past n t))
 
   -- it stands behind the part, or is fine
   abbrev Passes : List ℕ → Type 0
@@ -149,8 +153,12 @@ number-same nought d (other h i z) d' = absurd (omega arith)
 number-same (other h i y) d nought d' = absurd (omega arith)
 number-same (other h i y) d (other j k z) d' = digits-same y d z d'
 
-percent-plain : {s t r : List ℕ} {p : Bool} → Percent s t p → Spaces t (93 ∷ r) → Plain s
-percent-plain without g = plain refl g
+group-plain : {s t r : List ℕ} {o : Over} → Group s t o → Spaces t (93 ∷ r) → Plain s
+group-plain ungrouped g = plain refl g
+group-plain (grouped x i j) g = plain refl x
+
+percent-plain : {s t : List ℕ} {p : Bool} → Percent s t p → Plain t → Plain s
+percent-plain without g = g
 percent-plain sign g = refl
 
 spaces-number : {q x r : List ℕ} {n : ℕ} → Spaces q x → Number x r n → skip q ≡ x
@@ -159,15 +167,20 @@ spaces-number none (other {b = b} {s = s} h i y) = skip-at b s (λ e. omega arit
 spaces-number (space {s = s} y) n = skip-space s ∙ spaces-number y n
 
 spaces-amount : {q x r : List ℕ} {a : Amount} → Spaces q x → AmountText x r a → skip q ≡ x
-spaces-amount y (written n p) = spaces-number y n
+spaces-amount y (written n p o) = spaces-number y n
 
 spaces-head : {c : ℕ} {s r : List ℕ} → Spaces s (c ∷ r) → (b : ℕ) (t : List ℕ) → s ≡ b ∷ t → (b ≡ 32) ⊎ (b ≡ c)
 spaces-head {c} {s} {r} none b t e = let z : c ∷ r ≡ b ∷ t = e in inr (cc)
 spaces-head (space {s = s} x) b t e = let z : 32 ∷ s ≡ b ∷ t = e in inl (cc)
 
-signed : {t r r₁ : List ℕ} {p : Bool} → Percent (37 ∷ t) r p → Spaces r (93 ∷ r₁) → p ≡ true
-signed {t} without g = ⊎-elim (λ e. absurd (omega arith)) (λ e. absurd (omega arith)) (spaces-head g 37 t refl)
-signed sign g = refl
+-- no `%` stands behind a number with its `%`
+unsigned : {t r r₁ : List ℕ} {o : Over} → Group (37 ∷ t) r o → Spaces r (93 ∷ r₁) → ⊥
+unsigned {t} ungrouped g = ⊎-elim (λ e. omega arith) (λ e. omega arith) (spaces-head g 37 t refl)
+unsigned {t} (grouped x i j) g = ⊎-elim (λ e. omega arith) (λ e. omega arith) (spaces-head x 37 t refl)
+
+signed : {t r r₁ r₂ : List ℕ} {p : Bool} {o : Over} → Percent (37 ∷ t) r p → Group r r₁ o → Spaces r₁ (93 ∷ r₂) → p ≡ true
+signed without d g = absurd (unsigned d g)
+signed sign d g = refl
 
 most-least : (p : Bool) → most p ≤ 999
 most-least false = omega arith
@@ -182,11 +195,11 @@ mark-never y h (in-count e a z g l) = let i : _≡_ {A = ℕ} 109 44 = cc in ome
 
 amount-never : {x t₁ t r r₁ : List ℕ} {n : ℕ} {p : Bool} {a : Amount} → Number x t₁ n → Percent t₁ t p → most p < n → AmountText x r a
     → Spaces r (93 ∷ r₁) → AmountOk a → ⊥
-amount-never y without h (written {p = q} z f) g l = let k = number-most z (percent-plain f g) y in let o = most-least q in omega arith
-amount-never {r = r} y (sign {s = s}) h (written {p = q} z f) g l =
-    let e = number-same z (percent-plain f g) y refl in
+amount-never y without h (written {p = q} z f d) g l = let k = number-most z (percent-plain f (group-plain d g)) y in let o = most-least q in omega arith
+amount-never y (sign {s = s}) h (written {s₂ = s₂} {p = q} z f d) g l =
+    let e = number-same z (percent-plain f (group-plain d g)) y refl in
     let k = e .1 in
-    let o = ap most (signed (subst (λ (w : List ℕ). Percent w r q) (e .0) f) g) in
+    let o = ap most (signed (subst (λ (w : List ℕ). Percent w s₂ q) (e .0) f) d g) in
     omega arith
 
 pub count-never : {q x t₁ t : List ℕ} {n : ℕ} {p : Bool} → Spaces q x → Number x t₁ n → Percent t₁ t p → most p < n → Fine (44 ∷ q) → ⊥

@@ -5,7 +5,7 @@ use mathlib.Core.Bool.{Bool, true, false, _&&_}
 use mathlib.Core.List.{List, [], _∷_}
 use lib.ListN.{length}
 use lib.Dec.{leb, ltb, eqb}
-use Rattle.grammar.specs.Grammar.{bytes, Form, top, leaf, and, or, Prefix, not, next, finally, globally, prefixed, Reach, U, R, reached, Inner, Amount, amount, Counted, counted, Clause}
+use Rattle.grammar.specs.Grammar.{bytes, Form, top, leaf, and, or, Prefix, not, next, finally, globally, prefixed, Reach, U, R, reached, Inner, Over, fleet, group, Amount, amount, Counted, counted, Clause}
 use Rattle.grammar.specs.Limits.{most}
 
 abbrev pub pick : {A : Type 0} → Bool → A → A → A
@@ -169,9 +169,29 @@ marks n (b ∷ r) = markBy (eqb b (code "m")) n b r
 unfoldable pub inners : ℕ → Reader Inner
 inners l = ors (λ i. marks) l
 
+-- a number with its `%`, at its first byte
+unfoldable pub limits : Reader (ℕ × Bool)
+limits n s = bind (number n s) (λ k m r. bind (percent m r) (λ p m₁ r₁. pick (leb k (most p)) (got (k, p) m₁ r₁) (no 15 s)))
+
+-- a group's digit
+abbrev pub isGroup : ℕ → Bool
+isGroup b = leb (code "0") b && leb b (code "7")
+
+unfoldable pub groupDigit : Reader Over
+groupDigit n [] = no 13 []
+groupDigit n (b ∷ r) = pick (isGroup b) (got (group (b - code "0")) n r) (no 13 (b ∷ r))
+
+-- where `@` stands behind the spaces of s, a group; else the fleet
+unfoldable pub overAt : ℕ → List ℕ → List ℕ → Got Over
+overAt n s [] = got fleet n s
+overAt n s (b ∷ r) = pick (eqb b (code "@")) (groupDigit n r) (got fleet n s)
+
+unfoldable pub overs : Reader Over
+overs n s = overAt n s (skip s)
+
 -- an amount, at its number's first byte
 unfoldable pub amounts : Reader Amount
-amounts n s = bind (number n s) (λ k m r. bind (percent m r) (λ p m₁ r₁. pick (leb k (most p)) (got (amount k p) m₁ r₁) (no 15 s)))
+amounts n s = bind (limits n s) (λ x m r. bind (overs m r) (λ o m₁ r₁. got (amount (x .0) (x .1) o) m₁ r₁))
 
 -- an amount and the `]`
 unfoldable pub countEnd : Inner → Reader Counted

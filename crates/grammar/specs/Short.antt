@@ -7,9 +7,9 @@ use mathlib.Core.List.{List, [], _∷_}
 use native.Mathlib.Omega.{arith}
 use lib.ListN.{length}
 use lib.Dec.{leb, eqb}
-use Rattle.grammar.specs.Grammar.{Form, Inner, Amount, amount, counted}
+use Rattle.grammar.specs.Grammar.{Form, Inner, Over, fleet, group, counted}
 use Rattle.grammar.specs.Limits.{most}
-use Rattle.grammar.specs.Reader.{Got, got, no, Reader, bind, node, skip, expectAt, expect, literal, isDigit, digits, number, percent, Kind, kind, Onward, stop, onward, Deeper, shut, open', chainAt, chainMore, chain, andChain, orChain, byKind, smallAt, smallOf, byOnward, untilAt, untilOf, deeper, smalls, untils, ors, markBy, marks, inners, amounts, countEnd, countBy, counts, clauses, clauseLine, lines}
+use Rattle.grammar.specs.Reader.{Got, got, no, Reader, bind, node, skip, expectAt, expect, literal, isDigit, digits, number, percent, Kind, kind, Onward, stop, onward, Deeper, shut, open', chainAt, chainMore, chain, andChain, orChain, byKind, smallAt, smallOf, byOnward, untilAt, untilOf, deeper, smalls, untils, ors, markBy, marks, inners, limits, isGroup, groupDigit, overAt, overs, amounts, countEnd, countBy, counts, clauses, clauseLine, lines}
 use Rattle.grammar.specs.Answers.{InSheet}
 use Rattle.grammar.specs.Each.{Each, gives, denies, each-bind, each-map, each-node, either, skip-spaces}
 use Rattle.grammar.specs.Sound.{spaces-short}
@@ -208,24 +208,51 @@ pub inners-short : (l : ℕ) → Shrinks (inners l)
 unfolding inners
 inners-short l = ors-short (λ i. marks) (λ i. marks-short) l
 
-pub amounts-short : (N n : ℕ) (s : List ℕ) → length s ≤ N → Inside N (amounts n s)
-unfolding amounts
-amounts-short N n s h =
+pub limits-short : (N n : ℕ) (s : List ℕ) → length s ≤ N → Inside N (limits n s)
+unfolding limits
+limits-short N n s h =
     each-bind (number n s) _
     (each-map (number-short N n s h)
     (λ k m r i.
     each-bind (percent m r) _
     (each-map (percent-short N m r i)
     (λ p m₁ r₁ j.
-    either (λ (g : Got Amount). Inside N g) (leb k (most p)) (got (amount k p) m₁ r₁) (no 15 s) (λ e. gives j) (λ e. denies {r = s} (h, c15)))
+    either (λ (g : Got (ℕ × Bool)). Inside N g) (leb k (most p)) (got (k, p) m₁ r₁) (no 15 s) (λ e. gives j) (λ e. denies {r = s} (h, c15)))
     (λ w r₁ j. j)))
+    (λ w r i. i))
+
+pub group-digit-short : Shrinks₁ groupDigit
+unfolding groupDigit
+group-digit-short N n [] h = denies (h, c13)
+group-digit-short N n (b ∷ r) h =
+    either (λ (g : Got Over). Within N g) (isGroup b) (got (group (b - 48)) n r) (no 13 (b ∷ r)) (λ e. gives (let z = skip-short r in omega arith))
+    (λ e. denies (h, c13))
+
+over-at-short : (N n : ℕ) (s r : List ℕ) → length (skip s) ≤ N → length r ≤ N → Within N (overAt n s r)
+unfolding overAt
+over-at-short N n s [] h i = gives h
+over-at-short N n s (b ∷ r) h i =
+    either (λ (g : Got Over). Within N g) (eqb b 64) (groupDigit n r) (got fleet n s) (λ e. group-digit-short N n r (omega arith)) (λ e. gives h)
+
+pub overs-short : Shrinks overs
+unfolding overs
+overs-short N n s h = over-at-short N n s (skip s) h h
+
+pub amounts-short : Shrinks₁ amounts
+unfolding amounts
+amounts-short N n s h =
+    each-bind (limits n s) _
+    (each-map (limits-short N n s h)
+    (λ x m r i.
+    let z = skip-short r in
+    each-bind (overs m r) _ (each-map (overs-short N m r (omega arith)) (λ o m₁ r₁ j. gives j) (λ w r₁ j. j)))
     (λ w r i. i))
 
 pub threshold-short : (a : Inner) → Shrinks₁ (countEnd a)
 unfolding countEnd
 threshold-short a N n s h =
     each-bind (amounts n s) _
-    (each-map (amounts-short N n s h) (λ x m r i. expect-short 93 (counted a x) N m r (let z = skip-short r in omega arith)) (λ w r i. i))
+    (each-map (amounts-short N n s h) (λ x m r i. expect-short 93 (counted a x) N m r i) (λ w r i. i))
 
 count-by-short : (l : ℕ) (q : Bool) (N n b : ℕ) (r : List ℕ) → suc (length r) ≤ N → Within N (countBy l q n b r)
 unfolding countBy

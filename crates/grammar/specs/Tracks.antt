@@ -9,12 +9,12 @@ use native.Mathlib.Omega.{arith}
 use lib.ListN.{length}
 use lib.Dec.{leb, eqb}
 use borrow.Author.Tests.{leb-true, eqb-true, eqb-false, ne-eqb}
-use Rattle.grammar.specs.Grammar.{bytes, Form, Spaces, none, space, Number, nought, other, Prefix, not, next, finally, globally, prefixByte, Reach, U, R, reachByte, Inner, Amount, amount, counted}
+use Rattle.grammar.specs.Grammar.{bytes, Form, Spaces, none, space, Number, nought, other, Prefix, not, next, finally, globally, prefixByte, Reach, U, R, reachByte, Inner, Over, Group, ungrouped, grouped, counted}
 use Rattle.grammar.specs.Limits.{most}
-use Rattle.grammar.specs.Reader.{Got, got, no, Reader, bind, node, skip, expect, literal, isDigit, digits, number, percent, Kind, kind, Onward, stop, onward, Deeper, shut, open', chainAt, chainMore, chain, andChain, orChain, byKind, smallAt, smallOf, byOnward, untilAt, untilOf, deeper, smalls, untils, ors, markBy, marks, inners, amounts, countEnd, countBy, counts, clauses, clauseLine, lines}
+use Rattle.grammar.specs.Reader.{Got, got, no, Reader, bind, node, skip, expect, literal, isDigit, digits, number, percent, Kind, kind, Onward, stop, onward, Deeper, shut, open', chainAt, chainMore, chain, andChain, orChain, byKind, smallAt, smallOf, byOnward, untilAt, untilOf, deeper, smalls, untils, ors, markBy, marks, inners, limits, overs, amounts, countEnd, countBy, counts, clauses, clauseLine, lines}
 use Rattle.grammar.specs.Begun.{isNode, Open, bracket, operand, side, opensLevel, operandEnds, sideEnds, bracketEnds, Begun, onBy, TooMany}
 use Rattle.grammar.specs.Answers.{Token}
-use Rattle.grammar.specs.Each.{Each, gives, denies, each-bind, each-map, each-node, either, never, both-left, both-right, is-digit, skip-spaces, each-expect}
+use Rattle.grammar.specs.Each.{Each, gives, denies, each-bind, each-map, each-node, either, never, both-left, both-right, is-digit, skip-spaces, each-expect, each-over}
 use Rattle.grammar.specs.Sound.{Shows, kind-shows, Leads, onward-leads}
 
 pub prefix-facts : (o : Prefix) → (isNode (prefixByte o) ≡ true) × (opensLevel (prefixByte o) ≡ true) × (prefixByte o ≡ 116 → ⊥) × (prefixByte o ≡ 109 → ⊥)
@@ -180,20 +180,42 @@ module _ (x : Begun) (few : x .lines ≡ 32 → ⊥) where
       (λ e. let q : Quiet 37 = record { node = refl; level = refl; same = λ x. refl } in
       gives (refl, quiet-on (subst Quiet (sym (eqb-true b 37 e)) q) few here)) (λ e. gives (refl, here))
 
-  amounts-track : (n : ℕ) (s : List ℕ) → Each (λ a m r. (n ≡ m) × Track x s r x) (λ w r. (w ≡ 14 → ⊥) × Track x s r x) (amounts n s)
-  unfolding amounts
-  amounts-track n s =
-      let P : Got Amount → Type 0 = Each (λ a m r. (n ≡ m) × Track x s r x) (λ w r. (w ≡ 14 → ⊥) × Track x s r x) in
+  limits-track : (n : ℕ) (s : List ℕ) → Each (λ a m r. (n ≡ m) × Track x s r x) (λ w r. (w ≡ 14 → ⊥) × Track x s r x) (limits n s)
+  unfolding limits
+  limits-track n s =
+      let P : Got (ℕ × Bool) → Type 0 = Each (λ a m r. (n ≡ m) × Track x s r x) (λ w r. (w ≡ 14 → ⊥) × Track x s r x) in
       each-bind (number n s) _
       (each-map (number-track n s)
       (λ k m r v.
       each-bind (percent m r) _
       (each-map (percent-track m r)
       (λ p m₁ r₁ u.
-      either P (leb k (most p)) (got (amount k p) m₁ r₁) (no 15 s) (λ h. gives (v .0 ∙ u .0, track-trans (v .1) (u .1)))
+      either P (leb k (most p)) (got (k, p) m₁ r₁) (no 15 s) (λ h. gives (v .0 ∙ u .0, track-trans (v .1) (u .1)))
       (λ h. denies ((λ e. omega arith), here)))
       (λ w r₁ u. absurd u)))
       (λ w r v. ((λ e. omega (arith, v .0)), subst (λ (q : List ℕ). Track x s q x) (sym (v .1)) here)))
+
+  quiet-at : Quiet 64
+  quiet-at = record { node = refl; level = refl; same = λ x. refl }
+
+  group-track : {o : Over} {s r : List ℕ} → Group s r o → Track x s r x
+  group-track ungrouped = here
+  group-track (grouped {b = b} y h k) =
+      track-trans (spaces-track few y) (quiet-on quiet-at few (quiet-on (quiet-digit b (is-digit b h (omega arith))) few here))
+
+  overs-track : (n : ℕ) (s : List ℕ) → Each (λ o m r. (n ≡ m) × Track x s r x) (λ w r. (w ≡ 14 → ⊥) × Track x s r x) (overs n s)
+  overs-track n s =
+      each-over n s (λ o r y. (refl, group-track y)) (λ r y. ((λ e. omega arith), track-trans (spaces-track few y) (quiet-on quiet-at few here)))
+
+  amounts-track : (n : ℕ) (s : List ℕ) → Each (λ a m r. (n ≡ m) × Track x s r x) (λ w r. (w ≡ 14 → ⊥) × Track x s r x) (amounts n s)
+  unfolding amounts
+  amounts-track n s =
+      each-bind (limits n s) _
+      (each-map (limits-track n s)
+      (λ y m r v.
+      each-bind (overs m r) _
+      (each-map (overs-track m r) (λ o m₁ r₁ u. gives (v .0 ∙ u .0, track-trans (v .1) (u .1))) (λ w r₁ u. (u .0, track-trans (v .1) (u .1)))))
+      (λ w r v. v))
 
 ---- In a line, i lines before it: what is known of what is begun, where n nodes are still allowed and P holds of the open levels.
 pub record Room (i n : ℕ) (P : List Open → Type 0) (x : Begun) : Type 0 where

@@ -1,5 +1,6 @@
 -- definitions
 pub mod Bears
+pub mod Groups
 pub mod Tables
 pub mod Fours
 -- laws

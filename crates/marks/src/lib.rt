@@ -1,8 +1,10 @@
-// The tables of the marks, made once for a plan: word s of a mark's table has bit i for cart i.
+// The tables of the marks, made once for a plan: word s of a mark's table has bit i for cart i. And the words of the groups.
 mod fours;
+mod groups;
 mod tables;
 mod words;
 
+pub use groups::fill_groups;
 ghost use Prim.Native.Nat.{_+_, _*_, _≤_, _<_};
 ghost use mathlib.Core.Path.{_≡_};
 ghost use lib.ListN.{length};

@@ -8,7 +8,7 @@ use lib.Dec.{T}
 use Rattle.endian.specs.Little.{bytes, Bytes}
 use Rattle.refusal.specs.Codes.{refused}
 use Rattle.refusal.specs.declared.Verdict.{Verdict}
-use Rattle.refusal.specs.declared.Verdict.the-variants.{Accepted, Plan as AboutPlan}
+use Rattle.refusal.specs.declared.Verdict.the-variants.{Accepted, Plan as AboutPlan, Rules as AboutRules}
 use Rattle.record.specs.All.{All, all-map, all-both}
 use Rattle.record.specs.Record.{encoded, layout}
 use Rattle.record.specs.Buffer.{stored}
@@ -32,10 +32,11 @@ use Rattle.cltl.specs.Meaning.{Rows, Run, TrueOf, TrueInStep}
 use Rattle.cltl.specs.Rules.{rules}
 use Rattle.cltl.specs.Promises as cltl
 use Rattle.plancheck.specs.Check.{planRows, checked}
-use Rattle.plancheck.specs.Meaning.{drifted, Plain, Kept, Conflict20, ReadAndOpen}
+use Rattle.plancheck.specs.Meaning.{drifted, Plain, Kept, Conflict20, Lacks21, ReadAndOpen}
 use Rattle.plancheck.specs.Promises.{Means, PlanChecked}
-use Rattle.plancheck.specs.Stages.{same-clauses, proper, on-routes, accepted-as, as-accepted, as-20, accepted-read}
-use Rattle.plancheck.specs.Refusing.{Meant, meant, given, is-plan, is-20, is-16, is-17, is-clause, is-sheet}
+use Rattle.plancheck.specs.FirstClause.{told-lacking}
+use Rattle.plancheck.specs.Stages.{same-clauses, proper, on-routes, accepted-as, as-accepted, as-20, as-21, accepted-read}
+use Rattle.plancheck.specs.Refusing.{Meant, meant, given, is-plan, is-20, is-21, is-16, is-17, is-clause, is-sheet}
 
 drifted-file : (p : PlanNumbers) (d : ℕ) → stored (planFile p) 8 (bytes 2 d) ≡ planFile (drifted p d)
 unfolding layout encoded bytes
@@ -93,6 +94,7 @@ module _ (floor s sheet : List ℕ) (fb : Bytes floor) (pb : Bytes s) where
         (record {
           readable = record { files = drifted-read d less; moves = w .moves; clauses = w .clauses };
           no-20 = less-conflicts (planRoutes floor f p) (p .head .drift) d (a .1 .no-20) less;
+          no-21 = a .1 .no-21;
           no-16 = ⊎-elim (λ z. inl (omega arith))
               (λ x. inr x) (a .1 .no-16);
         })
@@ -109,8 +111,9 @@ module _ (floor s sheet : List ℕ) (fb : Bytes floor) (pb : Bytes s) where
   means = record {
     in-step = λ f p files none. (
       λ yes. let a = accepted-as floor s sheet f p files yes in
-          (a .0, a .1 .readable, a .1 .no-20, all-map (kept-step f p files none) (a .0) (a .2)),
-      λ w. as-accepted floor s sheet f p (w .0) (record { readable = w .1; no-20 = w .2; no-16 = inl none }) (all-map (step-kept f p files none) (w .0) (w .3)),
+          (a .0, a .1 .readable, a .1 .no-20, a .1 .no-21, all-map (kept-step f p files none) (a .0) (a .2)),
+      λ w. as-accepted floor s sheet f p (w .0) (record { readable = w .1; no-20 = w .2; no-21 = w .3; no-16 = inl none })
+          (all-map (step-kept f p files none) (w .0) (w .4)),
     );
     kept = λ f p cs a. (λ yes. all-kept f p (a .readable .files) yes cs (a .readable .clauses), λ k. as-accepted floor s sheet f p cs a k);
     runs = λ yes f p cs w plain r. in-runs f p (w .files) yes cs w plain r;
@@ -136,6 +139,12 @@ module _ (floor s sheet : List ℕ) (fb : Bytes floor) (pb : Bytes s) where
       let q = read-once floor s (y .floor-is) (x .floor-is) (y .numbers) (x .numbers) (y .read) (x .read) in
       subst₂ (λ (f : Floor) (p : PlanNumbers). Earliest (planRoutes floor f p) (p .head .drift) c k) (q .0) (q .1) (w .earliest)
 
+  -- 21 is told where its clause and its group are
+  told-21 : (k g : ℕ) → Lacks21 floor s sheet k g → checked floor s sheet ≡ AboutRules (refused 21 k g)
+  told-21 k g w =
+      as-21 floor s sheet (w .floor-is) (w .numbers) (w .clauses) (w .readable) (w .no-20) k g
+      (told-lacking (w .floor-is .groups) (w .clauses) k g (w .there) (w .first) (w .before))
+
   pub claims : (v : Verdict) → v ≡ checked floor s sheet → PlanChecked floor s sheet v
   claims v e =
       let m = subst (Meant floor s sheet) (sym e) (meant floor s sheet fb) in
@@ -149,6 +158,7 @@ module _ (floor s sheet : List ℕ) (fb : Bytes floor) (pb : Bytes s) where
               j .exists .0 (w .0, w .1, j .told (w .0) (w .1) .1 (moved-20 x (w .0) (w .1) t)),
           λ w. let t = j .exists .1 w in (t .0, t .1, e ∙ as-20 floor s sheet (x .floor-is) (x .numbers) (x .read) (x .unending) (t .0) (t .1) (t .2)),
         );
+        lacks-21 = λ k g. (λ q. is-21 floor s sheet k g (subst (Meant floor s sheet) q m), λ w. e ∙ told-21 k g w);
         next-16 = λ k x q. is-16 floor s sheet k x (subst (Meant floor s sheet) q m);
         fails-17 = λ k x q. is-17 floor s sheet k x (subst (Meant floor s sheet) q m);
         names-clause = λ x q o. is-clause floor s sheet x o (subst (Meant floor s sheet) q m);

@@ -2,7 +2,7 @@
 use Prim.Native.Nat.{ℕ, _≤_, _<_}
 use native.Mathlib.Omega.{arith}
 use mathlib.Core.Path.{_≡_, refl, subst, subst₂, subst₃}
-use mathlib.Core.Logic.{_⊎_, inl, inr}
+use mathlib.Core.Logic.{_⊎_, inl, inr, ⊎-elim}
 use mathlib.Core.List.{List}
 use lib.Dec.{T}
 use lib.ListN.{length, getD}
@@ -22,11 +22,13 @@ use Rattle.moves.specs.Demands.{read-once, first-11}
 use Rattle.conflict.specs.Meaning.{Routes, Vertex, Swap, Conflict, Earliest}
 use Rattle.conflict.specs.OfPlan.{planRoutes, ConflictFree}
 use Rattle.grammar.specs.Grammar.{top, Clause}
+use Rattle.grammar.specs.Groups.{groups}
 use Rattle.cltl.specs.Meaning.{Run, TrueOf, TrueInStep}
 use Rattle.cltl.specs.Rules.{hasNext}
 use Rattle.plancheck.specs.Check.{planRows, checked}
-use Rattle.plancheck.specs.Meaning.{drifted, Plain, Kept, FailingStep, ReadAndOpen, NoneAhead}
+use Rattle.plancheck.specs.Meaning.{drifted, HasGroups, FirstLacking, Plain, Kept, FailingStep, ReadAndOpen, NoneAhead}
 use Rattle.plancheck.specs.Promises.{Means, PlanChecked}
+use Rattle.plancheck.specs.FirstClause.{FirstClause, firstLacked, Lacks, first-21}
 use Rattle.plancheck.specs.Stages.{same-clauses}
 
 ---- Accepted, by the verdict or by C's number.
@@ -38,13 +40,14 @@ module _ (floor plan sheet : List ℕ) (yes : Type 0) (w : Means floor plan shee
     clause-in-run a r plain run k q = each (TrueOf (planRows floor f p) run) top cs k (w .runs a f p cs r plain run) q
 
     -- in step: what is true of every clause is accepted, and nothing else is
-    pub accepted-in-step : ReadAndOpen floor plan sheet f p cs → ConflictFree floor f p → p .head .drift ≡ 0 → All (TrueInStep (planRows floor f p)) cs → yes
-    accepted-in-step r free none all = w .in-step f p (r .files) none .1 (cs, r, free, all)
+    pub accepted-in-step : ReadAndOpen floor plan sheet f p cs → ConflictFree floor f p → All (HasGroups (f .groups)) cs → p .head .drift ≡ 0
+        → All (TrueInStep (planRows floor f p)) cs → yes
+    accepted-in-step r free has none all = w .in-step f p (r .files) none .1 (cs, r, free, has, all)
 
     pub true-in-step : ReadAndOpen floor plan sheet f p cs → p .head .drift ≡ 0 → yes → All (TrueInStep (planRows floor f p)) cs
     true-in-step r none a =
         let x = w .in-step f p (r .files) none .0 a in
-        subst (All (TrueInStep (planRows floor f p))) (same-clauses sheet (x .0) cs (x .1 .clauses) (r .clauses)) (x .3)
+        subst (All (TrueInStep (planRows floor f p))) (same-clauses sheet (x .0) cs (x .1 .clauses) (r .clauses)) (x .4)
 
     -- with drift: what the rules keep is accepted, and nothing else is
     pub accepted-kept : NoneAhead floor plan sheet f p cs → All (Kept (planRows floor f p) (p .head .drift)) cs → yes
@@ -70,12 +73,12 @@ module _ (floor plan sheet : List ℕ) (yes : Type 0) (w : Means floor plan shee
     pub reads-with : yes → ReadAs floor (stored plan 8 (bytes 2 d)) f (drifted p d)
     reads-with a = w .smaller a f p files d less .0
 
-  -- what could not be read, has a conflict, or has "next" outside a count under drift, is not accepted
+  -- what could not be read, has a conflict, names a group that the floor lacks, or has "next" outside a count under drift, is not accepted
   pub no-next : yes → (f : Floor) × (p : PlanNumbers) × (cs : List Clause) × ReadAndOpen floor plan sheet f p cs × ConflictFree floor f p
-      × ((p .head .drift ≡ 0) ⊎ All Plain cs)
-  no-next e = let a = w .readable e in (a .0, a .1, a .2, a .3 .readable, a .3 .no-20, a .3 .no-16)
+      × All (HasGroups (f .groups)) cs × ((p .head .drift ≡ 0) ⊎ All Plain cs)
+  no-next e = let a = w .readable e in (a .0, a .1, a .2, a .3 .readable, a .3 .no-20, a .3 .no-21, a .3 .no-16)
 
----- Refused by 11, 20, 16 or 17, in the caller's own reading of floor, plan and sheet.
+---- Refused by 11, 20, 21, 16 or 17, in the caller's own reading of floor, plan and sheet.
 -- 11: step k is the lowest that cart c leaves by a move that is not open, and the cart is on another place after it
 pub check-11 : (floor plan sheet : List ℕ) (v : Verdict) → PlanChecked floor plan sheet v → (f : Floor) (p : PlanNumbers) → ReadAs floor plan f p
     → (c k : ℕ) → v ≡ AboutPlan (refused 11 c k) → LowestLeft floor p c k
@@ -122,8 +125,33 @@ module _ (floor plan sheet : List ℕ) (v : Verdict) (w : PlanChecked floor plan
       (record { run = r; moment = t; other = b; cart-there = here; other-there = there; two = two; counter = refl; conflicting = x }) in
       n (found .0) (found .1) (found .2)
 
+-- all read without a conflict: 21 has those numbers and no others, and where it is not given the floor has every group that a clause names
+module _ (floor plan sheet : List ℕ) (v : Verdict) (w : PlanChecked floor plan sheet v) (f : Floor) (p : PlanNumbers) (cs : List Clause)
+    (r : ReadAndOpen floor plan sheet f p cs) (free : ConflictFree floor f p) where
+  pub lacking-told : (k g : ℕ) → k < length cs → FirstLacking (f .groups) (groups (getD cs k top)) g
+      → ((j : ℕ) → j < k → HasGroups (f .groups) (getD cs j top)) → v ≡ AboutRules (refused 21 k g)
+  lacking-told k g l x before = w .lacks-21 k g .1
+      (record { floor-is = f; numbers = p; clauses = cs; readable = r; no-20 = free; there = l; first = x; before = before })
+
+  pub not-21-named : ((k g : ℕ) → v ≡ AboutRules (refused 21 k g) → ⊥) → All (HasGroups (f .groups)) cs
+  not-21-named n = ⊎-elim (λ a. a .0)
+      (λ x. absurd (n (x .index) (firstLacked (f .groups) (getD cs (x .index) top)) (lacking-told (x .index) _ (x .there) (x .bad) (x .before))))
+      (first-21 (f .groups) cs)
+
 module _ (floor plan sheet : List ℕ) (v : Verdict) (w : PlanChecked floor plan sheet v) (f : Floor) (p : PlanNumbers) (cs : List Clause)
     (r : ReadAndOpen floor plan sheet f p cs) (k s : ℕ) where
+  -- 21: clause k is there, s is the first group in its text that the floor lacks, and no clause before it names such a group
+  pub clause-21 : v ≡ AboutRules (refused 21 k s)
+      → (k < length cs) × FirstLacking (f .groups) (groups (getD cs k top)) s × ((j : ℕ) → j < k → HasGroups (f .groups) (getD cs j top))
+  clause-21 e =
+      let x = w .lacks-21 k s .0 e in
+      let a = x .readable in
+      let same = read-once floor plan (x .floor-is) f (x .numbers) p (a .files) (r .files) in
+      subst₂
+      (λ (g : Floor) (ds : List Clause). (k < length ds)
+      × FirstLacking (g .groups) (groups (getD ds k top)) s × ((j : ℕ) → j < k → HasGroups (g .groups) (getD ds j top)))
+      (same .0) (same-clauses sheet (x .clauses) cs (a .clauses) (r .clauses)) (x .there, x .first, x .before)
+
   -- 16: clause k is there and has "next" outside its counts
   pub clause-16 : v ≡ AboutRules (refused 16 k s) → (k < length cs) × T (hasNext (getD cs k top))
   clause-16 e =

@@ -1,23 +1,26 @@
--- The first of a sheet's clauses that is refused, by 16 or by 17.
+-- The first of a sheet's clauses that is refused, by 21, by 16 or by 17.
 use Prim.Native.Nat.{ℕ, zero, suc, _+_, _<_}
 use native.Mathlib.Omega.{arith}
-use mathlib.Core.Path.{_≡_, refl, sym, ap, _∙_}
+use mathlib.Core.Path.{_≡_, refl, sym, ap, ap₂, subst, _∙_}
 use mathlib.Core.Bool.{Bool, true, false, cond}
 use mathlib.Core.Logic.{_⊎_, inl, inr}
 use mathlib.Core.List.{List, [], _∷_}
 use lib.Dec.{T}
 use lib.ListN.{length, getD}
 use Rattle.refusal.specs.Codes.{refused}
+use Rattle.refusal.specs.Stages.{andThen}
 use Rattle.refusal.specs.declared.Refusal.{Refusal}
 use Rattle.refusal.specs.declared.Verdict.{Verdict}
 use Rattle.refusal.specs.declared.Verdict.the-variants.{Accepted, Rules as AboutRules}
 use Rattle.record.specs.All.{All, each}
 use Rattle.grammar.specs.Grammar.{top, Clause}
+use Rattle.grammar.specs.Groups.{groups}
 use Rattle.cltl.specs.Meaning.{Rows}
 use Rattle.cltl.specs.Rules.{rules, hasNext}
 use Rattle.cltl.specs.Step.{failing}
-use Rattle.plancheck.specs.Check.{nextVerdict, keptVerdict}
-use Rattle.plancheck.specs.Meaning.{Plain, Kept}
+use Rattle.plancheck.specs.Check.{lacked, lackVerdict, groupVerdict, nextVerdict, keptVerdict}
+use Rattle.plancheck.specs.Meaning.{HasGroups, FirstLacking, Plain, Kept}
+use Rattle.plancheck.specs.Lacking.{neither-less, Lacked, none, some, lacks, not-lacking, one-first}
 
 pub not-refused : {x : Refusal} → AboutRules x ≡ Accepted → ⊥
 not-refused e = let z : _≡_ {A = ℕ} 0 1 = cc in omega arith
@@ -67,6 +70,56 @@ module _ (Ok Bad : Clause → Type 0) (r : ℕ → Clause → Refusal) where
       → (All Ok cs × (v ≡ Accepted)) ⊎ FirstClause n cs v → All Ok cs → v ≡ Accepted
   pass-accepted apart (inl a) all = a .1
   pass-accepted apart {cs = cs} (inr w) all = absurd (apart _ (w .bad) (each Ok top cs (w .index) all (w .there)))
+
+  -- a clause that does not pass, with all before it passing, is the first
+  pub is-first : ((c : Clause) → Bad c → Ok c → ⊥) → {n : ℕ} {cs : List Clause} {v : Verdict} → (All Ok cs × (v ≡ Accepted)) ⊎ FirstClause n cs v
+      → (k : ℕ) → k < length cs → Bad (getD cs k top) → ((j : ℕ) → j < k → Ok (getD cs j top)) → v ≡ AboutRules (r (n + k) (getD cs k top))
+  is-first apart {cs = cs} (inl a) k l bad before = absurd (apart _ bad (each Ok top cs k (a .0) l))
+  is-first apart {n} {cs} (inr w) k l bad before =
+      let same = neither-less (w .index) k (λ q. apart _ (w .bad) (before (w .index) q)) (λ q. apart _ bad (w .before k q)) in
+      w .is ∙ ap (λ (j : ℕ). AboutRules (r (n + j) (getD cs j top))) same
+
+module _ (many : ℕ) where
+  -- the first group that a clause names and the floor lacks, where there is one
+  abbrev pub firstLacked : Clause → ℕ
+  firstLacked c = getD (lacked many (groups c)) 0 0
+
+  abbrev pub Lacks : Clause → Type 0
+  Lacks c = FirstLacking many (groups c) (firstLacked c)
+
+  -- "(lowest clause, its first such group) for a group the floor lacks"
+  pub first-21 : (cs : List Clause)
+      → (All (HasGroups many) cs × (groupVerdict many 0 cs ≡ Accepted))
+      ⊎ FirstClause (HasGroups many) Lacks (λ k c. refused 21 k (firstLacked c)) 0 cs (groupVerdict many 0 cs)
+  unfolding groupVerdict
+  first-21 cs = first-clause (HasGroups many) Lacks (λ k c. refused 21 k (firstLacked c)) (groupVerdict many) (λ n. refl) step 0 cs
+    where
+      step : (n : ℕ) (c : Clause) (cs : List Clause)
+          → (Lacks c × (groupVerdict many n (c ∷ cs) ≡ AboutRules (refused 21 n (firstLacked c))))
+          ⊎ (HasGroups many c × (groupVerdict many n (c ∷ cs) ≡ groupVerdict many (suc n) cs))
+      step n c cs = go (lacks many (groups c))
+        where
+          go : {ls : List ℕ} → Lacked many (groups c) ls
+              → (FirstLacking many (groups c) (getD ls 0 0)
+              × (andThen (lackVerdict n ls) (groupVerdict many (suc n) cs) ≡ AboutRules (refused 21 n (getD ls 0 0))))
+              ⊎ (HasGroups many c × (andThen (lackVerdict n ls) (groupVerdict many (suc n) cs) ≡ groupVerdict many (suc n) cs))
+          go (none a) = inr (a, refl)
+          go (some w) = inl (w, refl)
+
+  -- whichever it is, it is told
+  pub told-lacking : (cs : List Clause) (k g : ℕ) → k < length cs → FirstLacking many (groups (getD cs k top)) g
+      → ((j : ℕ) → j < k → HasGroups many (getD cs j top)) → groupVerdict many 0 cs ≡ AboutRules (refused 21 k g)
+  told-lacking cs k g l w before = go (lacks many (groups (getD cs k top))) refl
+    where
+      go : {ls : List ℕ} → Lacked many (groups (getD cs k top)) ls → ls ≡ lacked many (groups (getD cs k top))
+          → groupVerdict many 0 cs ≡ AboutRules (refused 21 k g)
+      go (none a) e = absurd (not-lacking many w a)
+      go (some {g = x} u) e =
+          let found : firstLacked (getD cs k top) ≡ g = sym (ap (λ (ls : List ℕ). getD ls 0 0) e) ∙ one-first many u w in
+          let z : 0 + k ≡ k = omega arith in
+          is-first (HasGroups many) Lacks (λ k c. refused 21 k (firstLacked c)) (λ c. not-lacking many) (first-21 cs) k l
+          (subst (FirstLacking many (groups (getD cs k top))) (sym found) w) before
+          ∙ ap₂ (λ (n g : ℕ). AboutRules (refused 21 n g)) z found
 
 -- "X outside a count (lowest clause, 0)"
 pub first-16 : (cs : List Clause)

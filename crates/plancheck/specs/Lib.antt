@@ -6,6 +6,7 @@ pub mod Promises
 -- worked cases
 pub mod Starred
 -- laws
+pub mod Lacking
 pub mod FirstClause
 pub mod Stages
 pub mod Refusing

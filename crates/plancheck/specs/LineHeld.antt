@@ -6,12 +6,14 @@ use mathlib.Core.List.{List}
 use lib.ListN.{length, drop}
 use Rattle.record.specs.Buffer.{stored}
 use Rattle.grammar.specs.Grammar.{Clause}
+use Rattle.grammar.specs.Groups.{groups}
 use Rattle.grammar.specs.Limits.{countNodes}
 use Rattle.grammar.specs.Nodes.{flatCount, flatClause}
 use Rattle.grammar.specs.Reader.{clauseLine}
 use Rattle.token.specs.Block.{nodesBytes}
 use Rattle.token.specs.Parts.{PartIs}
 use Rattle.token.specs.declared.PartRead.{PartRead}
+use Rattle.drift.specs.Lacking.{groupsFrom}
 use Rattle.drift.specs.Tree.{Ordered, clauseTree}
 use Rattle.drift.specs.Need.{SixPairsDo}
 use Rattle.plancheck.specs.Lines.{Left, Line, next-line}
@@ -24,6 +26,7 @@ pub record Judgeable (block : List ℕ) (n : ℕ) (c : Clause) : Type 0 where
   pub size : length block ≡ 512
   pub tree : (m : ℕ) → n - 1 < m → clauseTree block m (n - 1) ≡ c
   pub small : SixPairsDo block (n - 1)
+  pub named : groupsFrom block n 0 ≡ groups c
 
 pub line-held : (s before : List ℕ) (r : PartRead) (block : List ℕ) (n : ℕ) (cs : List Clause) → (l : Line s before r block n cs) → length before ≡ 512
     → Judgeable block (r .n) (l .clause)
@@ -40,10 +43,11 @@ line-held s before r block n cs l size =
     zero k = omega arith
 
     all : {b : List ℕ} {k : ℕ} {c : Clause}
-        → (Ordered b k) × (0 < k) × (length b ≡ 512) × ((m : ℕ) → k ≤ m → clauseTree b m (k - 1) ≡ c) × SixPairsDo b (k - 1) → Judgeable b k c
+        → (Ordered b k) × (0 < k) × (length b ≡ 512) × ((m : ℕ) → k ≤ m → clauseTree b m (k - 1) ≡ c) × SixPairsDo b (k - 1)
+        × (groupsFrom b k 0 ≡ groups c) → Judgeable b k c
     all {b} {k} h =
         let z : k ≡ (k - 1) + 1 = omega (arith, h .1) in
-        record { some = h .1; ordered = subst (Ordered b) z (h .0); size = h .2; tree = λ m q. h .3 m (omega (arith, h .1)); small = h .4 }
+        record { some = h .1; ordered = subst (Ordered b) z (h .0); size = h .2; tree = λ m q. h .3 m (omega (arith, h .1)); small = h .4; named = h .5 }
 
 -- a line read where one is left, ready to be judged
 pub record Ready (s before : List ℕ) (r : PartRead) (block : List ℕ) (n : ℕ) (cs : List Clause) : Type 0 where

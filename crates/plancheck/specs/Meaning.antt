@@ -1,5 +1,5 @@
 -- What the verdicts of the check mean.
-use Prim.Native.Nat.{ℕ, _<_}
+use Prim.Native.Nat.{ℕ, _≤_, _<_}
 use mathlib.Core.Path.{_≡_}
 use mathlib.Core.Logic.{_⊎_}
 use mathlib.Core.List.{List, [], _∷_, _++_}
@@ -20,6 +20,7 @@ use Rattle.moves.specs.Promises.{AllUnending, Moving, FirstRefused}
 use Rattle.conflict.specs.Meaning.{Earliest}
 use Rattle.conflict.specs.OfPlan.{planRoutes, ConflictFree}
 use Rattle.grammar.specs.Grammar.{top, gl, Clause, Sheet}
+use Rattle.grammar.specs.Groups.{groups}
 use Rattle.grammar.specs.Answers.{AcceptedSheet}
 use Rattle.sheet.specs.Promises.{RulesRead}
 use Rattle.cltl.specs.Meaning.{Rows}
@@ -29,6 +30,18 @@ use Rattle.plancheck.specs.Check.{planRows}
 -- the same plan with drift d
 abbrev pub drifted : PlanNumbers → ℕ → PlanNumbers
 drifted p d = record { head = headOf (p .head .steps) (p .head .stem) d; rows = p .rows }
+
+-- document 02, 6): every group that a clause names is one of the floor's, which has so many
+abbrev pub HasGroups : ℕ → Clause → Type 0
+HasGroups many c = All (λ (g : ℕ). g < many) (groups c)
+
+-- g is the first of these groups that a floor with so many lacks
+pub record FirstLacking (many : ℕ) (gs : List ℕ) (g : ℕ) : Type 0 where
+  pub index : ℕ
+  pub there : index < length gs
+  pub group : getD gs index 0 ≡ g
+  pub lacking : many ≤ g
+  pub before : (j : ℕ) → j < index → getD gs j 0 < many
 
 -- "next" only inside counts
 abbrev pub Plain : Clause → Type 0
@@ -73,9 +86,22 @@ module _ (floor plan sheet : List ℕ) where
   pub record NoneAhead (f : Floor) (p : PlanNumbers) (cs : List Clause) : Type 0 where
     pub readable : ReadAndOpen f p cs
     pub no-20 : ConflictFree floor f p
+    pub no-21 : All (HasGroups (f .groups)) cs
     pub no-16 : (p .head .drift ≡ 0) ⊎ All Plain cs
 
-  -- "16 with d above 0, X outside a count (lowest clause, 0)": floor, plan, moves and sheet are not refused, nor by 20, and clause k
+  -- document 02, 6): "21 (lowest clause, its first such group) for a group the floor lacks, after the sheet is read and before 16": floor, plan, moves and
+  -- sheet are not refused, nor by 20, clause k is the lowest, and g the first such group in its text
+  pub record Lacks21 (k g : ℕ) : Type 0 where
+    pub floor-is : Floor
+    pub numbers : PlanNumbers
+    pub clauses : List Clause
+    pub readable : ReadAndOpen floor-is numbers clauses
+    pub no-20 : ConflictFree floor floor-is numbers
+    pub there : k < length clauses
+    pub first : FirstLacking (floor-is .groups) (groups (getD clauses k top)) g
+    pub before : (j : ℕ) → j < k → HasGroups (floor-is .groups) (getD clauses j top)
+
+  -- "16 with d above 0, X outside a count (lowest clause, 0)": floor, plan, moves and sheet are not refused, nor by 20 or 21, and clause k
   -- is the lowest
   pub record Next16 (k : ℕ) : Type 0 where
     pub floor-is : Floor
@@ -83,6 +109,7 @@ module _ (floor plan sheet : List ℕ) where
     pub clauses : List Clause
     pub readable : ReadAndOpen floor-is numbers clauses
     pub no-20 : ConflictFree floor floor-is numbers
+    pub no-21 : All (HasGroups (floor-is .groups)) clauses
     pub drift : 0 < numbers .head .drift
     pub there : k < length clauses
     pub next : T (hasNext (getD clauses k top))
@@ -103,7 +130,7 @@ module _ (floor plan sheet : List ℕ) where
   abbrev pub SheetRefused : Refusal → Type 0
   SheetRefused x = (m : Moving floor plan) × ConflictFree floor (m .floor-is) (m .numbers) × RulesRead sheet (AboutRules x)
 
--- the first further number k of a refusal is a clause that the sheet has, and the second one small: a step of the plan, or 0
+-- the first further number k of a refusal is a clause that the sheet has, and the second one small: a step of the plan, a group, or 0
 pub record NamesClause (sheet : List ℕ) (k s : ℕ) : Type 0 where
   pub clauses : List Clause
   pub read : AcceptedSheet sheet clauses

@@ -1,39 +1,67 @@
 -- The block that holds a clause's nodes: they are in order, and the last of them stands for the clause.
-use Prim.Native.Nat.{ℕ, zero, suc, _+_, _-_, _*_, _≤_, _<_}
+use Prim.Native.Nat.{ℕ, zero, suc, _+_, _-_, _*_, _/_, _%_, _≤_, _<_}
 use mathlib.Core.Path.{_≡_, refl, ap, ap₂, subst, sym, _∙_}
 use mathlib.Core.Bool.{Bool, true, false}
 use mathlib.Core.List.{List, [], _∷_, _++_, append-assoc, append-nil}
-use native.Mathlib.Nat.{mod-add-div}
 use native.Mathlib.Omega.{arith}
+use lib.Dec.{eqb}
 use lib.ListN.{length, drop, getD, length-append}
 use lib.Seq.{getD-append-add}
 use Rattle.record.specs.Buffer.{stored}
 use Rattle.record.specs.Stored.{length-stored, stored-front}
-use Rattle.grammar.specs.Grammar.{Form, top, leaf, neg, and, or, next, until, release, ev, gl, Inner, Amount, amount, Counted, counted, Clause}
-use Rattle.grammar.specs.Limits.{nodes, markNodes, countNodes, InRange, MarkOk, CountOk}
+use Rattle.grammar.specs.Grammar.{Form, top, leaf, neg, and, or, next, until, release, ev, gl, Inner, Over, fleet, group, Amount, amount, Counted, counted, Clause}
+use Rattle.grammar.specs.Limits.{nodes, markNodes, countNodes, InRange, MarkOk, AmountOk, CountOk}
 use Rattle.grammar.specs.Nodes.{Node, topN, markN, countN, oneN, twoN, Op₁, neg₁, next₁, ev₁, gl₁, Op₂, and₂, or₂, until₂, release₂, flat, flatMark, flatInner, flatCount, flatClause, node, Stands, StandsMark, StandsCount}
+use Rattle.grammar.specs.Groups.{groups, nodeGroups, nodesGroups, clause-groups}
 use Rattle.grammar.specs.Standing.{node-some, flat-length, clause-stands, clause-length}
-use Rattle.token.specs.Block.{nodeBytes, nodesBytes}
+use Rattle.token.specs.Block.{countByte, overNumber, nodeBytes, nodesBytes}
 use Rattle.token.specs.Joined.{length-nodes, nodes-one}
 use Rattle.drift.specs.Need.{SixPairsDo}
 use Rattle.drift.specs.Needing.{six-pairs}
 use Rattle.plancheck.specs.NodeNeeds.{clause-need}
-use Rattle.drift.specs.Tree.{nodeAt, OperandsBelow, Ordered, one, two, formOf, tree, innerTree, clauseTree}
+use Rattle.drift.specs.Lacking.{groupsFrom}
+use Rattle.drift.specs.Tree.{overOf, amountOf, nodeAt, OperandsBelow, Ordered, one, two, formOf, tree, innerTree, clauseTree}
 
 ---- The nodes come back from their bytes.
-pub node-back : (x : Node) (rest : List ℕ) → nodeAt (nodeBytes x ++ rest) 0 ≡ x
-node-back topN rest = refl
-node-back (markN m) rest = refl
-node-back (countN i (amount m false)) rest = ap (λ (n : ℕ). countN i (amount n false)) (mod-add-div m 256)
-node-back (countN i (amount m true)) rest = ap (λ (n : ℕ). countN i (amount n true)) (mod-add-div m 256)
-node-back (oneN neg₁ i) rest = refl
-node-back (oneN next₁ i) rest = refl
-node-back (oneN ev₁ i) rest = refl
-node-back (oneN gl₁ i) rest = refl
-node-back (twoN and₂ i j) rest = refl
-node-back (twoN or₂ i j) rest = refl
-node-back (twoN until₂ i j) rest = refl
-node-back (twoN release₂ i j) rest = refl
+-- a count's number has ten bits, and the carts that it is over stand above them
+abbrev pub FitsBytes : Node → Type 0
+FitsBytes topN = Unit {0}
+FitsBytes (markN m) = Unit {0}
+FitsBytes (countN i (amount m percent o)) = m < 1024
+FitsBytes (oneN o i) = Unit {0}
+FitsBytes (twoN o i j) = Unit {0}
+
+kind-back : (p : Bool) → eqb (countByte p) 11 ≡ p
+kind-back true = refl
+kind-back false = refl
+
+over-back : (o : Over) → overOf (overNumber o) ≡ o
+over-back fleet = refl
+over-back (group g) = refl
+
+amount-back : (m : ℕ) (p : Bool) (o : Over) → m < 1024 → amountOf (countByte p) (m % 256) (m / 256 + 4 * overNumber o) ≡ amount m p o
+amount-back m p o few =
+    let k = overNumber o in
+    let number : m % 256 + 256 * ((m / 256 + 4 * k) % 4) ≡ m = omega arith in
+    let over : (m / 256 + 4 * k) / 4 ≡ k = omega arith in
+    ap₂ (λ (n c : ℕ). amount n (eqb (countByte p) 11) (overOf c)) number over ∙ ap₂ (λ (b : Bool) (z : Over). amount m b z) (kind-back p) (over-back o)
+
+count-back : (i m : ℕ) (p : Bool) (o : Over) (rest : List ℕ) → m < 1024 → nodeAt (nodeBytes (countN i (amount m p o)) ++ rest) 0 ≡ countN i (amount m p o)
+count-back i m false o rest few = ap (countN i) (amount-back m false o few)
+count-back i m true o rest few = ap (countN i) (amount-back m true o few)
+
+pub node-back : (x : Node) (rest : List ℕ) → FitsBytes x → nodeAt (nodeBytes x ++ rest) 0 ≡ x
+node-back topN rest few = refl
+node-back (markN m) rest few = refl
+node-back (countN i (amount m p o)) rest few = count-back i m p o rest few
+node-back (oneN neg₁ i) rest few = refl
+node-back (oneN next₁ i) rest few = refl
+node-back (oneN ev₁ i) rest few = refl
+node-back (oneN gl₁ i) rest few = refl
+node-back (twoN and₂ i j) rest few = refl
+node-back (twoN or₂ i j) rest few = refl
+node-back (twoN until₂ i j) rest few = refl
+node-back (twoN release₂ i j) rest few = refl
 
 -- behind a node's four bytes
 byte-behind : (x : Node) (s : List ℕ) (m k : ℕ) → m ≡ 4 + k → getD (nodeBytes x ++ s) m 0 ≡ getD s k 0
@@ -49,26 +77,27 @@ node-behind x s k =
     let d = byte-behind x s (4 * suc k + 3) (4 * k + 3) (omega arith) in
     rw (a, b, c, d)
 
-bytes-at : (ns : List Node) (rest : List ℕ) (k : ℕ) → k < length ns → nodeAt (nodesBytes ns ++ rest) k ≡ node ns k
-unfolding nodesBytes
-bytes-at [] rest k q = absurd (omega arith)
-bytes-at (x ∷ ns) rest zero q = ap (λ (s : List ℕ). nodeAt s 0) (append-assoc (nodeBytes x) (nodesBytes ns) rest) ∙ node-back x (nodesBytes ns ++ rest)
-bytes-at (x ∷ ns) rest (suc k) q =
-    ap (λ (s : List ℕ). nodeAt s (suc k)) (append-assoc (nodeBytes x) (nodesBytes ns) rest)
-    ∙ node-behind x (nodesBytes ns ++ rest) k ∙ bytes-at ns rest k (omega arith)
-
-module _ (before : List ℕ) (ns : List Node) where
-  pub held-at : (k : ℕ) → k < length ns → nodeAt (stored before 0 (nodesBytes ns)) k ≡ node ns k
-  held-at k q =
-      ap (λ (s : List ℕ). nodeAt s k) (stored-front before (nodesBytes ns)) ∙ bytes-at ns (drop (length (nodesBytes ns)) before) k q
-
-  pub held-length : 4 * length ns ≤ length before → length (stored before 0 (nodesBytes ns)) ≡ length before
-  held-length room = length-stored before 0 (nodesBytes ns) (omega (arith, length-nodes ns))
-
----- Each node is below its number, where the first has number b.
+-- Each node is below its number, where the first has number b, and fits its bytes.
 abbrev pub AllFrom : ℕ → List Node → Type 0
 AllFrom b [] = Unit {0}
-AllFrom b (x ∷ ns) = OperandsBelow b x × AllFrom (suc b) ns
+AllFrom b (x ∷ ns) = (OperandsBelow b x × FitsBytes x) × AllFrom (suc b) ns
+
+bytes-at : (b : ℕ) (ns : List Node) (rest : List ℕ) → AllFrom b ns → (k : ℕ) → k < length ns → nodeAt (nodesBytes ns ++ rest) k ≡ node ns k
+unfolding nodesBytes
+bytes-at b [] rest h k q = absurd (omega arith)
+bytes-at b (x ∷ ns) rest h zero q =
+    ap (λ (s : List ℕ). nodeAt s 0) (append-assoc (nodeBytes x) (nodesBytes ns) rest) ∙ node-back x (nodesBytes ns ++ rest) (h .0 .1)
+bytes-at b (x ∷ ns) rest h (suc k) q =
+    ap (λ (s : List ℕ). nodeAt s (suc k)) (append-assoc (nodeBytes x) (nodesBytes ns) rest)
+    ∙ node-behind x (nodesBytes ns ++ rest) k ∙ bytes-at (suc b) ns rest (h .1) k (omega arith)
+
+module _ (before : List ℕ) (ns : List Node) (all : AllFrom 0 ns) where
+  pub held-at : (k : ℕ) → k < length ns → nodeAt (stored before 0 (nodesBytes ns)) k ≡ node ns k
+  held-at k q =
+      ap (λ (s : List ℕ). nodeAt s k) (stored-front before (nodesBytes ns)) ∙ bytes-at 0 ns (drop (length (nodesBytes ns)) before) all k q
+
+pub held-length : (before : List ℕ) (ns : List Node) → 4 * length ns ≤ length before → length (stored before 0 (nodesBytes ns)) ≡ length before
+held-length before ns room = length-stored before 0 (nodesBytes ns) (omega (arith, length-nodes ns))
 
 pub all-append : (b : ℕ) (ns ms : List Node) → AllFrom b ns → AllFrom (b + length ns) ms → AllFrom b (ns ++ ms)
 all-append b [] ms h g = let e : b + 0 ≡ b = omega arith in rw e at g
@@ -77,11 +106,11 @@ all-append b (x ∷ ns) ms h g =
 
 all-at : (b : ℕ) (ns : List Node) → AllFrom b ns → (k : ℕ) → k < length ns → OperandsBelow (b + k) (node ns k)
 all-at b [] h k q = absurd (omega arith)
-all-at b (x ∷ ns) h zero q = let e : b + 0 ≡ b = omega arith in rw e (h .0)
+all-at b (x ∷ ns) h zero q = let e : b + 0 ≡ b = omega arith in rw e (h .0 .0)
 all-at b (x ∷ ns) h (suc k) q = let e : b + suc k ≡ suc b + k = omega arith in rw e (all-at (suc b) ns (h .1) k (omega arith))
 
 -- one more node
-all-snoc : (b : ℕ) (ns : List Node) (x : Node) → AllFrom b ns → OperandsBelow (b + length ns) x → AllFrom b (ns ++ (x ∷ []))
+all-snoc : (b : ℕ) (ns : List Node) (x : Node) → AllFrom b ns → OperandsBelow (b + length ns) x × FitsBytes x → AllFrom b (ns ++ (x ∷ []))
 all-snoc b ns x h g = all-append b ns (x ∷ []) h (g, tt)
 
 module _ {L : Type 0} (leafNodes : L → ℕ) (leafFlat : L → ℕ → List Node) (Ok : L → Type 0) (some : (x : L) → 1 ≤ leafNodes x)
@@ -105,7 +134,7 @@ module _ {L : Type 0} (leafNodes : L → ℕ) (leafFlat : L → ℕ → List Nod
   last-below a b = omega (arith, fl-length a b, fl-some a)
 
   one-all : (o : Op₁) (a : Form L) (b : ℕ) → AllFrom b (Fl a b) → AllFrom b (Fl a b ++ (oneN o ((b + N a) - 1) ∷ []))
-  one-all o a b h = all-snoc b (Fl a b) _ h (last-below a b)
+  one-all o a b h = all-snoc b (Fl a b) _ h (last-below a b, tt)
 
   two-all : (o : Op₂) (a c : Form L) (b : ℕ) → let m =
       b + N a in AllFrom b (Fl a b) → AllFrom m (Fl c m) → AllFrom b (Fl a b ++ Fl c m ++ (twoN o (m - 1) ((m + N c) - 1) ∷ []))
@@ -116,11 +145,11 @@ module _ {L : Type 0} (leafNodes : L → ℕ) (leafFlat : L → ℕ → List Nod
       let n = length-append (Fl a b) (Fl c m) in
       let p = last-below a b in
       let q = last-below c m in
-      all-snoc b (Fl a b ++ Fl c m) _ (all-append b (Fl a b) (Fl c m) h (subst (λ (k : ℕ). AllFrom k (Fl c m)) e g)) (omega arith, omega arith)
+      all-snoc b (Fl a b ++ Fl c m) _ (all-append b (Fl a b) (Fl c m) h (subst (λ (k : ℕ). AllFrom k (Fl c m)) e g)) ((omega arith, omega arith), tt)
 
   flat-all : (a : Form L) (b : ℕ) → InRange Ok a → AllFrom b (Fl a b)
   unfolding flat
-  flat-all top b ok = (tt, tt)
+  flat-all top b ok = ((tt, tt), tt)
   flat-all (leaf x) b ok = leaf-all x b ok
   flat-all (neg a) b ok = one-all neg₁ a b (flat-all a b ok)
   flat-all (next a) b ok = one-all next₁ a b (flat-all a b ok)
@@ -140,7 +169,7 @@ mark-length k b = refl
 
 mark-all : (k b : ℕ) → MarkOk k → AllFrom b (flatMark k b)
 unfolding flatMark
-mark-all k b ok = (omega arith, tt)
+mark-all k b ok = ((omega arith, tt), tt)
 
 count-some : (x : Counted) → 1 ≤ countNodes x
 count-some (counted a x) = omega arith
@@ -153,7 +182,11 @@ count-all : (x : Counted) (b : ℕ) → CountOk x → AllFrom b (flatCount x b)
 unfolding flatCount flatInner
 count-all (counted a x) b ok =
     all-snoc b (flat markNodes flatMark a b) _ (flat-all markNodes flatMark MarkOk mark-some mark-length mark-all a b (ok .0))
-    (last-below markNodes flatMark MarkOk mark-some mark-length mark-all a b)
+    (last-below markNodes flatMark MarkOk mark-some mark-length mark-all a b, few x (ok .1) ((b + nodes markNodes a) - 1))
+  where
+    few : (x : Amount) → AmountOk x → (i : ℕ) → FitsBytes (countN i x)
+    few (amount m false o) q i = omega arith
+    few (amount m true o) q i = omega arith
 
 pub clause-all : (c : Clause) (b : ℕ) → InRange CountOk c → AllFrom b (flatClause c b)
 unfolding flatClause
@@ -162,7 +195,7 @@ clause-all c b ok = flat-all countNodes flatCount CountOk count-some count-lengt
 pub held-ordered : (before : List ℕ) (ns : List Node) → 4 * length ns ≤ length before → AllFrom 0 ns → Ordered (stored before 0 (nodesBytes ns)) (length ns)
 held-ordered before ns room h = record {
   room = omega (arith, held-length before ns room);
-  below = λ k q. let e : 0 + k ≡ k = omega arith in subst (λ (x : Node). OperandsBelow k x) (sym (held-at before ns k q)) (rw e at (all-at 0 ns h k q));
+  below = λ k q. let e : 0 + k ≡ k = omega arith in subst (λ (x : Node). OperandsBelow k x) (sym (held-at before ns h k q)) (rw e at (all-at 0 ns h k q));
 }
 
 ---- A node's tree is the text that it stands for.
@@ -220,6 +253,16 @@ module _ (block : List ℕ) (ns : List Node) (room : length ns ≤ length block)
   unfolding clauseTree
   clause-tree c i p s n q = stands-tree (λ m. top) counts StandsCount count-tree c i p s n q
 
+-- the groups that the nodes name, in their order
+held-groups : (block : List ℕ) (b : ℕ) (ns : List Node) → ((k : ℕ) → k < length ns → nodeAt block (b + k) ≡ node ns k)
+    → groupsFrom block (length ns) b ≡ nodesGroups ns
+unfolding groupsFrom
+held-groups block b [] at = refl
+held-groups block b (x ∷ ns) at =
+    let z : b + 0 ≡ b = omega arith in
+    ap₂ (λ (y : Node) (gs : List ℕ). nodeGroups y ++ gs) (ap (nodeAt block) (sym z) ∙ at 0 (omega arith))
+    (held-groups block (suc b) ns (λ k q. let e : suc b + k ≡ b + suc k = omega arith in ap (nodeAt block) e ∙ at (suc k) (omega arith)))
+
 -- a clause's last node stands for it
 clause-last : (c : Clause) → let ns = flatClause c 0 in Stands StandsCount ns (length ns - 1) c
 clause-last c =
@@ -233,19 +276,22 @@ clause-last c =
 pub held : (c : Clause) (before : List ℕ) → length before ≡ 512 → nodes countNodes c ≤ 128 → InRange CountOk c → let ns =
     flatClause c 0 in let block = stored before 0 (nodesBytes ns) in
     (Ordered block (length ns)) × (0 < length ns) × (length block ≡ 512) × ((n : ℕ) → length ns ≤ n → clauseTree block n (length ns - 1) ≡ c)
-    × SixPairsDo block (length ns - 1)
+    × SixPairsDo block (length ns - 1) × (groupsFrom block (length ns) 0 ≡ groups c)
 held c before size small ok =
     let ns = flatClause c 0 in
     let many = clause-length c 0 in
     let some = fl-some countNodes flatCount CountOk count-some count-length count-all c in
     let room : 4 * length ns ≤ length before = omega arith in
     let long = held-length before ns room in
+    let all = clause-all c 0 ok in
     let stands : Stands StandsCount ns (length ns - 1) c = clause-last c in (
-      held-ordered before ns room (clause-all c 0 ok),
+      held-ordered before ns room all,
       omega arith,
       long ∙ size,
-      λ n q. clause-tree (stored before 0 (nodesBytes ns)) ns (omega arith) (held-at before ns) c (length ns - 1) (omega arith) stands n (omega arith),
+      λ n q. clause-tree (stored before 0 (nodesBytes ns)) ns (omega arith) (held-at before ns all) c (length ns - 1) (omega arith) stands n (omega arith),
       λ needs r.
-          let e = clause-need (stored before 0 (nodesBytes ns)) ns (held-at before ns) needs (length ns - 1 + 1) (omega arith) r c (length ns - 1) (omega arith) stands in
+          let e = clause-need (stored before 0 (nodesBytes ns)) ns (held-at before ns all) needs (length ns - 1 + 1) (omega arith) r c (length ns - 1) (omega arith) stands in
           subst (λ (k : ℕ). k ≤ 6) (sym e) (six-pairs c small),
+      held-groups (stored before 0 (nodesBytes ns)) 0 ns
+          (λ k q. let e : 0 + k ≡ k = omega arith in ap (nodeAt (stored before 0 (nodesBytes ns))) e ∙ held-at before ns all k q) ∙ clause-groups c 0,
     )

@@ -22,15 +22,16 @@ use Rattle.conflict.specs.OfPlan.{planRoutes, ConflictFree}
 use Rattle.grammar.specs.Grammar.{Clause}
 use Rattle.cltl.specs.Meaning.{Run, TrueOf, TrueInStep}
 use Rattle.plancheck.specs.Check.{planRows, checked}
-use Rattle.plancheck.specs.Meaning.{drifted, Plain, Kept, ReadAndOpen, NoneAhead, Conflict20, Next16, Fails17, PlanRefused, SheetRefused, NamesClause}
+use Rattle.plancheck.specs.Meaning.{drifted, HasGroups, Plain, Kept, ReadAndOpen, NoneAhead, Conflict20, Lacks21, Next16, Fails17, PlanRefused, SheetRefused, NamesClause}
 
 module _ (floor plan sheet : List ℕ) where
   -- what accepted means; `yes` says that the plan is accepted, by a verdict or by its number
   pub record Means (yes : Type 0) : Type 0 where
     -- at drift 0: accepted exactly when all can be read, each cart begins at its start, its moves are open without end, no run of drift 0 has a
-    -- conflict in a narrow place, and every clause is true in step
+    -- conflict in a narrow place, no clause names a group that the floor lacks, and every clause is true in step
     pub in-step : (f : Floor) (p : PlanNumbers) → ReadAs floor plan f p → p .head .drift ≡ 0
-        → yes ↔ ((cs : List Clause) × ReadAndOpen floor plan sheet f p cs × ConflictFree floor f p × All (TrueInStep (planRows floor f p)) cs)
+        → yes ↔ ((cs : List Clause) × ReadAndOpen floor plan sheet f p cs × ConflictFree floor f p × All (HasGroups (f .groups)) cs
+        × All (TrueInStep (planRows floor f p)) cs)
     -- nothing refused ahead of the clauses: accepted exactly when the drift rules keep every clause
     pub kept : (f : Floor) (p : PlanNumbers) (cs : List Clause) → NoneAhead floor plan sheet f p cs
         → yes ↔ All (Kept (planRows floor f p) (p .head .drift)) cs
@@ -48,7 +49,7 @@ module _ (floor plan sheet : List ℕ) where
   pub record PlanChecked (v : Verdict) : Type 0 where
     -- the answer, for every floor, plan and sheet
     pub verdict : v ≡ checked floor plan sheet
-    -- "Checking a plan: floor, plan, moves, sheet as above; then 16 .., then 17", and 20: accepted, or one of these numbers
+    -- "Checking a plan: floor, plan, moves, sheet as above; then 16 .., then 17", and 20 and 21: accepted, or one of these numbers
     pub numbers : Given checkingPlan v
     -- accepted, and what that means
     pub means : Means (v ≡ Accepted)
@@ -58,6 +59,8 @@ module _ (floor plan sheet : List ℕ) where
     -- and at all: "Where no earlier refusal comes .., a plan is refused on this ground exactly if such a run exists."
     pub exists-20 : (m : Moving floor plan) → let P = planRoutes floor (m .floor-is) (m .numbers) in let d = m .numbers .head .drift in
         ((c : ℕ) × (s : ℕ) × (v ≡ AboutPlan (refused 20 c s))) ↔ ((c : ℕ) × (k : ℕ) × Conflict P d c k)
+    -- 21: exactly if all can be read, nothing is refused before, and "(lowest clause, its first such group) for a group the floor lacks" are these
+    pub lacks-21 : (k g : ℕ) → (v ≡ AboutRules (refused 21 k g)) ↔ Lacks21 floor plan sheet k g
     -- 16 and 17, and what they mean
     pub next-16 : (k s : ℕ) → v ≡ AboutRules (refused 16 k s) → (s ≡ 0) × Next16 floor plan sheet k
     pub fails-17 : (k s : ℕ) → v ≡ AboutRules (refused 17 k s) → Fails17 floor plan sheet k s

@@ -44,9 +44,10 @@ use Rattle.cltl.specs.Meaning.{Rows, Proper}
 use Rattle.cltl.specs.Rules.{rules, hasNext}
 use Rattle.cltl.specs.Step.{failing}
 use Rattle.cltl.specs.Lowest.{globally-fails}
-use Rattle.plancheck.specs.Check.{planRows, clausesOf, nextVerdict, keptVerdict, clausesVerdict, stages, checked}
-use Rattle.plancheck.specs.Meaning.{Plain, Kept, LowestFailing, FailingStep, ReadAndOpen, NoneAhead, Conflict20, Next16, Fails17, PlanRefused, SheetRefused, NamesClause}
-use Rattle.plancheck.specs.FirstClause.{FirstClause, first-16, first-17}
+use Rattle.plancheck.specs.Check.{planRows, clausesOf, groupVerdict, nextVerdict, keptVerdict, clausesVerdict, stages, checked}
+use Rattle.plancheck.specs.Meaning.{HasGroups, Plain, Kept, LowestFailing, FailingStep, ReadAndOpen, NoneAhead, Conflict20, Lacks21, Next16, Fails17, PlanRefused, SheetRefused, NamesClause}
+use Rattle.plancheck.specs.Lacking.{first-low}
+use Rattle.plancheck.specs.FirstClause.{FirstClause, firstLacked, Lacks, first-21, first-16, first-17}
 use Rattle.plancheck.specs.Stages.{proper, on-routes}
 
 ---- The step that 17 gives.
@@ -119,7 +120,8 @@ module _ (floor plan sheet : List ℕ) where
   -- what a number that comes with a clause means
   abbrev pub ClauseRefused : Refusal → Type 0
   ClauseRefused x =
-      ((x .number ≡ 16) × (x .second ≡ 0) × Next16 floor plan sheet (x .first)) ⊎ ((x .number ≡ 17) × Fails17 floor plan sheet (x .first) (x .second))
+      ((x .number ≡ 21) × Lacks21 floor plan sheet (x .first) (x .second))
+      ⊎ (((x .number ≡ 16) × (x .second ≡ 0) × Next16 floor plan sheet (x .first)) ⊎ ((x .number ≡ 17) × Fails17 floor plan sheet (x .first) (x .second)))
 
   -- what a verdict of the check means
   abbrev pub Meant : Verdict → Type 0
@@ -130,18 +132,27 @@ module _ (floor plan sheet : List ℕ) where
   Meant (AboutRules x) = SheetRefused floor plan sheet x ⊎ ClauseRefused x
 
   clause-listed : (x : Refusal) → ClauseRefused x → OneOf clauseNumbers (x .number)
-  clause-listed x (inl w) = subst (OneOf clauseNumbers) (sym (w .0)) (one-among clauseNumbers 16 refl)
-  clause-listed x (inr w) = subst (OneOf clauseNumbers) (sym (w .0)) (one-among clauseNumbers 17 refl)
+  clause-listed x (inl w) = subst (OneOf clauseNumbers) (sym (w .0)) (one-among clauseNumbers 21 refl)
+  clause-listed x (inr (inl w)) = subst (OneOf clauseNumbers) (sym (w .0)) (one-among clauseNumbers 16 refl)
+  clause-listed x (inr (inr w)) = subst (OneOf clauseNumbers) (sym (w .0)) (one-among clauseNumbers 17 refl)
+
+  pub is-21 : (k g : ℕ) → Meant (AboutRules (refused 21 k g)) → Lacks21 floor plan sheet k g
+  is-21 k g (inl w) = absurd (not-among sheetNumbers 21 21 refl (w .2 .numbers) refl)
+  is-21 k g (inr (inl w)) = w .1
+  is-21 k g (inr (inr (inl w))) = let z = w .0 in absurd (omega arith)
+  is-21 k g (inr (inr (inr w))) = let z = w .0 in absurd (omega arith)
 
   pub is-16 : (k s : ℕ) → Meant (AboutRules (refused 16 k s)) → (s ≡ 0) × Next16 floor plan sheet k
   is-16 k s (inl w) = absurd (not-among sheetNumbers 16 16 refl (w .2 .numbers) refl)
-  is-16 k s (inr (inl w)) = (w .1, w .2)
-  is-16 k s (inr (inr w)) = let z = w .0 in absurd (omega arith)
+  is-16 k s (inr (inl w)) = let z = w .0 in absurd (omega arith)
+  is-16 k s (inr (inr (inl w))) = (w .1, w .2)
+  is-16 k s (inr (inr (inr w))) = let z = w .0 in absurd (omega arith)
 
   pub is-17 : (k s : ℕ) → Meant (AboutRules (refused 17 k s)) → Fails17 floor plan sheet k s
   is-17 k s (inl w) = absurd (not-among sheetNumbers 17 17 refl (w .2 .numbers) refl)
   is-17 k s (inr (inl w)) = let z = w .0 in absurd (omega arith)
-  is-17 k s (inr (inr w)) = w .1
+  is-17 k s (inr (inr (inl w))) = let z = w .0 in absurd (omega arith)
+  is-17 k s (inr (inr (inr w))) = w .1
 
   pub is-sheet : (x : Refusal) → (OneOf clauseNumbers (x .number) → ⊥) → Meant (AboutRules x) → SheetRefused floor plan sheet x
   is-sheet x n (inl w) = w
@@ -151,10 +162,14 @@ module _ (floor plan sheet : List ℕ) where
   pub is-clause : (x : Refusal) → OneOf clauseNumbers (x .number) → Meant (AboutRules x) → NamesClause sheet (x .first) (x .second)
   is-clause x o (inl w) = absurd (not-both sheetNumbers clauseNumbers (x .number) refl (w .2 .numbers) o)
   is-clause x o (inr (inl w)) =
+      let y = w .1 in
+      let low = first-low (y .floor-is .groups) (y .readable .clauses .sheet) (x .first) (x .second) (y .there) (y .first) in
+      record { clauses = y .clauses; read = y .readable .clauses; there = y .there; small = omega arith }
+  is-clause x o (inr (inr (inl w))) =
       let y = w .2 in
       let z = w .1 in
       record { clauses = y .clauses; read = y .readable .clauses; there = y .there; small = omega arith }
-  is-clause x o (inr (inr w)) =
+  is-clause x o (inr (inr (inr w))) =
       let y = w .1 in
       let h = valid (y .floor-is) plan (y .numbers) (y .ahead .readable .files .plan-read) .head in
       let low = step-inside (planRows floor (y .floor-is) (y .numbers)) (y .numbers .head .drift) (getD (y .clauses) (x .first) top) (x .second) (h .some)
@@ -209,6 +224,7 @@ module _ (floor plan sheet : List ℕ) where
             let z : 0 + w .index ≡ w .index = omega arith in
             subst Meant (sym (w .is ∙ ap (λ (k : ℕ). AboutRules (refused 17 k (failing P (p .head .drift) (getD cs (w .index) top)))) z))
             (inr
+            (inr
             (inr (
               refl,
               record {
@@ -221,22 +237,24 @@ module _ (floor plan sheet : List ℕ) where
                 before = w .before;
                 step = failing-step P (p .head .drift) (proper floor plan fb f p files) (getD cs (w .index) top) (w .bad);
               },
-            )))
+            ))))
 
-    on-16 : (cs : List Clause) → ReadAndOpen floor plan sheet f p cs → ConflictFree floor f p → Meant (clausesVerdict P (p .head .drift) cs)
-    on-16 cs r free = by (eqb (p .head .drift) 0) refl (first-16 cs)
+    on-16 : (cs : List Clause) → ReadAndOpen floor plan sheet f p cs → ConflictFree floor f p → All (HasGroups (f .groups)) cs
+        → Meant (andThen (cond (eqb (p .head .drift) 0) Accepted (nextVerdict 0 cs)) (keptVerdict P (p .head .drift) 0 cs))
+    on-16 cs r free has = by (eqb (p .head .drift) 0) refl (first-16 cs)
       where
         by : (b : Bool) → eqb (p .head .drift) 0 ≡ b
             → (All Plain cs × (nextVerdict 0 cs ≡ Accepted)) ⊎ FirstClause Plain (λ c. T (hasNext c)) (λ k c. refused 16 k 0) 0 cs (nextVerdict 0 cs)
             → Meant (andThen (cond b Accepted (nextVerdict 0 cs)) (keptVerdict P (p .head .drift) 0 cs))
-        by true e w = on-17 cs (record { readable = r; no-20 = free; no-16 = inl (eqb-true _ 0 e) })
+        by true e w = on-17 cs (record { readable = r; no-20 = free; no-21 = has; no-16 = inl (eqb-true _ 0 e) })
         by false e (inl a) =
             subst (λ (v : Verdict). Meant (andThen v (keptVerdict P (p .head .drift) 0 cs))) (sym (a .1))
-            (on-17 cs (record { readable = r; no-20 = free; no-16 = inr (a .0) }))
+            (on-17 cs (record { readable = r; no-20 = free; no-21 = has; no-16 = inr (a .0) }))
         by false e (inr w) =
             let z : 0 + w .index ≡ w .index = omega arith in
             subst (λ (v : Verdict). Meant (andThen v (keptVerdict P (p .head .drift) 0 cs)))
             (sym (w .is ∙ ap (λ (k : ℕ). AboutRules (refused 16 k 0)) z))
+            (inr
             (inr
             (inl (
               refl,
@@ -247,20 +265,41 @@ module _ (floor plan sheet : List ℕ) where
                 clauses = cs;
                 readable = r;
                 no-20 = free;
+                no-21 = has;
                 drift = let n : (p .head .drift ≡ 0 → ⊥) = eqb-false _ 0 e in omega arith;
                 there = w .there;
                 next = w .bad;
                 before = w .before;
               },
+            ))))
+
+    on-21 : (cs : List Clause) → ReadAndOpen floor plan sheet f p cs → ConflictFree floor f p → Meant (clausesVerdict P (p .head .drift) (f .groups) cs)
+    on-21 cs r free = go (first-21 (f .groups) cs)
+      where
+        rest : Verdict
+        rest = andThen (cond (eqb (p .head .drift) 0) Accepted (nextVerdict 0 cs)) (keptVerdict P (p .head .drift) 0 cs)
+
+        go : (All (HasGroups (f .groups)) cs × (groupVerdict (f .groups) 0 cs ≡ Accepted))
+            ⊎ FirstClause (HasGroups (f .groups)) (Lacks (f .groups)) (λ k c. refused 21 k (firstLacked (f .groups) c)) 0 cs (groupVerdict (f .groups) 0 cs)
+            → Meant (andThen (groupVerdict (f .groups) 0 cs) rest)
+        go (inl a) = subst (λ (v : Verdict). Meant (andThen v rest)) (sym (a .1)) (on-16 cs r free (a .0))
+        go (inr w) =
+            let z : 0 + w .index ≡ w .index = omega arith in
+            subst (λ (v : Verdict). Meant (andThen v rest))
+            (sym (w .is ∙ ap (λ (k : ℕ). AboutRules (refused 21 k (firstLacked (f .groups) (getD cs (w .index) top)))) z))
+            (inr
+            (inl (
+              refl,
+              record { floor-is = f; numbers = p; clauses = cs; readable = r; no-20 = free; there = w .there; first = w .bad; before = w .before },
             )))
 
     on-sheet : AllUnending floor f p → ConflictFree floor f p
-        → Meant (andThen (rulesVerdict sheet) (clausesVerdict P (p .head .drift) (clausesOf (readSheet sheet))))
+        → Meant (andThen (rulesVerdict sheet) (clausesVerdict P (p .head .drift) (f .groups) (clausesOf (readSheet sheet))))
     unfolding rulesVerdict
     on-sheet u free = go (readSheet sheet) refl
       where
-        go : (r : Read) → readSheet sheet ≡ r → Meant (andThen (readVerdict r) (clausesVerdict P (p .head .drift) (clausesOf r)))
-        go (reader.accepted cs) e = on-16 cs (record { files = files; moves = u; clauses = promises sheet .sound cs e }) free
+        go : (r : Read) → readSheet sheet ≡ r → Meant (andThen (readVerdict r) (clausesVerdict P (p .head .drift) (f .groups) (clausesOf r)))
+        go (reader.accepted cs) e = on-21 cs (record { files = files; moves = u; clauses = promises sheet .sound cs e }) free
         go (reader.refused w k) e =
             let moving : Moving floor plan = record { floor-is = f; numbers = p; read = files; unending = u } in
             inl (moving, free, rules-read sheet _ (sym (ap readVerdict e)))
@@ -273,14 +312,15 @@ module _ (floor plan sheet : List ℕ) where
 
     -- narrow places, by the verdict on them
     on-conflict : AllUnending floor f p
-        → Meant (andThen (conflictVerdict floor f p) (andThen (rulesVerdict sheet) (clausesVerdict P (p .head .drift) (clausesOf (readSheet sheet)))))
+        → Meant (andThen (conflictVerdict floor f p)
+        (andThen (rulesVerdict sheet) (clausesVerdict P (p .head .drift) (f .groups) (clausesOf (readSheet sheet)))))
     on-conflict u = go (on-routes floor plan sheet f p files .forms)
       where
         moving : Moving floor plan
         moving = record { floor-is = f; numbers = p; read = files; unending = u }
 
         rest : Verdict
-        rest = andThen (rulesVerdict sheet) (clausesVerdict P (p .head .drift) (clausesOf (readSheet sheet)))
+        rest = andThen (rulesVerdict sheet) (clausesVerdict P (p .head .drift) (f .groups) (clausesOf (readSheet sheet)))
 
         go : (conflictVerdict floor f p ≡ Accepted)
             ⊎ ((c : ℕ) × (s : ℕ) × (c < f .carts) × (s < p .head .steps) × (conflictVerdict floor f p ≡ AboutPlan (refused 20 c s)))
@@ -295,7 +335,7 @@ module _ (floor plan sheet : List ℕ) where
       where
         go : (b : Bool) → isAccepted (movesVerdict floor f p) ≡ b
             → Meant (cond b
-            (andThen (conflictVerdict floor f p) (andThen (rulesVerdict sheet) (clausesVerdict P (p .head .drift) (clausesOf (readSheet sheet)))))
+            (andThen (conflictVerdict floor f p) (andThen (rulesVerdict sheet) (clausesVerdict P (p .head .drift) (f .groups) (clausesOf (readSheet sheet)))))
             (movesVerdict floor f p))
         go true e = on-conflict (all-unending floor p (valid f plan p (files .plan-read) .head .stem) f (accepted-is _ e))
         go false e =

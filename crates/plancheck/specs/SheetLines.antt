@@ -7,7 +7,7 @@ use mathlib.Core.List.{List, [], _∷_, _++_}
 use borrow.Author.Tests.{ne-eqb}
 use lib.ListN.{length, take, drop, getD}
 use lib.Seq.{take-append-seam}
-use Rattle.grammar.specs.Grammar.{Form, top, Spaces, none, space, Digits, end, digit, Number, nought, other, Percent, without, sign, Amount, AmountText, written, Prefix, not, next, finally, globally, prefixByte, Reach, U, R, reachByte, Rank, ors, Part, word, parens, prefix, one-small, reach, one-until, one-and, Mark, mark, Counted, Count, count, Clause, Sheet, done, line}
+use Rattle.grammar.specs.Grammar.{Form, top, Spaces, none, space, Digits, end, digit, Number, nought, other, Percent, without, sign, Over, Group, ungrouped, grouped, Amount, AmountText, written, Prefix, not, next, finally, globally, prefixByte, Reach, U, R, reachByte, Rank, ors, Part, word, parens, prefix, one-small, reach, one-until, one-and, Mark, mark, Counted, Count, count, Clause, Sheet, done, line}
 use Rattle.grammar.specs.Ends.{swap-trans, swap-parts, frame-spaces, frame, frame-count}
 use Rattle.clause.specs.Clause.{isEnd, lineStart, lineLength}
 use Rattle.clause.specs.Meaning.{lineEnds}
@@ -37,8 +37,12 @@ percent-ends : {p : Bool} {s r : List ℕ} → Percent s r p → lineEnds s ≡ 
 percent-ends without = refl
 percent-ends (sign {s = s}) = byte-ends 37 s (omega arith)
 
+group-ends : {o : Over} {s r : List ℕ} → Group s r o → lineEnds s ≡ lineEnds r
+group-ends ungrouped = refl
+group-ends (grouped {b = b} {r = r} x l h) = token-ends (omega arith) x ∙ byte-ends b r (omega arith)
+
 amount-ends : {x : Amount} {s r : List ℕ} → AmountText s r x → lineEnds s ≡ lineEnds r
-amount-ends (written n p) = number-ends n ∙ percent-ends p
+amount-ends (written n p o) = number-ends n ∙ percent-ends p ∙ group-ends o
 
 true-ends : (r : List ℕ) → lineEnds (116 ∷ 114 ∷ 117 ∷ 101 ∷ r) ≡ lineEnds r
 unfolding lineEnds

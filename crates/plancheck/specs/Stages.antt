@@ -12,7 +12,7 @@ use Rattle.refusal.specs.Codes.{refused}
 use Rattle.refusal.specs.Stages.{isAccepted, andThen}
 use Rattle.refusal.specs.Accepting.{both-accepted, stops, goes-on}
 use Rattle.refusal.specs.declared.Verdict.{Verdict}
-use Rattle.refusal.specs.declared.Verdict.the-variants.{Accepted, Plan as AboutPlan}
+use Rattle.refusal.specs.declared.Verdict.the-variants.{Accepted, Plan as AboutPlan, Rules as AboutRules}
 use Rattle.record.specs.All.{All}
 use Rattle.floor.specs.Located.{accepts}
 use Rattle.floor.specs.declared.Floor.{Floor}
@@ -23,7 +23,7 @@ use Rattle.plan.specs.RoundTrip.{valid}
 use Rattle.moves.specs.Carts.{movesVerdict}
 use Rattle.moves.specs.Promises.{AllUnending}
 use Rattle.moves.specs.Unending.{all-unending, all-accepted}
-use Rattle.conflict.specs.OfPlan.{planRoutes, conflictVerdict}
+use Rattle.conflict.specs.OfPlan.{planRoutes, conflictVerdict, ConflictFree}
 use Rattle.conflict.specs.Promises.{Judged}
 use Rattle.conflict.specs.Judging.{judged as conflict-judged}
 use Rattle.grammar.specs.Grammar.{Clause}
@@ -33,9 +33,10 @@ use Rattle.grammar.specs.Answers.{AcceptedSheet}
 use Rattle.grammar.specs.Promises.{promises}
 use Rattle.sheet.specs.Rules.{readVerdict, rulesVerdict}
 use Rattle.cltl.specs.Meaning.{Rows, Proper}
-use Rattle.plancheck.specs.Check.{planRows, clausesOf, nextVerdict, keptVerdict, clausesVerdict, stages, checked}
-use Rattle.plancheck.specs.Meaning.{Plain, Kept, NoneAhead}
-use Rattle.plancheck.specs.FirstClause.{not-refused, accepted-pass, pass-accepted, first-16, first-17}
+use Rattle.plancheck.specs.Check.{planRows, clausesOf, groupVerdict, nextVerdict, keptVerdict, clausesVerdict, stages, checked}
+use Rattle.plancheck.specs.Meaning.{HasGroups, Plain, Kept, ReadAndOpen, NoneAhead}
+use Rattle.plancheck.specs.Lacking.{not-lacking}
+use Rattle.plancheck.specs.FirstClause.{not-refused, accepted-pass, pass-accepted, first-21, first-16, first-17}
 
 module _ (P : Rows) (d : ℕ) where
   -- no refusal 16
@@ -57,13 +58,18 @@ module _ (P : Rows) (d : ℕ) where
       go true = refl
       go false = pass-accepted Plain _ _ (λ c t plain. plain t) (first-16 cs) a
 
-  pub clauses-accepted : (cs : List Clause) → clausesVerdict P d cs ≡ Accepted → No16 cs × All (Kept P d) cs
-  clauses-accepted cs e = let r = both-accepted _ (keptVerdict P d 0 cs) e in (is-no-16 cs (r .0), accepted-pass (Kept P d) _ _ (first-17 P d cs) (r .1))
+  module _ (many : ℕ) (cs : List Clause) where
+    pub clauses-accepted : clausesVerdict P d many cs ≡ Accepted → All (HasGroups many) cs × No16 cs × All (Kept P d) cs
+    clauses-accepted e =
+        let g = both-accepted (groupVerdict many 0 cs) _ e in
+        let r = both-accepted _ (keptVerdict P d 0 cs) (g .1) in
+        (accepted-pass (HasGroups many) _ _ (first-21 many cs) (g .0), is-no-16 cs (r .0), accepted-pass (Kept P d) _ _ (first-17 P d cs) (r .1))
 
-  pub accepted-clauses : (cs : List Clause) → No16 cs → All (Kept P d) cs → clausesVerdict P d cs ≡ Accepted
-  accepted-clauses cs s a =
-      ap (λ (v : Verdict). andThen v (keptVerdict P d 0 cs)) (no-16-is cs s)
-      ∙ pass-accepted (Kept P d) _ _ (λ c n k. n k) (first-17 P d cs) a
+    pub accepted-clauses : All (HasGroups many) cs → No16 cs → All (Kept P d) cs → clausesVerdict P d many cs ≡ Accepted
+    accepted-clauses has s a =
+        ap₂ (λ (u v : Verdict). andThen u (andThen v (keptVerdict P d 0 cs)))
+        (pass-accepted (HasGroups many) _ _ (λ c. not-lacking many) (first-21 many cs) has) (no-16-is cs s)
+        ∙ pass-accepted (Kept P d) _ _ (λ c n k. n k) (first-17 P d cs) a
 
 -- a sheet of the grammar within the limits is what the reader accepts
 pub grammar-read : (s : List ℕ) (cs : List Clause) → AcceptedSheet s cs → readSheet s ≡ accepted cs
@@ -98,27 +104,28 @@ module _ (floor plan sheet : List ℕ) where
         let m = both-accepted (movesVerdict floor f p) _ e in
         let n = both-accepted (conflictVerdict floor f p) _ (m .1) in
         let r = both-accepted (rulesVerdict sheet) _ (n .1) in
-        let k = clauses-accepted (planRows floor f p) (p .head .drift) (clausesOf (readSheet sheet)) (r .1) in
+        let k = clauses-accepted (planRows floor f p) (p .head .drift) (f .groups) (clausesOf (readSheet sheet)) (r .1) in
         let cs = promises sheet .sound _ (sheet-read (readSheet sheet) (r .0)) in (
           clausesOf (readSheet sheet),
           record {
             readable = record { files = files; moves = all-unending floor p stem-low f (m .0); clauses = cs };
             no-20 = on-routes .free .0 (n .0);
-            no-16 = k .0;
+            no-21 = k .0;
+            no-16 = k .1;
           },
-          k .1,
+          k .2,
         )
 
-  accepted-stages : (f : Floor) (p : PlanNumbers) (cs : List Clause) → NoneAhead floor plan sheet f p cs → All (K f p) cs → stages floor sheet f p ≡ Accepted
+  -- what can be read, without a conflict, has the verdict of its clauses
+  on-clauses : (f : Floor) (p : PlanNumbers) (cs : List Clause) → ReadAndOpen floor plan sheet f p cs → ConflictFree floor f p
+      → stages floor sheet f p ≡ clausesVerdict (planRows floor f p) (p .head .drift) (f .groups) cs
   unfolding rulesVerdict
-  accepted-stages f p cs a k =
-      let w = a .readable in
+  on-clauses f p cs w free =
+      let rest : List Clause → Verdict = clausesVerdict (planRows floor f p) (p .head .drift) (f .groups) in
       let m = all-accepted floor p (stem-low f p (w .files)) f (w .moves) in
-      let n = on-routes f p (w .files) .free .1 (a .no-20) in
-      ap₂ (λ (v u : Verdict).
-      andThen v (andThen u (andThen (rulesVerdict sheet) (clausesVerdict (planRows floor f p) (p .head .drift) (clausesOf (readSheet sheet)))))) m n
-      ∙ ap (λ (r : Read). andThen (readVerdict r) (clausesVerdict (planRows floor f p) (p .head .drift) (clausesOf r))) (grammar-read sheet cs (w .clauses))
-      ∙ accepted-clauses (planRows floor f p) (p .head .drift) cs (a .no-16) k
+      let n = on-routes f p (w .files) .free .1 free in
+      ap₂ (λ (v u : Verdict). andThen v (andThen u (andThen (rulesVerdict sheet) (rest (clausesOf (readSheet sheet)))))) m n
+      ∙ ap (λ (r : Read). andThen (readVerdict r) (rest (clausesOf r))) (grammar-read sheet cs (w .clauses))
 
   pub stages-read : (f : Floor) (p : PlanNumbers) → ReadAs floor plan f p → checked floor plan sheet ≡ stages floor sheet f p
   unfolding checked
@@ -130,7 +137,9 @@ module _ (floor plan sheet : List ℕ) where
   accepted-as f p files e = stages-accepted f p files (sym (stages-read f p files) ∙ e)
 
   pub as-accepted : (f : Floor) (p : PlanNumbers) (cs : List Clause) → NoneAhead floor plan sheet f p cs → All (K f p) cs → checked floor plan sheet ≡ Accepted
-  as-accepted f p cs a k = stages-read f p (a .readable .files) ∙ accepted-stages f p cs a k
+  as-accepted f p cs a k =
+      stages-read f p (a .readable .files) ∙ on-clauses f p cs (a .readable) (a .no-20)
+      ∙ accepted-clauses (planRows floor f p) (p .head .drift) (f .groups) cs (a .no-21) (a .no-16) k
 
   -- what is accepted could be read
   pub accepted-read : checked floor plan sheet ≡ Accepted → (f : Floor) × (p : PlanNumbers) × ReadAs floor plan f p
@@ -149,12 +158,24 @@ module _ (floor plan sheet : List ℕ) where
       let m = all-accepted floor p (stem-low f p files) f u in
       stages-read f p files
       ∙ ap₂ (λ (v w : Verdict).
-      andThen v (andThen w (andThen (rulesVerdict sheet) (clausesVerdict (planRows floor f p) (p .head .drift) (clausesOf (readSheet sheet)))))) m e
+      andThen v (andThen w (andThen (rulesVerdict sheet) (clausesVerdict (planRows floor f p) (p .head .drift) (f .groups) (clausesOf (readSheet sheet)))))) m e
+
+  -- 21, where nothing is refused before
+  pub as-21 : (f : Floor) (p : PlanNumbers) (cs : List Clause) → ReadAndOpen floor plan sheet f p cs → ConflictFree floor f p → (k g : ℕ)
+      → groupVerdict (f .groups) 0 cs ≡ AboutRules (refused 21 k g) → checked floor plan sheet ≡ AboutRules (refused 21 k g)
+  as-21 f p cs w free k g e =
+      let P = planRows floor f p in
+      let d = p .head .drift in
+      stages-read f p (w .files) ∙ on-clauses f p cs w free
+      ∙ ap (λ (v : Verdict). andThen v (andThen (cond (eqb d 0) Accepted (nextVerdict 0 cs)) (keptVerdict P d 0 cs))) e
 
 ---- The stages one after the other, each by its own verdict.
 module _ (floor sheet : List ℕ) (f : Floor) (p : PlanNumbers) (m : Verdict) (em : m ≡ movesVerdict floor f p) where
+  abbrev Clauses : Verdict
+  Clauses = clausesVerdict (planRows floor f p) (p .head .drift) (f .groups) (clausesOf (readSheet sheet))
+
   abbrev Rest : Verdict → Verdict
-  Rest v = andThen v (clausesVerdict (planRows floor f p) (p .head .drift) (clausesOf (readSheet sheet)))
+  Rest v = andThen v Clauses
 
   abbrev From20 : Verdict → Verdict
   From20 v = andThen v (Rest (rulesVerdict sheet))
@@ -175,8 +196,7 @@ module _ (floor sheet : List ℕ) (f : Floor) (p : PlanNumbers) (m : Verdict) (e
       went-on = ap Rest er ∙ sym (goes-on n (Rest (rulesVerdict sheet)) clear) ∙ moved-on
 
       pub stage-sheet : isAccepted r ≡ false → r ≡ stages floor sheet f p
-      stage-sheet e = sym (stops r (clausesVerdict (planRows floor f p) (p .head .drift) (clausesOf (readSheet sheet))) e) ∙ went-on
+      stage-sheet e = sym (stops r Clauses e) ∙ went-on
 
-      pub stage-clauses : isAccepted r ≡ true → (v : Verdict) → v ≡ clausesVerdict (planRows floor f p) (p .head .drift) (clausesOf (readSheet sheet))
-          → v ≡ stages floor sheet f p
-      stage-clauses e v ev = ev ∙ sym (goes-on r (clausesVerdict (planRows floor f p) (p .head .drift) (clausesOf (readSheet sheet))) e) ∙ went-on
+      pub stage-clauses : isAccepted r ≡ true → (v : Verdict) → v ≡ Clauses → v ≡ stages floor sheet f p
+      stage-clauses e v ev = ev ∙ sym (goes-on r Clauses e) ∙ went-on

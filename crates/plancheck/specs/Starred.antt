@@ -19,12 +19,13 @@ use Rattle.row.specs.Moves.{someLaneOpens, isOpen, lowestShut, judgedMoves}
 use Rattle.moves.specs.Carts.{judgedCarts}
 use Rattle.conflict.specs.Search.{clear, earliestVerdict, narrowVerdict}
 use Rattle.conflict.specs.OfPlan.{named}
-use Rattle.grammar.specs.Reader.{bind, node, skip, expectAt, expect, literal, digits, number, percent, chainAt, chainMore, chain, andChain, orChain, byKind, smallAt, smallOf, byOnward, untilAt, untilOf, deeper, smalls, untils, ors, markBy, marks, inners, amounts, countEnd, countBy, counts, clauses, clauseLine, lines, outcome, start, readSheet}
+use Rattle.grammar.specs.Reader.{bind, node, skip, expectAt, expect, literal, digits, number, percent, chainAt, chainMore, chain, andChain, orChain, byKind, smallAt, smallOf, byOnward, untilAt, untilOf, deeper, smalls, untils, ors, markBy, marks, inners, limits, groupDigit, overAt, overs, amounts, countEnd, countBy, counts, clauses, clauseLine, lines, outcome, start, readSheet}
 use Rattle.sheet.specs.Rules.{rulesVerdict}
+use Rattle.cltl.specs.Counting.{tally, every}
 use Rattle.cltl.specs.Threshold.{threshold, quota}
-use Rattle.cltl.specs.Rules.{tally, every, fix, window, quorum, judge, leaves, mark, inner, count, slack, someText, joint, joined, rules}
+use Rattle.cltl.specs.Rules.{fix, window, quorum, judge, leaves, mark, inner, count, slack, someText, sameCarts, allOver, uniform, joint, joined, rules}
 use Rattle.cltl.specs.Step.{lowest, failing}
-use Rattle.plancheck.specs.Check.{nextVerdict, keptVerdict, checked}
+use Rattle.plancheck.specs.Check.{groupVerdict, nextVerdict, keptVerdict, checked}
 
 -- place 0 with m0 only, place 1 with m1 only; lanes 0→1 and 1→0 for classes 255 and then these; two carts of class 0 from place 0
 abbrev floorWith : List ℕ → List ℕ
@@ -65,9 +66,10 @@ unfolding
     flatten value split recordsIn partsIn parts judged walk readFloor bodiesOf judgedHead judgedPlaces judgedRow readRows readPlan afterReading
     nextStep stepOf someLaneOpens isOpen lowestShut judgedMoves judgedCarts named clear earliestVerdict narrowVerdict
     bind node skip expectAt expect literal digits number percent chainAt chainMore chain andChain orChain byKind
-    smallAt smallOf byOnward untilAt untilOf deeper smalls untils ors markBy marks inners amounts countEnd countBy counts clauses
+    smallAt smallOf byOnward untilAt untilOf deeper smalls untils ors markBy marks inners limits groupDigit overAt overs amounts countEnd countBy counts clauses
     clauseLine lines outcome start readSheet rulesVerdict
-    quota threshold tally every fix window quorum judge leaves mark inner count slack someText joint joined rules lowest failing nextVerdict keptVerdict checked
+    quota threshold tally every fix window quorum judge leaves mark inner count slack someText sameCarts allOver uniform joint joined rules lowest failing
+    groupVerdict nextVerdict keptVerdict checked
 computing floor plan sheet = checked floor plan sheet
 
 -- document 01's starred cases, on a floor
@@ -240,6 +242,56 @@ pub either-table :
     × (checked tables (leaving 2) (sheet "true\nG ([m1,2] | [m2,2])") ≡ AboutRules (refused 17 1 0))
 unfolding computing
 either-table = (refl, refl, refl, refl, refl, refl, refl, refl, refl, refl, refl, refl, refl, refl, refl, refl)
+
+---- Document 02, 6): counts over a group.
+abbrev group : ℕ → List ℕ
+group carts = 4 ∷ 0 ∷ 7 ∷ 0 ∷ carts ∷ 0 ∷ 0 ∷ 0 ∷ []
+
+-- group 0 is cart 0, group 1 has no cart, group 2 is both carts
+abbrev grouped : List ℕ
+grouped = floor ++ (group 1 ++ group 0 ++ group 3)
+
+pub groups-counted :
+    -- "then only that group's carts are counted": cart 0 is on place 1 after a step, and at two counters in a row
+    (verdictOn grouped "[m0,1@0]" 0 ≡ Accepted)
+    × (verdictOn grouped "[m1,1@0]" 0 ≡ AboutRules (refused 17 0 0))
+    × (verdictOn grouped "[m0,2@0]" 0 ≡ AboutRules (refused 17 0 0))
+    × (verdictOn grouped "F [m1,1@0]" 1 ≡ Accepted)
+    -- "The all-carts case for threshold 1 is used only where the group is the whole fleet"
+    × (verdictOn grouped "F [m1,1@0]" 2 ≡ AboutRules (refused 17 0 0))
+    × (verdictOn grouped "F [m1,1@2]" 2 ≡ Accepted)
+    -- an empty group
+    × (verdictOn grouped "[m0,0@1]" 16 ≡ Accepted)
+    × (verdictOn grouped "[true,1@1]" 0 ≡ AboutRules (refused 17 0 0))
+    × (verdictOn grouped "![true,1@1]" 16 ≡ Accepted)
+    × (verdictOn grouped "[m1,100%@1]" 16 ≡ Accepted)
+    -- "Percentages and negation use the group's size": two carts of five
+    × (checked (fiveCarts ++ group 3) (going 1 0 0 0 0) (sheet "X [m1,50%@0]") ≡ Accepted)
+    × (checked (fiveCarts ++ group 3) (going 1 0 0 0 0) (sheet "X ![m1,1@0]") ≡ AboutRules (refused 17 0 0))
+    × (checked (fiveCarts ++ group 3) (going 0 0 1 1 1) (sheet "X ![m1,1@0]") ≡ Accepted)
+    -- "An or is joined as in 4) only if all its counts are over the same carts", as a set
+    × (checked (tables ++ (group 7 ++ group 3)) (three 1) (sheet "[m1,2@0] | [m2,2]") ≡ Accepted)
+    × (checked (tables ++ (group 7 ++ group 3)) (three 1) (sheet "[m1,2@1] | [m2,2]") ≡ AboutRules (refused 17 0 0))
+unfolding computing
+groups-counted = (refl, refl, refl, refl, refl, refl, refl, refl, refl, refl, refl, refl, refl, refl, refl)
+
+pub groups-lacking :
+    -- "for a group the floor lacks": of none, and of three
+    (verdict "[m0,0@0]" 0 ≡ AboutRules (refused 21 0 0))
+    × (verdictOn grouped "[m0,0@3]" 0 ≡ AboutRules (refused 21 0 3))
+    × (verdictOn grouped "G [m0,0@0] & [m0,0@1] & [m0,0@2]" 16 ≡ Accepted)
+    -- "lowest clause", by its number, and "its first such group" in the text
+    × (verdictOn grouped "[m0,0@2]\n[m0,0@4]\n[m0,0@3]" 0 ≡ AboutRules (refused 21 1 4))
+    × (verdict "[m0,0@3] | [m0,0@2]" 0 ≡ AboutRules (refused 21 0 3))
+    × (verdictOn grouped "[m0,0@1] U (!X [m0,0@7] R F [m0,0@5])" 0 ≡ AboutRules (refused 21 0 7))
+    -- "after the sheet is read and before 16", of a lower clause too, and so before 17
+    × (verdict "[m0,0@3]\n(" 0 ≡ AboutRules (refused 13 10 0))
+    × (verdictOn (narrowing 1) "[m0,0@0]" 1 ≡ AboutPlan (refused 20 0 1))
+    × (verdictOn (floor ++ group 1) "X [m1,1]\n[m1,1@1]" 1 ≡ AboutRules (refused 21 1 1))
+    × (verdictOn (floor ++ group 1) "X [m1,1]\n[m1,1@0]" 1 ≡ AboutRules (refused 16 0 0))
+    × (verdict "[m0,3]\n[m0,0@0]" 0 ≡ AboutRules (refused 21 1 0))
+unfolding computing
+groups-lacking = (refl, refl, refl, refl, refl, refl, refl, refl, refl, refl, refl)
 
 ---- Further cases, so that no definition here has another reading.
 -- the two places, lanes 1→0 and 0→1 for these classes, a cart of class 2 from place 1; and a plan that goes to place 0 and back

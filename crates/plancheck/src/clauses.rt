@@ -1,4 +1,4 @@
-// The clauses of an accepted sheet in one pass: 16 wherever it stands, else the first 17.
+// The clauses of an accepted sheet in one pass: 21 wherever it stands, else 16 wherever it stands, else the first 17.
 use drift::Ground;
 use floor::Floor;
 use plan::Head;
@@ -26,6 +26,7 @@ ghost use Rattle.floor.specs.Promises.{AcceptedFloor};
 ghost use Rattle.plan.specs.Plan.{placeOnStep, heldNumbers};
 ghost use Rattle.plan.specs.Valid.{HeadInRange};
 ghost use Rattle.plancheck.specs.Check.{planRows, clauseVerdict, clausesOf, clausesVerdict};
+ghost use Rattle.plancheck.specs.Turns.{nextOf};
 
 // Whether a clause looks one tick on although there is drift.
 fn looks_on(nodes: &[u8], k: usize, d: usize) -> bool
@@ -38,13 +39,37 @@ fn looks_on(nodes: &[u8], k: usize, d: usize) -> bool
     drift::has_next(nodes, k)
 }
 
+// One verdict, and where it accepts the other.
+fn first_of(a: Verdict, b: Verdict) -> Verdict
+    ensures { λ v. ⌜ v ≡ andThen a b ⌝ }
+{
+    if refusal::accepts(a) {
+        return b;
+    }
+    a
+}
+
+// A 16 that was found before clause n, or that of clause n.
+fn first_next(next: Verdict, nodes: &[u8], k: usize, d: usize, n: u32) -> Verdict
+    requires { ⌜ Ordered (now nodes) (k + 1) ⌝ }
+    ensures { λ v. ⌜ ((m : ℕ) → k < m → v ≡ andThen next (nextOf d n (clauseTree (now (nodes .entry)) m k))) ⌝ }
+{
+    if !refusal::accepts(next) {
+        return next;
+    }
+    if looks_on(nodes, k, d) {
+        return Verdict::Rules(refusal::refuse(16, n, 0));
+    }
+    Verdict::Accepted
+}
+
 // What was found before clause n, or the verdict on clause n.
 fn first_found(
     found: Verdict,
     nodes: &[u8],
     t: &mut [u32],
     w: &mut [u32; 81],
-    bits: &[u32; 32],
+    bits: &[u32; 41],
     tallies: &mut [u8; 2048],
     g: Ground,
     k: usize,
@@ -56,7 +81,7 @@ fn first_found(
     ensures { λ _. ⌜ Kept (pairsAt (g .marks) (g .h)) (now (t .entry)) (now (t .exit)) × (length (now (w .exit)) ≡ 81)
         × Tallies g (now (t .exit)) (now (tallies .exit)) ⌝ }
     ensures { λ v. ⌜ ((bears : ℕ → ℕ → ℕ → Bool) → Shown (g .marks) (g .carts) (g .h) bears (now (t .entry)) → (m : ℕ) → k < m → v ≡ andThen found
-        (clauseVerdict (rowsOn (g .carts) (g .h) (g .l) bears) (g .d) n (clauseTree (now (nodes .entry)) m k))) ⌝ }
+        (clauseVerdict (rowsOn (g .carts) (g .h) (g .l) bears (now (bits .entry))) (g .d) n (clauseTree (now (nodes .entry)) m k))) ⌝ }
 {
     if !refusal::accepts(found) {
         return found;
@@ -87,7 +112,7 @@ pub fn judge_lines(
     requires { ⌜ rulesVerdict (now rules) ≡ Accepted ⌝ }
     requires { ⌜ Borne (now floor) (f .places) marks × (pairsEnd marks (h .steps) ≤ length (now t)) ⌝ }
     ensures { λ v. ⌜ v ≡ clausesVerdict (planRows (now (floor .entry)) f (heldNumbers (f .carts) h (now (block .entry)))) (h .drift)
-        (clausesOf (readSheet (now (rules .entry)))) ⌝ }
+        (f .groups) (clausesOf (readSheet (now (rules .entry)))) ⌝ }
 {
     marks::fill(floor, block, f.carts, h.steps, marks, t);
     let g = Ground {
@@ -99,21 +124,26 @@ pub fn judge_lines(
     };
     let mut nodes = [0u8; 512];
     let mut w = [0u32; 81];
-    let mut bits = [0u32; 32];
+    let mut bits = [0u32; 41];
     quorum::fill_bits(&mut bits);
+    marks::fill_groups(floor, f, quorum::lowest(f.carts), &mut bits);
     let mut tallies = [255u8; 2048];
+    let mut next = Verdict::Accepted;
     let mut found = Verdict::Accepted;
     let mut at = 0;
     let mut n = 0;
     while at < rules.len() {
         let r = sheet::read_clause(rules, at, &mut nodes);
         let last = r.n - 1;
-        if looks_on(&nodes, last, h.drift) {
-            return Verdict::Rules(refusal::refuse(16, n, 0));
+        let lacking = drift::lacking_group(&nodes, r.n, f.groups);
+        if 0 < lacking {
+            return Verdict::Rules(refusal::refuse(21, n, (lacking - 1) as u32));
         }
-        found = first_found(found, &nodes, t, &mut w, &bits, &mut tallies, g, last, n);
+        next = first_next(next, &nodes, last, h.drift, n);
+        let before = first_of(next, found);
+        found = first_found(before, &nodes, t, &mut w, &bits, &mut tallies, g, last, n);
         at = r.at;
         n += 1;
     }
-    found
+    first_of(next, found)
 }

@@ -35,7 +35,7 @@ fn judge_clauses(floor: &[u8], f: Floor, h: Head, block: &[u8], rules: &[u8]) ->
     requires { ⌜ ((c s : ℕ) → c < f .carts → s < h .steps → placeOnStep (heldNumbers (f .carts) h (now block)) c s < f .places) ⌝ }
     requires { ⌜ rulesVerdict (now rules) ≡ Accepted ⌝ }
     ensures { λ v. ⌜ v ≡ clausesVerdict (planRows (now (floor .entry)) f (heldNumbers (f .carts) h (now (block .entry)))) (h .drift)
-        (clausesOf (readSheet (now (rules .entry)))) ⌝ }
+        (f .groups) (clausesOf (readSheet (now (rules .entry)))) ⌝ }
 {
     let marks = marks::borne(floor, f.places);
     if fits(marks, h.steps, 500) {
@@ -60,12 +60,11 @@ pub fn check(floor: &[u8], plan: &[u8], rules: &[u8]) -> Verdict
         return read;
     }
     let p = r.plan;
-    let block = p.block;
-    let moved = moves::judge_plan(floor, r.floor, p.head, &block);
+    let moved = moves::judge_plan(floor, r.floor, p.head, &r.plan.block);
     if !refusal::accepts(moved) {
         return moved;
     }
-    let free = conflict::judge_plan(floor, r.floor, p.head, &block);
+    let free = conflict::judge_plan(floor, r.floor, p.head, &r.plan.block);
     if !refusal::accepts(free) {
         return free;
     }
@@ -73,5 +72,5 @@ pub fn check(floor: &[u8], plan: &[u8], rules: &[u8]) -> Verdict
     if !refusal::accepts(sheet) {
         return sheet;
     }
-    judge_clauses(floor, r.floor, p.head, &block, rules)
+    judge_clauses(floor, r.floor, p.head, &r.plan.block, rules)
 }

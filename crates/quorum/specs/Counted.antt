@@ -11,7 +11,8 @@ use lib.ListN.{getD}
 use borrow.Author.Tests.{eq-eqb, ne-eqb}
 use Rattle.row.specs.Lasso.{stepOf}
 use Rattle.row.specs.Round.{step-below}
-use Rattle.cltl.specs.Rules.{every, window, throughout, quorum}
+use Rattle.cltl.specs.Counting.{every}
+use Rattle.cltl.specs.Rules.{window, throughout, quorum}
 use Rattle.cltl.specs.Basics.{bool-ext}
 use Rattle.cltl.specs.Tally.{every-agrees}
 use Rattle.cltl.specs.Quorum.{window-at}
@@ -20,7 +21,8 @@ use Rattle.mask.specs.Mask.{on, Row}
 use Rattle.mask.specs.EachBit.{on-or, on-beyond}
 use Rattle.mask.specs.Combined.{all-false}
 use Rattle.table.specs.Table.{Stored}
-use Rattle.quorum.specs.Words.{CartsAt, has}
+use Rattle.table.specs.Storing.{stored-of}
+use Rattle.quorum.specs.Words.{within, Of, CartsAt, has}
 use Rattle.quorum.specs.OwnNumber.{own}
 use Rattle.quorum.specs.Below.{below}
 use Rattle.quorum.specs.Ones.{counted, all-counted}
@@ -76,6 +78,12 @@ either h l carts d m f many all a b = record {
   low = or-lt h many all (a .low) (b .low);
   at = λ s p. on-or many all s ∙ ap₂ (λ (x y : Bool). x || y) (a .at s p) (b .at s p);
 }
+
+-- words of some carts' text are words of carts
+pub in-carts : (h carts who : ℕ) (f : ℕ → ℕ → Bool) (before w : List ℕ) → carts ≤ 32 → who < 2 ^ carts → Stored (Of who f) 0 0 h before w
+    → Stored (CartsAt carts (within who f)) 0 0 h before w
+in-carts h carts who f before w few low text =
+    stored-of _ _ 0 0 h before w (λ s x _ _ o. record { low = omega (arith, o .low); at = λ i p. o .each i (omega arith) }) text
 
 -- where the words are those of a text
 module _ (h carts : ℕ) (f : ℕ → ℕ → Bool) (before w : List ℕ) (text : Stored (CartsAt carts f) 0 0 h before w) where

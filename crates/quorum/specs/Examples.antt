@@ -5,7 +5,8 @@ use mathlib.Core.Bool.{Bool, true, false}
 use mathlib.Core.List.{List, [], _∷_}
 use lib.Dec.{leb}
 use Rattle.row.specs.Lasso.{stepOf}
-use Rattle.cltl.specs.Rules.{tally, every, window, throughout, quorum}
+use Rattle.cltl.specs.Counting.{tally, every}
+use Rattle.cltl.specs.Rules.{window, throughout, quorum}
 use Rattle.cltl.specs.Running.{walk, lapCount, runningCount}
 use Rattle.mask.specs.Mask.{on, signed}
 use Rattle.table.specs.Table.{told}

@@ -9,7 +9,7 @@ use lib.Count.{ones, ones-step, ones-ones, ones-le}
 use lib.Dec.{T, leb, eqb, leb→le, le→leb, eqb→eq, eqb-refl, not-T}
 use lib.Pow.{pow-pos}
 use Rattle.row.specs.Round.{pick}
-use Rattle.cltl.specs.Rules.{tally, every}
+use Rattle.cltl.specs.Counting.{tally, every}
 use Rattle.cltl.specs.Basics.{bool-ext}
 use Rattle.cltl.specs.Tally.{tally-le, tally-all, every-at}
 use Rattle.cltl.specs.Agree.{tally-agrees}

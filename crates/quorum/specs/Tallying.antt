@@ -8,7 +8,8 @@ use lib.Bits.{bitOr}
 use lib.Dec.{leb, eqb}
 use lib.ListN.{getD}
 use borrow.Author.Tests.{ne-eqb}
-use Rattle.cltl.specs.Rules.{every, window, throughout, quorum}
+use Rattle.cltl.specs.Counting.{every}
+use Rattle.cltl.specs.Rules.{window, throughout, quorum}
 use Rattle.cltl.specs.Tally.{tally-le}
 use Rattle.mask.specs.Mask.{Row}
 use Rattle.quorum.specs.Tallies.{Tallied}

@@ -6,7 +6,7 @@ ghost use lib.ListN.{length, getD};
 ghost use Rattle.cltl.specs.Rules.{throughout};
 ghost use Rattle.mask.specs.Mask.{Row};
 ghost use Rattle.table.specs.Table.{told};
-ghost use Rattle.quorum.specs.Words.{has, Bits};
+ghost use Rattle.quorum.specs.Words.{within, has, Bits};
 
 // Of the words of the steps: from which steps on at least m carts have their bit at all of d + 1 counters.
 pub(crate) fn throughout_row(
@@ -16,7 +16,7 @@ pub(crate) fn throughout_row(
     h: usize,
     l: usize,
     d: usize,
-    bits: &[u32; 32],
+    bits: &[u32; 41],
 ) -> u64
     requires { ⌜ (l < h) × (h ≤ 64) × (d ≤ 16) × (carts ≤ 32) ⌝ }
     requires { ⌜ length (now w) ≡ 81 ⌝ }
@@ -29,26 +29,27 @@ pub(crate) fn throughout_row(
     crate::counting::at_least(w, from, m, carts, h, bits)
 }
 
-// The steps s at which at least m carts satisfy the text whose table begins at `at`, at all of counters s to s + d: count_row without its case of all carts at
-// the step itself. The words of w are scratch.
+// The steps s at which at least m of the carts in `who` satisfy the text whose table begins at `at`, at all of counters s to s + d: count_row without its
+// case of all carts at the step itself. The words of w are scratch.
 pub fn joint_row(
     t: &[u32],
     at: usize,
     m: usize,
+    who: u32,
     carts: usize,
     h: usize,
     l: usize,
     d: usize,
     w: &mut [u32; 81],
-    bits: &[u32; 32],
+    bits: &[u32; 41],
 ) -> u64
-    requires { ⌜ (l < h) × (h ≤ 64) × (d ≤ 16) × (carts ≤ 32) ⌝ }
+    requires { ⌜ (l < h) × (h ≤ 64) × (d ≤ 16) × (carts ≤ 32) × (who < 2 ^ carts) ⌝ }
     requires { ⌜ at + h ≤ length (now t) ⌝ }
     requires { ⌜ length (now w) ≡ 81 ⌝ }
     requires { ⌜ Bits (now bits) ⌝ }
     ensures { λ _. ⌜ length (now (w .exit)) ≡ 81 ⌝ }
-    ensures { λ r. ⌜ Row h r (λ s. leb m (throughout h l carts d (told (now (t .entry)) at) s)) ⌝ }
+    ensures { λ r. ⌜ Row h r (λ s. leb m (throughout h l carts d (within who (told (now (t .entry)) at)) s)) ⌝ }
 {
-    crate::words::unroll(t, at, true, carts, h, w);
+    crate::words::unroll(t, at, true, who, h, w);
     throughout_row(w, m, carts, h, l, d, bits)
 }

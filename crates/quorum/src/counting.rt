@@ -21,7 +21,7 @@ fn if_enough(m: u32, n: u32, bit: u32) -> u32
 }
 
 // Of the n words from `at` on, those that are x.
-fn same(w: &[u32; 81], at: usize, x: u32, n: usize, bits: &[u32; 32]) -> u32
+fn same(w: &[u32; 81], at: usize, x: u32, n: usize, bits: &[u32; 41]) -> u32
     requires { ⌜ length (now w) ≡ 81 ⌝ }
     requires { ⌜ (n ≤ 32) × (at + n ≤ 81) ⌝ }
     requires { ⌜ Bits (now bits) ⌝ }
@@ -37,7 +37,7 @@ fn same(w: &[u32; 81], at: usize, x: u32, n: usize, bits: &[u32; 32]) -> u32
 }
 
 // Of the n words from `at` on, those with at least m bits.
-fn counted(w: &[u32; 81], at: usize, m: u32, n: usize, bits: &[u32; 32]) -> u32
+fn counted(w: &[u32; 81], at: usize, m: u32, n: usize, bits: &[u32; 41]) -> u32
     requires { ⌜ length (now w) ≡ 81 ⌝ }
     requires { ⌜ (n ≤ 32) × (at + n ≤ 81) ⌝ }
     requires { ⌜ Bits (now bits) ⌝ }
@@ -53,7 +53,7 @@ fn counted(w: &[u32; 81], at: usize, m: u32, n: usize, bits: &[u32; 32]) -> u32
 }
 
 // The same, where the words have bits of carts alone: more carts than there are no word has, and all carts or at least one need no counting.
-fn part(w: &[u32; 81], at: usize, m: usize, carts: usize, n: usize, bits: &[u32; 32]) -> u32
+fn part(w: &[u32; 81], at: usize, m: usize, carts: usize, n: usize, bits: &[u32; 41]) -> u32
     requires { ⌜ length (now w) ≡ 81 ⌝ }
     requires { ⌜ (carts ≤ 32) × (n ≤ 32) × (at + n ≤ 81) ⌝ }
     requires { ⌜ Bits (now bits) ⌝ }
@@ -79,7 +79,7 @@ pub(crate) fn at_least(
     m: usize,
     carts: usize,
     h: usize,
-    bits: &[u32; 32],
+    bits: &[u32; 41],
 ) -> u64
     requires { ⌜ length (now w) ≡ 81 ⌝ }
     requires { ⌜ (carts ≤ 32) × (h ≤ 64) × (from + h ≤ 81) ⌝ }

@@ -9,7 +9,7 @@ ghost use lib.ListN.{length, getD};
 ghost use Rattle.cltl.specs.Rules.{throughout, quorum};
 ghost use Rattle.mask.specs.Mask.{Row, signed};
 ghost use Rattle.table.specs.Table.{told, Stored};
-ghost use Rattle.quorum.specs.Words.{Bits};
+ghost use Rattle.quorum.specs.Words.{within, Bits};
 ghost use Rattle.quorum.specs.Tallies.{Tallied};
 
 // The number of bits of each of h words from `from` on.
@@ -26,11 +26,12 @@ fn put_tallies(w: &[u32; 81], from: usize, h: usize, tallies: &mut [u8; 2048], a
     }
 }
 
-// The tallies of the text (p), or of the negation of the text, whose table begins at `from`. The words of w are scratch.
+// The tallies, over the carts in `who`, of the text (p), or of the negation of the text, whose table begins at `from`. The words of w are scratch.
 pub fn fill_tallies(
     t: &[u32],
     from: usize,
     p: bool,
+    who: u32,
     carts: usize,
     h: usize,
     l: usize,
@@ -39,15 +40,15 @@ pub fn fill_tallies(
     tallies: &mut [u8; 2048],
     at: usize,
 )
-    requires { ⌜ (l < h) × (h ≤ 64) × (d ≤ 16) × (carts ≤ 32) ⌝ }
+    requires { ⌜ (l < h) × (h ≤ 64) × (d ≤ 16) × (carts ≤ 32) × (who < 2 ^ carts) ⌝ }
     requires { ⌜ from + h ≤ length (now t) ⌝ }
     requires { ⌜ length (now w) ≡ 81 ⌝ }
     requires { ⌜ (length (now tallies) ≡ 2048) × (at + h ≤ 2048) ⌝ }
     ensures { λ _. ⌜ length (now (w .exit)) ≡ 81 ⌝ }
-    ensures { λ _. ⌜ Stored (λ s x. x ≡ throughout h l carts d (λ i s. signed p (told (now (t .entry)) from i s)) s) at 0 h
+    ensures { λ _. ⌜ Stored (λ s x. x ≡ throughout h l carts d (within who (λ i s. signed p (told (now (t .entry)) from i s))) s) at 0 h
         (now (tallies .entry)) (now (tallies .exit)) ⌝ }
 {
-    crate::words::unroll(t, from, p, carts, h, w);
+    crate::words::unroll(t, from, p, who, h, w);
     let begin = crate::running::windows(w, h, l, d);
     put_tallies(w, begin, h, tallies, at);
 }
@@ -59,7 +60,7 @@ fn if_reached(m: u8, n: u8, bit: u32) -> u32
 }
 
 // Of the n steps from `at` on, those whose tally is at least m.
-fn enough(tallies: &[u8; 2048], at: usize, m: u8, n: usize, bits: &[u32; 32]) -> u32
+fn enough(tallies: &[u8; 2048], at: usize, m: u8, n: usize, bits: &[u32; 41]) -> u32
     requires { ⌜ length (now tallies) ≡ 2048 ⌝ }
     requires { ⌜ (n ≤ 32) × (at + n ≤ 2048) ⌝ }
     requires { ⌜ Bits (now bits) ⌝ }
@@ -81,7 +82,7 @@ fn enough_row(
     m: usize,
     carts: usize,
     h: usize,
-    bits: &[u32; 32],
+    bits: &[u32; 41],
 ) -> u64
     requires { ⌜ length (now tallies) ≡ 2048 ⌝ }
     requires { ⌜ (carts ≤ 32) × (h ≤ 64) × (at + h ≤ 2048) ⌝ }
@@ -106,25 +107,26 @@ pub fn tallied_row(
     from: usize,
     p: bool,
     m: usize,
+    who: u32,
     carts: usize,
     h: usize,
     w: &mut [u32; 81],
     tallies: &[u8; 2048],
     at: usize,
-    bits: &[u32; 32],
+    bits: &[u32; 41],
 ) -> u64
-    requires { ⌜ (h ≤ 64) × (carts ≤ 32) ⌝ }
+    requires { ⌜ (h ≤ 64) × (carts ≤ 32) × (who < 2 ^ carts) ⌝ }
     requires { ⌜ from + h ≤ length (now t) ⌝ }
     requires { ⌜ length (now w) ≡ 81 ⌝ }
     requires { ⌜ (length (now tallies) ≡ 2048) × (at + h ≤ 2048) ⌝ }
     requires { ⌜ Bits (now bits) ⌝ }
     ensures { λ _. ⌜ length (now (w .exit)) ≡ 81 ⌝ }
-    ensures { λ r. ⌜ ((l d : ℕ) → Tallied h l carts d (λ i s. signed p (told (now (t .entry)) from i s)) at (now (tallies .entry))
-        → Row h r (quorum h l carts d m (λ i s. signed p (told (now (t .entry)) from i s)))) ⌝ }
+    ensures { λ r. ⌜ ((l d : ℕ) → Tallied h l carts d (within who (λ i s. signed p (told (now (t .entry)) from i s))) at (now (tallies .entry))
+        → Row h r (quorum h l carts d m (within who (λ i s. signed p (told (now (t .entry)) from i s))))) ⌝ }
 {
     let many = enough_row(tallies, at, m, carts, h, bits);
     if m == 1 {
-        crate::words::unroll(t, from, p, carts, h, w);
+        crate::words::unroll(t, from, p, who, h, w);
         return many | all_row(w, m, carts, h, bits);
     }
     many

@@ -45,7 +45,7 @@ pub record Answered (t : Refusals) (c : Code) : Type 0 where
 
 ---- The table, in document 01's order.
 -- "Reading a floor: 1 too long .. 2 cut short, 3 kind unknown or out of place, 4 wrong body length, 5 one too many, 6 absent place or class over 7. At
--- the end 7"
+-- the end 7"; document 02, 6): 6 also for an absent cart of a group
 abbrev pub floorNumbers : List ℕ
 floorNumbers = 1 ∷ 2 ∷ 3 ∷ 4 ∷ 5 ∷ 6 ∷ 7 ∷ []
 

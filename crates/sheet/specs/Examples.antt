@@ -7,7 +7,7 @@ use mathlib.Core.List.{List, [], _∷_, _++_}
 use Rattle.refusal.specs.Codes.{refused}
 use Rattle.refusal.specs.declared.Verdict.{Verdict}
 use Rattle.refusal.specs.declared.Verdict.the-variants.{Accepted, Rules as AboutRules}
-use Rattle.grammar.specs.Reader.{bind, node, skip, expectAt, expect, literal, digits, number, percent, chainAt, chainMore, chain, andChain, orChain, byKind, smallAt, smallOf, byOnward, untilAt, untilOf, deeper, smalls, untils, ors, markBy, marks, inners, amounts, countEnd, countBy, counts, clauses, clauseLine, lines, outcome, start, readSheet}
+use Rattle.grammar.specs.Reader.{bind, node, skip, expectAt, expect, literal, digits, number, percent, chainAt, chainMore, chain, andChain, orChain, byKind, smallAt, smallOf, byOnward, untilAt, untilOf, deeper, smalls, untils, ors, markBy, marks, inners, limits, groupDigit, overAt, overs, amounts, countEnd, countBy, counts, clauses, clauseLine, lines, outcome, start, readSheet}
 use Rattle.sheet.specs.Rules.{rulesVerdict}
 
 -- a text's bytes
@@ -30,7 +30,7 @@ rules number first second = AboutRules (refused number first second)
 reading : List ℕ → Verdict
 unfolding
     bind node skip expectAt expect literal digits number percent chainAt chainMore chain andChain orChain byKind smallAt smallOf byOnward untilAt untilOf deeper smalls untils ors markBy marks inners
-    amounts countEnd countBy counts clauses clauseLine lines outcome start readSheet rulesVerdict
+    limits groupDigit overAt overs amounts countEnd countBy counts clauses clauseLine lines outcome start readSheet rulesVerdict
 reading s = rulesVerdict s
 
 pub worked :
@@ -45,6 +45,9 @@ pub worked :
     × (verdict "true\n[m32,1]\n" ≡ rules 15 7 0)
     × (verdict "[m0,1000]\n" ≡ rules 15 4 0)
     × (verdict "[m0,101%]\n" ≡ rules 15 4 0)
+    -- a group behind a count's number, and a digit that no group has
+    × (verdict "[m0,1 @7]\n" ≡ Accepted)
+    × (verdict "[m0,1@8]\n" ≡ rules 13 6 0)
     -- the 33rd level, and the 33rd line whatever stands in it
     × (rulesVerdict (times 33 "!") ≡ rules 14 32 0)
     × (rulesVerdict (times 32 "true\n" ++ text "x") ≡ rules 14 160 0)
@@ -52,4 +55,4 @@ pub worked :
     × (rulesVerdict (times 16384 "x") ≡ rules 13 0 0)
     × (rulesVerdict (times 16385 "x") ≡ rules 12 0 0)
 unfolding reading
-worked = (refl, refl, refl, refl, refl, refl, refl, refl, refl, refl, refl, refl)
+worked = (refl, refl, refl, refl, refl, refl, refl, refl, refl, refl, refl, refl, refl, refl)

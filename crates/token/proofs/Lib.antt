@@ -3,3 +3,4 @@ pub mod Adding
 pub mod Behind
 pub mod Words
 pub mod Counting
+pub mod Grouping

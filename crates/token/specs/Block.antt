@@ -1,8 +1,8 @@
 -- The block that holds a clause's nodes, four bytes to each.
-use Prim.Native.Nat.{ℕ, _/_, _%_}
+use Prim.Native.Nat.{ℕ, suc, _+_, _*_, _/_, _%_}
 use mathlib.Core.Bool.{Bool, true, false}
 use mathlib.Core.List.{List, [], _∷_, _++_}
-use Rattle.grammar.specs.Grammar.{amount}
+use Rattle.grammar.specs.Grammar.{Over, fleet, group, amount}
 use Rattle.grammar.specs.Nodes.{Node, topN, markN, countN, oneN, twoN, Op₁, neg₁, next₁, ev₁, gl₁, Op₂, and₂, or₂, until₂, release₂}
 
 -- what a node is, in its first byte
@@ -23,13 +23,18 @@ abbrev pub countByte : Bool → ℕ
 countByte false = 10
 countByte true = 11
 
+-- a count's carts
+abbrev pub overNumber : Over → ℕ
+overNumber fleet = 0
+overNumber (group g) = suc g
+
 -- its operands' numbers; a mark's number; a count's inner text and its amount
 abbrev pub nodeBytes : Node → List ℕ
 nodeBytes topN = 0 ∷ 0 ∷ 0 ∷ 0 ∷ []
 nodeBytes (markN k) = 1 ∷ k ∷ 0 ∷ 0 ∷ []
 nodeBytes (oneN o j) = oneByte o ∷ j ∷ 0 ∷ 0 ∷ []
 nodeBytes (twoN o j k) = twoByte o ∷ j ∷ k ∷ 0 ∷ []
-nodeBytes (countN j (amount n p)) = countByte p ∷ j ∷ n % 256 ∷ n / 256 ∷ []
+nodeBytes (countN j (amount n p o)) = countByte p ∷ j ∷ n % 256 ∷ (n / 256 + 4 * overNumber o) ∷ []
 
 unfoldable pub nodesBytes : List Node → List ℕ
 nodesBytes [] = []

@@ -60,7 +60,8 @@ module _ (s : List ℕ) (n left : ℕ) (before : List ℕ) (long : length before
       go (got a m t) k = absurd (some (k .fine))
 
   -- the comma is there, and behind it and spaces the amount
-  module _ (fine : p .fault ≡ 0) (i : ℕ) (is : drop i s ≡ skip (drop (p .at) s)) (k : AmountRead) (l : AmountIs s k (amounts 0 (drop i s))) (in-text : k .at ≤ length s) where
+  module _ (fine : p .fault ≡ 0) (i : ℕ) (is : drop i s ≡ skip (drop (p .at) s)) (k : AmountRead)
+      (l : AmountIs s k (amounts 0 (drop i s))) (in-text : k .at ≤ length s) where
     by : (P : Got Clause → Type 0) → ((a : Inner) (m : ℕ) (t : List ℕ) → Held markNodes flatMark s n left before p block a m t
         → P (bind (countEndBy a m (amounts 0 (drop i s))) (λ x m r₁. got (Form.leaf x) m r₁))) → P (countGot g)
     unfolding bind

@@ -4,9 +4,9 @@ use mathlib.Core.Path.{_≡_, refl, ap, _∙_}
 use mathlib.Core.Bool.{Bool, true, false}
 use mathlib.Core.List.{List, [], _∷_}
 use lib.Dec.{leb, eqb}
-use Rattle.grammar.specs.Grammar.{Amount, amount}
+use Rattle.grammar.specs.Grammar.{Over, fleet, group, Amount, amount}
 use Rattle.grammar.specs.Limits.{most}
-use Rattle.grammar.specs.Reader.{Got, got, no, bind, pick, digits, number, percent, amounts, isDigit}
+use Rattle.grammar.specs.Reader.{Got, got, no, Reader, bind, pick, skip, digits, number, percent, limits, isGroup, groupDigit, overAt, overs, amounts, isDigit}
 
 -- a number is the same whatever nodes are allowed
 abbrev pub relabel : {A : Type 0} → ℕ → Got A → Got A
@@ -67,25 +67,52 @@ percent-any n m (b ∷ t) = go (eqb b 37)
     go true = refl
     go false = refl
 
--- an amount is the same whatever nodes are allowed
-module _ (n : ℕ) (u : List ℕ) where
-  abbrev ranged : ℕ → Got Bool → Got Amount
-  ranged k g = bind g (λ p m r. pick (leb k (most p)) (got (amount k p) m r) (no 15 u))
+-- what is the same whatever nodes are allowed, and what follows it too
+pub any-bind : {A B : Type 0} (n : ℕ) (g : Got A) (f : A → Reader B) → ((a : A) (m : ℕ) (r : List ℕ) → f a n r ≡ relabel n (f a m r))
+    → bind (relabel n g) f ≡ relabel n (bind g f)
+unfolding bind
+any-bind n (got a m r) f e = e a m r
+any-bind n (no w r) f e = refl
 
-  within : (k m : ℕ) (p : Bool) (r : List ℕ) (x : Bool) → pick x (got (amount k p) n r) (no 15 u) ≡ relabel n (pick x (got (amount k p) m r) (no 15 u))
-  within k m p r true = refl
-  within k m p r false = refl
+any-pick : {A : Type 0} (n m : ℕ) (a : A) (r s : List ℕ) (w : ℕ) (x : Bool) → pick x (got a n r) (no w s) ≡ relabel n (pick x (got a m r) (no w s))
+any-pick n m a r s w true = refl
+any-pick n m a r s w false = refl
 
-  by-percent : (k : ℕ) (g : Got Bool) → ranged k (relabel n g) ≡ relabel n (ranged k g)
-  unfolding bind
-  by-percent k (got p m r) = within k m p r (leb k (most p))
-  by-percent k (no w r) = refl
+pub limits-any : (n : ℕ) (u : List ℕ) → limits n u ≡ relabel n (limits 0 u)
+unfolding limits
+limits-any n u =
+    ap (λ (g : Got ℕ). bind g (λ k m r. by k (percent m r))) (number-any n u)
+    ∙ any-bind n (number 0 u) (λ k m r. by k (percent m r))
+    (λ k m r. ap (by k) (percent-any n m r) ∙ any-bind n (percent m r) (λ p m₁ r₁. pick (leb k (most p)) (got (k, p) m₁ r₁) (no 15 u))
+    (λ p m₁ r₁. any-pick n m₁ (k, p) r₁ u 15 (leb k (most p))))
+  where
+    by : ℕ → Got Bool → Got (ℕ × Bool)
+    by k g = bind g (λ p m₁ r₁. pick (leb k (most p)) (got (k, p) m₁ r₁) (no 15 u))
 
-  by-number : (g : Got ℕ) → bind (relabel n g) (λ k m r. ranged k (percent m r)) ≡ relabel n (bind g (λ k m r. ranged k (percent m r)))
-  unfolding bind
-  by-number (got k m r) = ap (ranged k) (percent-any n m r) ∙ by-percent k (percent m r)
-  by-number (no w r) = refl
+group-digit-any : (n m : ℕ) (s : List ℕ) → groupDigit n s ≡ relabel n (groupDigit m s)
+unfolding groupDigit
+group-digit-any n m [] = refl
+group-digit-any n m (b ∷ r) = any-pick n m (group (b - 48)) r (b ∷ r) 13 (isGroup b)
 
-  pub amounts-any : amounts n u ≡ relabel n (amounts 0 u)
-  unfolding amounts
-  amounts-any = ap (λ (g : Got ℕ). bind g (λ k m r. ranged k (percent m r))) (number-any n u) ∙ by-number (number 0 u)
+over-at-any : (n m : ℕ) (s r : List ℕ) → overAt n s r ≡ relabel n (overAt m s r)
+unfolding overAt
+over-at-any n m s [] = refl
+over-at-any n m s (b ∷ r) = go (eqb b 64)
+  where
+    go : (x : Bool) → pick x (groupDigit n r) (got fleet n s) ≡ relabel n (pick x (groupDigit m r) (got fleet m s))
+    go true = group-digit-any n m r
+    go false = refl
+
+pub overs-any : (n m : ℕ) (s : List ℕ) → overs n s ≡ relabel n (overs m s)
+unfolding overs
+overs-any n m s = over-at-any n m s (skip s)
+
+pub amounts-any : (n : ℕ) (u : List ℕ) → amounts n u ≡ relabel n (amounts 0 u)
+unfolding amounts
+amounts-any n u =
+    ap (λ (g : Got (ℕ × Bool)). bind g (λ x m r. by x (overs m r))) (limits-any n u)
+    ∙ any-bind n (limits 0 u) (λ x m r. by x (overs m r))
+    (λ x m r. ap (by x) (overs-any n m r) ∙ any-bind n (overs m r) (λ o m₁ r₁. got (amount (x .0) (x .1) o) m₁ r₁) (λ o m₁ r₁. refl))
+  where
+    by : ℕ × Bool → Got Over → Got Amount
+    by x g = bind g (λ o m₁ r₁. got (amount (x .0) (x .1) o) m₁ r₁)

@@ -21,7 +21,7 @@ use Rattle.token.specs.declared.PartRead.{PartRead}
 four : (x : Node) → length (nodeBytes x) ≡ 4
 four topN = refl
 four (markN k) = refl
-four (countN j (amount n p)) = refl
+four (countN j (amount n p o)) = refl
 four (oneN o j) = refl
 four (twoN o j k) = refl
 

@@ -1,13 +1,13 @@
 -- What the readers of single tokens give, in the terms of a part.
-use Prim.Native.Nat.{ℕ, suc, _+_, _*_, _≤_, _<_}
+use Prim.Native.Nat.{ℕ, zero, suc, _+_, _*_, _≤_, _<_}
 use mathlib.Core.Path.{_≡_}
 use mathlib.Core.Bool.{Bool, true, false}
 use mathlib.Core.List.{List, [], _∷_}
 use lib.ListN.{length, drop}
 use Rattle.record.specs.Buffer.{stored}
-use Rattle.grammar.specs.Grammar.{Amount, amount}
+use Rattle.grammar.specs.Grammar.{Over, fleet, group, Amount, amount}
 use Rattle.grammar.specs.Nodes.{Node}
-use Rattle.grammar.specs.Reader.{Got, got, no, bind, node, literal, skip}
+use Rattle.grammar.specs.Reader.{Got, got, no, bind, node, literal, overs, skip}
 use Rattle.token.specs.Block.{nodeBytes}
 use Rattle.token.specs.declared.PartRead.{PartRead}
 use Rattle.token.specs.declared.AmountRead.{AmountRead}
@@ -62,10 +62,29 @@ pub record ByteAt (s : List ℕ) (j c : ℕ) (b : Bool) : Type 0 where
   pub low : b ≡ true → j < length s
   pub no : b ≡ false → (t : List ℕ) → drop j s ≡ c ∷ t → ⊥
 
+-- a number with its `%`, of the whole fleet
+abbrev pub LimitIs : List ℕ → AmountRead → Got (ℕ × Bool) → Type 0
+LimitIs s r (got x m t) = (r .fault ≡ 0) × (drop (r .at) s ≡ t) × (r .value ≡ x .0) × (r .percent ≡ x .1) × (r .value ≤ 999) × (r .over ≡ 0)
+LimitIs s r (no w t) = (r .fault ≡ w) × (drop (r .at) s ≡ t) × (w ≡ 0 → ⊥)
+
+-- the carts by their number, 0 or 1 + the group's
+abbrev pub overOf : ℕ → Over
+overOf zero = fleet
+overOf (suc g) = group g
+
+-- a group's digit at an offset
+abbrev pub DigitIs : List ℕ → ℕ → ℕ → Got Over → Type 0
+DigitIs s j r (got o m t) = (overOf r ≡ o) × (0 < r) × (r ≤ 8) × (j < length s) × (drop (suc j) s ≡ t)
+DigitIs s j r (no w t) = (r ≡ 0) × (w ≡ 13) × (drop j s ≡ t)
+
 -- an amount, from its number's first digit on
 abbrev pub amountOf : AmountRead → Amount
-amountOf r = amount (r .value) (r .percent)
+amountOf r = amount (r .value) (r .percent) (overOf (r .over))
 
 abbrev pub AmountIs : List ℕ → AmountRead → Got Amount → Type 0
-AmountIs s r (got x m t) = (r .fault ≡ 0) × (drop (r .at) s ≡ t) × (amountOf r ≡ x) × (r .value ≤ 999)
+AmountIs s r (got x m t) = (r .fault ≡ 0) × (drop (r .at) s ≡ t) × (amountOf r ≡ x) × (r .value ≤ 999) × (r .over ≤ 8)
 AmountIs s r (no w t) = (r .fault ≡ w) × (drop (r .at) s ≡ t) × (w ≡ 0 → ⊥)
+
+-- what its number and its `%` make of the group behind them
+abbrev pub groupedGot : List ℕ → AmountRead → Got Amount
+groupedGot s k = bind (overs 0 (drop (k .at) s)) (λ o m r. got (amount (k .value) (k .percent) o) m r)

@@ -8,16 +8,14 @@ use crate::nodes::refused;
 use crate::tokens::number;
 use crate::tokens::spaces;
 ghost use mathlib.Core.Path.{_≡_};
-ghost use mathlib.Core.Bool.{Bool, cond, true, false};
-ghost use mathlib.Core.List.{[], _∷_};
-ghost use Prim.Native.Nat.{_+_, _-_, _/_, _%_, _≤_, _<_};
-ghost use lib.Dec.{ltb};
+ghost use mathlib.Core.Bool.{cond, false};
+ghost use Prim.Native.Nat.{_+_, _-_, _≤_, _<_};
 ghost use lib.ListN.{length, drop};
 ghost use Rattle.grammar.specs.Limits.{most};
 ghost use Rattle.grammar.specs.Nodes.{countN};
-ghost use Rattle.grammar.specs.Reader.{amounts};
+ghost use Rattle.grammar.specs.Reader.{limits, groupDigit, amounts};
 ghost use Rattle.token.specs.Block.{countByte, nodeBytes};
-ghost use Rattle.token.specs.Leaves.{amountOf, AmountIs};
+ghost use Rattle.token.specs.Leaves.{LimitIs, DigitIs, groupedGot, amountOf, AmountIs};
 ghost use Rattle.token.specs.More.{WithNode};
 ghost use Rattle.token.specs.Counts.{CountEnds};
 
@@ -43,20 +41,21 @@ fn behind(at: usize, percent: bool) -> usize
 }
 
 fn no_amount(fault: u32, at: usize) -> AmountRead
-    ensures { λ r. ⌜ r ≡ record { fault = fault; at = at; value = 0; percent = false } ⌝ }
+    ensures { λ r. ⌜ r ≡ record { fault = fault; at = at; value = 0; percent = false; over = 0 } ⌝ }
 {
     AmountRead {
         fault,
         at,
         value: 0,
         percent: false,
+        over: 0,
     }
 }
 
-// An amount, at its number's first digit.
-fn amount(s: &[u8], i: usize) -> AmountRead
+// A number with its `%`, at its first digit.
+fn limit(s: &[u8], i: usize) -> AmountRead
     requires { ⌜ (i ≤ length (now s)) × (length (now s) ≤ 16384) ⌝ }
-    ensures { λ r. ⌜ AmountIs (now (s .entry)) r (amounts 0 (drop i (now (s .entry)))) × (r .at ≤ length (now (s .entry))) ⌝ }
+    ensures { λ r. ⌜ LimitIs (now (s .entry)) r (limits 0 (drop i (now (s .entry)))) × (r .at ≤ length (now (s .entry))) ⌝ }
 {
     let k = number(s, i);
     if !k.ok {
@@ -71,12 +70,64 @@ fn amount(s: &[u8], i: usize) -> AmountRead
         at: behind(k.at, percent),
         value: k.value,
         percent,
+        over: 0,
     }
+}
+
+// 1 + the group whose digit stands at an offset, or 0.
+fn group_digit(s: &[u8], j: usize) -> usize
+    ensures { λ r. ⌜ DigitIs (now (s .entry)) j r (groupDigit 0 (drop j (now (s .entry)))) ⌝ }
+{
+    if s.len() <= j {
+        return 0;
+    }
+    let b = s[j];
+    if b < 48 {
+        return 0;
+    }
+    if 55 < b {
+        return 0;
+    }
+    (b - 47) as usize
+}
+
+// The amount with its group, if one stands behind its number.
+fn grouped(s: &[u8], k: AmountRead) -> AmountRead
+    requires { ⌜ (k .fault ≡ 0) × (k .at ≤ length (now s)) × (length (now s) ≤ 16384) × (k .value ≤ 999) × (k .over ≡ 0) ⌝ }
+    ensures { λ r. ⌜ AmountIs (now (s .entry)) r (groupedGot (now (s .entry)) k) × (r .at ≤ length (now (s .entry))) ⌝ }
+{
+    let i = spaces(s, k.at);
+    if !is_at(s, i, b'@') {
+        return k;
+    }
+    let over = group_digit(s, i + 1);
+    if over == 0 {
+        return no_amount(13, i + 1);
+    }
+    AmountRead {
+        fault: 0,
+        at: i + 2,
+        value: k.value,
+        percent: k.percent,
+        over,
+    }
+}
+
+// An amount, at its number's first digit.
+fn amount(s: &[u8], i: usize) -> AmountRead
+    requires { ⌜ (i ≤ length (now s)) × (length (now s) ≤ 16384) ⌝ }
+    ensures { λ r. ⌜ AmountIs (now (s .entry)) r (amounts 0 (drop i (now (s .entry)))) × (r .at ≤ length (now (s .entry))) ⌝ }
+{
+    let k = limit(s, i);
+    if k.fault != 0 {
+        return k;
+    }
+    grouped(s, k)
 }
 
 // A count's node, behind its inner text.
 fn with_count(nodes: &mut [u8], r: PartRead, k: AmountRead) -> PartRead
-    requires { ⌜ (r .fault ≡ 0 → (0 < r .n) × (r .n < 128)) × (length (now nodes) ≡ 512) × (k .value ≤ 999) ⌝ }
+    requires { ⌜ (r .fault ≡ 0 → (0 < r .n) × (r .n < 128)) × (length (now nodes) ≡ 512) × (k .value ≤ 999) × (k .over ≤ 8) ⌝ }
     ensures { λ q. ⌜ WithNode (now (nodes .entry)) r (nodeBytes (countN (r .n - 1) (amountOf k))) q (now (nodes .exit)) ⌝ }
 {
     if r.fault != 0 {
@@ -84,7 +135,7 @@ fn with_count(nodes: &mut [u8], r: PartRead, k: AmountRead) -> PartRead
     }
     let last = (r.n - 1) as u8;
     let low = (k.value % 256) as u8;
-    let high = (k.value / 256) as u8;
+    let high = (k.value / 256 + 4 * k.over) as u8;
     put(nodes, r, count_kind(k.percent), last, low, high)
 }
 

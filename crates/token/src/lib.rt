@@ -31,13 +31,14 @@ pub struct Num {
     pub ok: bool,
 }
 
-// What reading an amount gives: the refusal's number or 0, the offset behind it or the refused one, its number, and whether it
-// is a percentage.
+// What reading an amount gives: the refusal's number or 0, the offset behind it or the refused one, its number, whether it is a
+// percentage, and its carts: 0 for the whole fleet, 1 + g for group g.
 pub struct AmountRead {
     pub fault: u32,
     pub at: usize,
     pub value: usize,
     pub percent: bool,
+    pub over: usize,
 }
 
 // `U` or `R` behind a part: its offset and its node's kind, or the sheet's length.

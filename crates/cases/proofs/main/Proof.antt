@@ -1,4 +1,4 @@
--- The measure holds for every number of data sets that three digits can name.
+-- The measure holds for every number of data sets that four digits can name.
 use native.Mathlib.Omega.{arith}
 use Prim.Native.Nat.{_-_}
 use Rattle.cases.proofs.main.Statement.{statement}
@@ -8,7 +8,7 @@ abbrev Inv-loop : tie.InvT-loop
 Inv-loop n₀ n = Unit
 
 abbrev μ-loop : tie.MeasureT-loop
-μ-loop n₀ n = 1000 - n
+μ-loop n₀ n = 10000 - n
 
 loop-holds : tie.Need-loop-holds Inv-loop μ-loop
 loop-holds c = tt

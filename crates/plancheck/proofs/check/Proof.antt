@@ -83,12 +83,9 @@ returns c =
     (sym (after-refused (λ v. v) (stages (a .floor .now) (a .rules .now)) _ _ _ (c .before .before .read .ensures .answer)
     (sym (c .before .accepts .ensures) ∙ not-is _ true (c .if1 .taken))))
 
-slice-aggregate-judge-plan : tie.Need-slice-aggregate-judge-plan
-slice-aggregate-judge-plan c = search needs
-
 judge-plan-requires : tie.Need-judge-plan-requires
 judge-plan-requires c κs =
-    let d = c .before .before .before in
+    let d = c .before .before .before .before .before in
     let h = held-range _ _ _ (read-it d) in
     (floor-it d, (h .stem, h .steps, block-it d))
 
@@ -97,17 +94,14 @@ accepts-requires-2 c κs = search needs
 
 returns-2 : tie.Need-returns-2
 returns-2 c =
-    let d = c .before .before .before .before .before .before in
+    let d = c .before .before .before .before .before .before .before .before in
     let m = c .before .before .judge-plan in
     promise d _ (stage-moves _ _ (d .before .before .read .result .floor) _ (m .result) (m .ensures)
     (sym (c .before .accepts2 .ensures) ∙ not-is _ true (c .if2 .taken)))
 
-slice-aggregate-judge-plan-2 : tie.Need-slice-aggregate-judge-plan-2
-slice-aggregate-judge-plan-2 c = search needs
-
 judge-plan-requires-2 : tie.Need-judge-plan-requires-2
 judge-plan-requires-2 c κs =
-    let d = c .before .before .before .before .before .before .before in
+    let d = c .before .before .before .before .before .before .before .before .before .before .before .before in
     (floor-it d, (held-range _ _ _ (read-it d), block-it d))
 
 accepts-requires-3 : tie.Need-accepts-requires-3
@@ -115,8 +109,8 @@ accepts-requires-3 c κs = search needs
 
 returns-3 : tie.Need-returns-3
 returns-3 c =
-    let went = c .before .before .before .before in
-    let d = c .before .before .before .before .before .before .before .before .before .before in
+    let went = c .before .before .before .before .before .before .before in
+    let d = c .before .before .before .before .before .before .before .before .before .before .before .before .before .before .before in
     let m = went .before .before .judge-plan in
     let n = c .before .before .judge-plan2 in
     promise d _ (stage-conflict _ _ (d .before .before .read .result .floor) _ (m .result) (m .ensures) (moved went) (n .result) (n .ensures)
@@ -131,21 +125,17 @@ accepts-requires-4 c κs = search needs
 returns-4 : tie.Need-returns-4
 returns-4 c =
     let clear = c .before .before .before in
-    let went = c .before .before .before .before .before .before .before in
-    let d = c .before .before .before .before .before .before .before .before .before .before .before .before .before in
+    let went = c .before .before .before .before .before .before .before .before .before .before in
+    let d = c .before .before .before .before .before .before .before .before .before .before .before .before .before .before .before .before .before .before in
     let m = went .before .before .judge-plan in
     let n = clear .before .before .judge-plan2 in
     let r = c .before .before .read2 in
     promise d _ (stage-sheet _ _ (d .before .before .read .result .floor) _ (m .result) (m .ensures) (moved went) (n .result) (n .ensures) (free clear)
     (r .result) (r .ensures .answer) (sym (c .before .accepts4 .ensures) ∙ not-is _ true (c .if4 .taken)))
 
-slice-aggregate-judge-clauses : tie.Need-slice-aggregate-judge-clauses
-slice-aggregate-judge-clauses c =
-    sym (block-it (c .before .before .before .before .before .before .before .before .before .before .before .before .before .before))
-
 judge-clauses-requires : tie.Need-judge-clauses-requires
 judge-clauses-requires c κs =
-    let d = c .before .before .before .before .before .before .before .before .before .before .before .before .before .before in
+    let d = c .before .before .before .before .before .before .before .before .before .before .before .before .before .before .before .before .before .before .before .before .before .before in
     let w = read-it d in
     let r = d .before .before .read .result in
     let held = heldNumbers (r .floor .carts) (r .plan .head) (r .plan .block) in
@@ -155,16 +145,16 @@ judge-clauses-requires c κs =
       floor-it d,
       (
         (held-range _ _ _ w, block-it d),
-        (places, sym (c .before .before .before .read2 .ensures .answer) ∙ accepted-is _ (readable (c .before))),
+        (places, sym (c .before .before .before .before .before .before .read2 .ensures .answer) ∙ accepted-is _ (readable (c .before .before .before .before))),
       ),
     )
 
 returns-5 : tie.Need-returns-5
 returns-5 c =
-    let sheet = c .before .before in
-    let clear = c .before .before .before .before .before in
-    let went = c .before .before .before .before .before .before .before .before .before in
-    let d = c .before .before .before .before .before .before .before .before .before .before .before .before .before .before .before in
+    let sheet = c .before .before .before .before .before in
+    let clear = c .before .before .before .before .before .before .before .before in
+    let went = c .before .before .before .before .before .before .before .before .before .before .before .before .before .before .before in
+    let d = c .before .before .before .before .before .before .before .before .before .before .before .before .before .before .before .before .before .before .before .before .before .before .before in
     let m = went .before .before .judge-plan in
     let n = clear .before .before .judge-plan2 in
     let r = sheet .before .before .read2 in
@@ -178,17 +168,14 @@ check-spec =
     read-requires
     accepts-requires
     returns
-    slice-aggregate-judge-plan
     judge-plan-requires
     accepts-requires-2
     returns-2
-    slice-aggregate-judge-plan-2
     judge-plan-requires-2
     accepts-requires-3
     returns-3
     read-requires-2
     accepts-requires-4
     returns-4
-    slice-aggregate-judge-clauses
     judge-clauses-requires
     returns-5)

@@ -2,6 +2,7 @@ use Prim.Native.Nat.{ℕ, _+_, _≤_, _<_}
 use native.Mathlib.Omega.{arith}
 use mathlib.Core.Path.{_≡_, refl, sym, subst, _∙_}
 use mathlib.Core.Bool.{not}
+use mathlib.Core.List.{[]}
 use mathlib.Core.Logic.{_⊎_, inl, ⊎-elim}
 use native.Mathlib.Nat.{le-refl}
 use lib.ListN.{getD}
@@ -18,7 +19,7 @@ use Rattle.drift.specs.Lending.{still-lent}
 use Rattle.drift.specs.Tallying.{still-tallied}
 use Rattle.drift.specs.Needing.{operand-nodes}
 use Rattle.drift.specs.ClauseRows.{top-judged, neg-judged, one-judged, two-judged}
-use Rattle.drift.specs.Gathering.{alone-gathered, in-place}
+use Rattle.drift.specs.Gathering.{no-counts, alone-gathered, in-place}
 use borrow.Fn.Kinds.{In}
 use borrow.Fn.PlainCycle.{Measures, is, falls, and}
 use Rattle.drift.proofs.clauses.clause_judged.Reads as clause-judged
@@ -110,11 +111,11 @@ clause-judged-returns-2 t c =
         s .pre .1 .1 .1 .1,
       ),
       λ bears shown.
-          let P = rowsOn (g .carts) (g .h) (g .l) bears in
+          let P = rowsOn (g .carts) (g .h) (g .l) bears (a .bits .now) in
           top-judged P (g .d) (a .nodes .now) (record { some = r .some; lap = r .lap }) (a .p) (a .k) _ _
           (c .before .before .before .before .kind-at .ensures) refl
           (a .t .now) (c .alone .result) (c .before .before .if2 .taken) (rw (alone .row-is) (c .before .constant .ensures))
-          (alone-gathered P (r .few) (g .marks) _ (a .t .now) _ (lent .constants) alone),
+          (alone-gathered P (r .few) [] (no-counts P) (g .marks) _ (a .t .now) _ alone),
     )
 
 ---- One operand.
@@ -192,7 +193,7 @@ clause-judged-returns-3 t c =
     let turned : under (oneOf (kind .result)) (a .p) ≡ not (a .p) = (rw e) in
     rw (c .one-judged .ensures .0 e) (
       judged .0,
-      λ bears shown. neg-judged (rowsOn (g .carts) (g .h) (g .l) bears) (g .d) (a .nodes .now) (record { some = r .some; lap = r .lap }) (a .p) (a .k) _ _
+      λ bears shown. neg-judged (rowsOn (g .carts) (g .h) (g .l) bears (a .bits .now)) (g .d) (a .nodes .now) (record { some = r .some; lap = r .lap }) (a .p) (a .k) _ _
           (kind .ensures)
           (x .ensures) _ _ (nodes .ordered) more less e (rw (sym turned, sym (flag .ensures)) (judged .1 bears shown)),
     ))
@@ -203,12 +204,12 @@ clause-judged-returns-3 t c =
     let ends = none-ends (g .marks) (g .h) in (
       (judged .0 .0, judged .0 .1, inl (omega (arith, alone .at-none, ends)), omega (arith, alone .at-none, ends, constants .room), judged .0 .4),
       λ bears shown.
-          let P = rowsOn (g .carts) (g .h) (g .l) bears in
+          let P = rowsOn (g .carts) (g .h) (g .l) bears (a .bits .now) in
           one-judged P (g .d) (a .nodes .now) (record { some = r .some; lap = r .lap }) (a .p) (a .k) _ _ (kind .ensures) (x .ensures) _ _
           (nodes .ordered) more less
           (first .clause-judged .result .row) n
           (rw (sym (under-other (kind .result) (a .p) n), sym (flag .ensures)) (judged .1 bears shown .rows)) (rw (alone .row-is) (made .1))
-          (alone-gathered P (r .few) (g .marks) _ _ _ constants alone),
+          (alone-gathered P (r .few) [] (no-counts P) (g .marks) _ _ _ alone),
     ))
     (lt-or-le (kind .result) 3)
 
@@ -290,8 +291,9 @@ clause-judged-two-judged-requires t c κs =
           (
             left .rows _ (le-refl _) .low,
             right .rows _ (le-refl _) .low,
-            omega (arith, left .counts _ (le-refl _) .sum),
-            omega (arith, right .counts _ (le-refl _) .sum),
+            left .counts _ (le-refl _) .few,
+            right .counts _ (le-refl _) .few,
+            left .counts _ (le-refl _) .low,
           ),
         ),
       ),
@@ -323,7 +325,7 @@ clause-judged-returns-4 t c =
     let both = kept-then (a .at) _ (a .t .now) _ _ (omega arith) (one .0 .0) (two .0 .0) in (
       (kept-then (a .at) (a .at) (a .t .now) _ _ (le-refl (a .at)) both (made .0 .0), made .0 .1, made .0 .2, made .0 .3, tallied),
       λ bears shown.
-          let P = rowsOn (g .carts) (g .h) (g .l) bears in
+          let P = rowsOn (g .carts) (g .h) (g .l) bears (a .bits .now) in
           let proper : Proper P = record { some = r .some; lap = r .lap } in
           let left = one .1 bears shown in
           let right = two .1 bears (kept-shown (g .marks) (g .h) (a .t .now) _ kept (g .carts) bears shown) in

@@ -31,7 +31,7 @@ returns c =
     let r = s .pre .0 .range in
     let judged = c .before .before .clause-judged .ensures in (
       (judged .0 .0, judged .0 .1, judged .0 .4),
-      λ bears shown. part-row (rowsOn (g .carts) (g .h) (g .l) bears) (record { some = r .some; lap = r .lap }) (g .d) (s .args .nodes .now) (s .args .p)
+      λ bears shown. part-row (rowsOn (g .carts) (g .h) (g .l) bears (s .args .bits .now)) (record { some = r .some; lap = r .lap }) (g .d) (s .args .nodes .now) (s .args .p)
           (s .args .k) _
           (judged .1 bears shown .rows),
     )

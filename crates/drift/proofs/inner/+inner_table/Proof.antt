@@ -75,8 +75,8 @@ inner-table-returns t c =
     let e = c .leaf-at .ensures in
     let ends = leaf-ends (g .marks) (g .h) (nodeAt (a .nodes .now) (a .k)) in (
       (kept-all (a .at) (a .t .now), inl (omega (arith, e, ends)), omega (arith, e, ends, s .pre .1 .0 .1 .room)),
-      λ bears shown. subst (InnerTable (rowsOn (g .carts) (g .h) (g .l) bears) (a .nodes .now) (a .k) (a .t .now)) (sym e)
-          (leaf-table (rowsOn (g .carts) (g .h) (g .l) bears) (record { some = r .some; lap = r .lap }) (r .few) (a .nodes .now) (a .k) _
+      λ bears b shown. subst (InnerTable (rowsOn (g .carts) (g .h) (g .l) bears b) (a .nodes .now) (a .k) (a .t .now)) (sym e)
+          (leaf-table (rowsOn (g .carts) (g .h) (g .l) bears b) (record { some = r .some; lap = r .lap }) (r .few) (a .nodes .now) (a .k) _
           (c .before .before .before .kind-at .ensures) (s .pre .1 .1 .0 .0)
           (g .marks) (a .t .now) (s .pre .1 .0 .1) shown (sym (c .before .before .is-leaf .ensures) ∙ c .before .if1 .taken)),
     )
@@ -172,10 +172,10 @@ inner-table-returns-2 t c =
           table .kept,
         ),
       ),
-      λ bears shown. one-made (rowsOn (g .carts) (g .h) (g .l) bears) (record { some = r .some; lap = r .lap }) (r .few) (a .nodes .now) (a .k) _
+      λ bears b shown. one-made (rowsOn (g .carts) (g .h) (g .l) bears b) (record { some = r .some; lap = r .lap }) (r .few) (a .nodes .now) (a .k) _
           (c .before .before .before .before .before .before .before .before .before .before .before .before .kind-at .ensures) (s .pre .1 .1 .0 .0) _ _ _
           _ from (c .before .before .before .before .before .before .before .first-at .ensures)
-          (inner .1 bears shown) (x .0) (c .before .before .before .before .before .before .before .before .before .if2 .taken) table,
+          (inner .1 bears b shown) (x .0) (c .before .before .before .before .before .before .before .before .before .if2 .taken) table,
     )
 
 ---- Two operands.
@@ -289,13 +289,13 @@ inner-table-returns-3 t c =
         subst (Placed (g .marks) (g .h) (a .at)) (sym e) placed,
         omega (arith, e, placed-ends (g .marks) (g .h) (a .at) (room .0 .0) _ placed, pair, room .1, both .size, table .kept),
       ),
-      λ bears shown.
-          let P = rowsOn (g .carts) (g .h) (g .l) bears in
+      λ bears b shown.
+          let P = rowsOn (g .carts) (g .h) (g .l) bears b in
           let shows = kept-shown (g .marks) (g .h) (a .t .now) _ kept (g .carts) bears shown in
           two-made P (record { some = r .some; lap = r .lap }) (r .few) (a .nodes .now) (a .k) _ (kind .ensures) (s .pre .1 .1 .0 .0) _ _ _
           (kinds .0) (kinds .1) (order .in-turn .result .swapped) _ _ (first .result) _ (turn .first-is) (turn .second-is)
-          (table-kept P (a .nodes .now) _ _ (first .result) _ _ (second .ensures .0 .0) ends (first .ensures .1 bears shown))
-          (second .ensures .1 bears shows) table,
+          (table-kept P (a .nodes .now) _ _ (first .result) _ _ (second .ensures .0 .0) ends (first .ensures .1 bears b shown))
+          (second .ensures .1 bears b shows) table,
     )
 
 pub +inner-table-spec : {M : Type 1} → statement M

@@ -51,7 +51,7 @@ returns c =
     let few = s .pre .0 .range .steps in (
       m .0,
       (
-        λ bears shown. globally-step (rowsOn (g .carts) (g .h) (g .l) bears) (g .d) (s .args .nodes .now) (s .args .k) (s .pre .1 .0 .ordered) e
+        λ bears shown. globally-step (rowsOn (g .carts) (g .h) (g .l) bears (s .args .bits .now)) (g .d) (s .args .nodes .now) (s .args .k) (s .pre .1 .0 .ordered) e
             (c .lowest-off .result) (x .result) (x .ensures)
             (λ n q. c .lowest-off .ensures .0 ∙ lowest-agrees _ _ (g .h) 0 (g .h) (m .1 bears shown n q .at) (omega arith)),
         omega (arith, c .lowest-off .ensures .1),
@@ -64,7 +64,7 @@ returns-2 c =
     let g = s .args .g in (
       (kept-all _ (s .args .t .now), s .pre .0 .windows, s .pre .1 .1),
       (
-        λ bears shown. other-step (rowsOn (g .carts) (g .h) (g .l) bears) (g .d) (s .args .nodes .now) (s .args .k)
+        λ bears shown. other-step (rowsOn (g .carts) (g .h) (g .l) bears (s .args .bits .now)) (g .d) (s .args .nodes .now) (s .args .k)
             (λ e. c .if1 .left (c .before .kind-at .ensures ∙ e)),
         omega arith,
       ),

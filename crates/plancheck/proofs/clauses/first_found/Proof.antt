@@ -58,7 +58,7 @@ returns-2 c =
     let g = a .g in
     let r = judged .clause-row .ensures in (
       r .0,
-      λ bears shown m q. clause-kept (rowsOn (g .carts) (g .h) (g .l) bears) (g .d) (a .n) (clauseTree (a .nodes .now) m (a .k)) (judged .clause-row .result)
+      λ bears shown m q. clause-kept (rowsOn (g .carts) (g .h) (g .l) bears (a .bits .now)) (g .d) (a .n) (clauseTree (a .nodes .now) m (a .k)) (judged .clause-row .result)
           (omega (arith, s .pre .0 .range .lap)) (r .1 bears shown m q) (c .if2 .taken)
           ∙ sym (goes-on (a .found) _ (sym (begun .before .accepts .ensures) ∙ not-is _ false (begun .if1 .left))),
     )
@@ -101,7 +101,7 @@ returns-3 c =
     let f = c .before .before .before .failing-step in (
       (kept-then _ _ (a .t .now) _ _ (le-refl _) (r .0 .0) (f .ensures .0 .0), f .ensures .0 .1, f .ensures .0 .2),
       λ bears shown m q. ap AboutRules (c .refuse .ensures)
-          ∙ clause-fails (rowsOn (g .carts) (g .h) (g .l) bears) (g .d) (a .n) (clauseTree (a .nodes .now) m (a .k)) (judged .clause-row .result)
+          ∙ clause-fails (rowsOn (g .carts) (g .h) (g .l) bears (a .bits .now)) (g .d) (a .n) (clauseTree (a .nodes .now) m (a .k)) (judged .clause-row .result)
           (omega (arith, s .pre .0 .range .lap)) (r .1 bears shown m q) (tested .if2 .left) (f .result)
           (f .ensures .1 .0 bears (kept-shown (g .marks) (g .h) (a .t .now) _ (r .0 .0) (g .carts) bears shown) m q)
           ∙ sym (goes-on (a .found) _ (sym (begun .before .accepts .ensures) ∙ not-is _ false (begun .if1 .left))),

@@ -9,7 +9,7 @@ use lib.Bits.{bitAnd}
 use lib.Dec.{ltb}
 use lib.ListN.{getD, length, length-set}
 use Rattle.row.specs.Round.{pick}
-use Rattle.cltl.specs.Rules.{every}
+use Rattle.cltl.specs.Counting.{every}
 use Rattle.cltl.specs.Running.{lapCount}
 use Rattle.cltl.specs.AboveDrift.{lap-above}
 use Rattle.mask.specs.Mask.{on}

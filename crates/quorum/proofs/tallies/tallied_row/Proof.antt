@@ -1,6 +1,6 @@
 use mathlib.Core.Path.{_∙_}
 use native.Mathlib.Omega.{arith}
-use Rattle.quorum.specs.Counted.{carts-alone, here}
+use Rattle.quorum.specs.Counted.{in-carts, carts-alone, here}
 use Rattle.quorum.specs.Tallying.{at-most, with-all, without-all}
 use borrow.Author.Needs.{needs}
 use Rattle.quorum.proofs.tallies.tallied_row.Statement.{statement}
@@ -16,14 +16,14 @@ all-row-requires : tie.Need-all-row-requires
 all-row-requires c κs =
     let s = c .before .before .before .before .before .before in
     let a = s .args in
-    let text = c .before .unroll .ensures in
+    let text = in-carts (a .h) (a .carts) (a .who) _ _ _ (s .pre .0 .1) (s .pre .0 .2) (c .before .unroll .ensures) in
     (text .kept ∙ s .pre .1 .1 .0, (omega arith, (s .pre .1 .1 .1 .1, carts-alone (a .h) (a .carts) _ _ _ text)))
 
 returns : tie.Need-returns
 returns c =
     let s = c .before .before .before .before .before .before .before in
     let a = s .args in
-    let text = c .before .before .unroll .ensures in
+    let text = in-carts (a .h) (a .carts) (a .who) _ _ _ (s .pre .0 .1) (s .pre .0 .2) (c .before .before .unroll .ensures) in
     let many = c .before .before .before .before .before .enough-row in (
       text .kept ∙ s .pre .1 .1 .0,
       λ l d told. with-all (a .h) l (a .carts) d _ (a .at) (a .tallies .now) told (a .m) (many .result)

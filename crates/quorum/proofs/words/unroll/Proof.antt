@@ -1,5 +1,5 @@
 use Prim.Native.Nat.{ℕ, _+_, _-_, _≤_, _<_}
-use mathlib.Core.Path.{_≡_, subst}
+use mathlib.Core.Path.{_≡_, refl, subst}
 use mathlib.Core.Bool.{Bool}
 use mathlib.Core.List.{List}
 use native.Mathlib.Omega.{arith}
@@ -7,31 +7,28 @@ use lib.ListN.{getD, length}
 use Rattle.mask.specs.Mask.{signed}
 use Rattle.table.specs.Table.{told, Stored}
 use Rattle.table.specs.Storing.{begun, upward}
-use Rattle.quorum.specs.Words.{CartsAt}
-use Rattle.quorum.proofs.Unrolling.{carts-at}
+use Rattle.quorum.specs.Words.{Of}
+use Rattle.quorum.proofs.Unrolling.{carts-of}
 use Rattle.quorum.proofs.words.unroll.Statement.{statement}
 use Rattle.quorum.proofs.words.unroll.Tie as tie
 
 -- the word of each step
 abbrev Each : List ℕ → ℕ → Bool → ℕ → ℕ → ℕ → Type 0
-Each t at p carts = CartsAt carts (λ i s. signed p (told t at i s))
+Each t at p who = Of who (λ i s. signed p (told t at i s))
 
 abbrev Inv-loop : tie.InvT-loop
-Inv-loop t at p carts h w₀ full flip s₀ w s = (s ≤ h) × Stored (Each t at p carts) 0 0 s w₀ w
+Inv-loop t at p who h w₀ flip s₀ w s = (s ≤ h) × Stored (Each t at p who) 0 0 s w₀ w
 
 abbrev μ-loop : tie.MeasureT-loop
-μ-loop t at p carts h w₀ full flip s₀ w s = h - s
-
-lowest-requires : tie.Need-lowest-requires Inv-loop μ-loop
-lowest-requires c κs = omega arith
+μ-loop t at p who h w₀ flip s₀ w s = h - s
 
 flip-requires : tie.Need-flip-requires Inv-loop μ-loop
 flip-requires c κs = tt
 
 loop-holds : tie.Need-loop-holds Inv-loop μ-loop
 loop-holds c =
-    let a = c .before .before .before .args in
-    (omega arith, begun (Each (a .t .now) (a .at) (a .p) (a .carts)) 0 0 (a .w .now))
+    let a = c .before .before .args in
+    (omega arith, begun (Each (a .t .now) (a .at) (a .p) (a .who)) 0 0 (a .w .now))
 
 add-w : tie.Need-add-w Inv-loop μ-loop
 add-w c = omega arith
@@ -56,21 +53,18 @@ loop-less c = omega arith
 
 loop-again : tie.Need-loop-again Inv-loop μ-loop
 loop-again c =
-    let a = c .before .before .before .before .before .before .args in
+    let a = c .before .before .before .before .before .args in
     let v = c .before .before .loop in
     let inside : v .s < length (v .w) = omega (arith, v .inv .1 .kept) in
-    let full = c .before .before .before .before .lowest in
-    let word =
-    carts-at (a .carts) (getD (a .t .now) (a .at + v .s) 0) _ (full .result) (a .p) (omega arith) (omega (arith, full .ensures))
-    (c .before .before .before .flip .ensures) in
-    (omega arith, upward (Each (a .t .now) (a .at) (a .p) (a .carts)) 0 0 (v .s) _ _ (a .w .now) (v .w) (v .inv .1) (omega arith) inside (omega arith) word)
+    let word = carts-of (a .who) (getD (a .t .now) (a .at + v .s) 0) _ (v .s) (a .p) _ (λ i. refl) (c .before .before .before .flip .ensures) in
+    (omega arith, upward (Each (a .t .now) (a .at) (a .p) (a .who)) 0 0 (v .s) _ _ (a .w .now) (v .w) (v .inv .1) (omega arith) inside (omega arith) word)
 
 returns : tie.Need-returns Inv-loop μ-loop
 returns c =
-    let a = c .before .before .before .before .before .args in
+    let a = c .before .before .before .before .args in
     let v = c .before .loop in
     let e : v .s ≡ a .h = omega arith in
-    subst (λ (n : ℕ). Stored (Each (a .t .now) (a .at) (a .p) (a .carts)) 0 0 n (a .w .now) (v .w)) e (v .inv .1)
+    subst (λ (n : ℕ). Stored (Each (a .t .now) (a .at) (a .p) (a .who)) 0 0 n (a .w .now) (v .w)) e (v .inv .1)
 
 pub unroll-spec : {M : Type 1} → statement M
 unroll-spec =
@@ -78,7 +72,6 @@ unroll-spec =
     (tie.spec
     Inv-loop
     μ-loop
-    lowest-requires
     flip-requires
     loop-holds
     add-w

@@ -51,7 +51,10 @@ with-count-requires : tie.Need-with-count-requires
 with-count-requires c κs =
     let a = c .before .before .before .before .before .before .before .before .before .before .before .before .args in
     let k = c .before .before .before .before .before .amount in
-    let e = c .before .before .part-at .ensures in (
+    let e = c .before .before .part-at .ensures in
+    let low =
+    amount-low (a .s .now) (k .result) (amounts 0 (drop (c .before .before .before .before .before .before .spaces .result) (a .s .now))) (k .ensures .0)
+    (c .before .before .before .if2 .left) in (
       λ f.
           let y = c .before .expect2 .ensures .kept f in
           let z =
@@ -61,8 +64,8 @@ with-count-requires c κs =
           let m = ap (λ (x : PartRead). x .n) e in
           (omega (arith, y .1, z .1, m, w .0), omega (arith, y .1, z .1, m, w .1)),
       c .before .before .before .before .before .before .before .before .before .before .before .before .pre .3,
-      amount-low (a .s .now) (k .result) (amounts 0 (drop (c .before .before .before .before .before .before .spaces .result) (a .s .now))) (k .ensures .0)
-          (c .before .before .before .if2 .left),
+      low .0,
+      low .1,
     )
 
 same-length : tie.Need-same-length
