@@ -113,24 +113,40 @@ def ors(number):
     return f"!({joined(negated, 28)})".replace("|", "&")
 
 
+def grouped(number):
+    """As ors, with counts over groups: all of an or over one group, so that they are joined, or each over another, and a percentage among them."""
+    over = (lambda k: number % 8) if number % 2 == 0 else (lambda k: k % 8)
+    counts = [f"[m{(k * (number + 1)) % 32},{1 + (k % 8 == 0)}@{over(k)}]" for k in range(41)]
+    counts += [f"[m{number},50%@{over(41)}]", f"[true,1@{over(42)}]"]
+    if number % 4 < 2:
+        return joined(counts, 31)
+    return "G (" + "|".join(counts[1:]) + ")"
+
+
 def untils(operators):
     """So many U over counts, the last of which is always true."""
     return " U ".join([f"[m{k % 32},2]" for k in range(operators)] + ["[true,32]"])
 
+
+# Eight groups of c's 32 carts, the last of them all.
+GROUPS = [0x0000FFFF, 0xFFFF0000, 0x55555555, 0x0F0F0F0F, 0x7FFFFFFF, 0x80000001, 0x00000FF0, 0xFFFFFFFF]
 
 # Clauses for the floor and plan of c.
 SHEETS = {
     "chain": [CHAIN],
     "chain_inside": [CHAIN_INSIDE],
     "ors": [ors(number) for number in range(32)],
+    "groups": [grouped(number) for number in range(32)],
     **{f"untils_{n}": [untils(n)] * 32 for n in (1, 8, 16, 31)},
 }
 
 
-def write_sheet(folder, clauses):
+def write_sheet(folder, clauses, groups=()):
     folder.mkdir(parents=True, exist_ok=True)
     for file in ("floor", "plan"):
         shutil.copy(pathlib.Path("bench/inputs/c") / file, folder / file)
+    with (folder / "floor").open("ab") as file:
+        file.write(b"".join(record(7, group.to_bytes(4, "little")) for group in groups))
     (folder / "rules").write_text("".join(clause + "\n" for clause in clauses))
 
 
@@ -147,7 +163,7 @@ def main():
         for drift in (0, 1, 4, 16):
             write_drift(pathlib.Path(sys.argv[2]) / f"{name}_{drift}", pathlib.Path("bench/inputs") / name, drift)
     for name, clauses in SHEETS.items():
-        write_sheet(pathlib.Path(sys.argv[1]) / name, clauses)
+        write_sheet(pathlib.Path(sys.argv[1]) / name, clauses, GROUPS if name == "groups" else ())
     for name, (narrow, place) in NARROW.items():
         write_narrow(pathlib.Path(sys.argv[1]) / name, narrow, place)
     for name, sizes in SIZES.items():

@@ -7,12 +7,14 @@ def record(kind, body):
     return len(body).to_bytes(2, "little") + kind.to_bytes(2, "little") + bytes(body)
 
 
-def floor(places, lanes, carts, narrow=()):
-    """places: the set of mark numbers of each; lanes: (from, to, classes); carts: (class, start); narrow: places that hold one cart."""
+def floor(places, lanes, carts, narrow=(), groups=()):
+    """places: the set of mark numbers of each; lanes: (from, to, classes); carts: (class, start); narrow: places that hold one cart; groups: the set
+    of cart numbers of each."""
     out = b"".join(record(1, sum(1 << m for m in marks).to_bytes(4, "little")) for marks in places)
     out += b"".join(record(2, lane) for lane in lanes)
     out += b"".join(record(3, cart) for cart in carts)
-    return out + b"".join(record(6, [place]) for place in narrow)
+    out += b"".join(record(6, [place]) for place in narrow)
+    return out + b"".join(record(7, sum(1 << n for n in carts).to_bytes(4, "little")) for carts in groups)
 
 
 def plan(h, l, d, rows):
@@ -103,6 +105,30 @@ EXAMPLES = {
             "[m1,2] | [m2,2]",  # at the start one of the two tables has two carts,
             "G ([m1,2] | [m2,2])",  # and always
             "[m1,2] U [m2,2]",  # two are at m1 until two are at m2: no moment is between the two
+        ),
+    ),
+    # Tasks for certain robots, as in section VI B of source document 002: two of four carts have a camera, for the hides on the photo table (m1), and
+    # all but the leader, which stays at the desk (m2), report there. The two with a camera take turns; a cart may be one step ahead of another.
+    "two-groups": (
+        floor(
+            places=[{0}, {1}, {2}],
+            lanes=[(0, 1, EVERY), (1, 0, EVERY), (0, 2, EVERY), (2, 0, EVERY)],
+            carts=[(0, 1), (0, 1), (0, 0), (0, 2)],
+            groups=[{0, 1}, {0, 1, 2}],
+        ),
+        plan(
+            8, 0, 1,
+            [
+                [1, 1, 1, 1, 1, 0, 2, 0],
+                [1, 0, 2, 0, 1, 1, 1, 1],
+                [0, 0, 0, 0, 2, 0, 1, 0],
+                [2, 2, 2, 2, 2, 2, 2, 2],
+            ],
+        ),
+        rules(
+            "G [m1,1@0]",  # a cart with a camera is always at the photo table
+            "[G F m2,100%@1]",  # each of the others reports to the leader again and again,
+            "G ![m2,2@1]",  # and never two of them at a time; with the leader two are at the desk
         ),
     ),
 }

@@ -66,13 +66,16 @@ struct cartplan_verdict cartplan_check_moves(const uint8_t *floor, size_t floor_
 /* Checks a plan. The refusals of cartplan_check_moves come first; then, about the plan, 20 (cart, step) if in some run within
  * the drift two carts are in one narrow place at a moment, or two are exchanged between two narrow places in one tick: the lowest
  * cart in any such conflict, and the step of its earliest counter in one, for an exchange the counter before the tick. Then the
- * refusals of cartplan_read_rules; then, about the rules: with a drift above 0, 16 (clause, 0) for the lowest clause with X
- * outside a count; then 17 (clause, step) for the lowest clause that is not true, the step being the lowest at which its body
- * fails if its outermost operator is G, else 0. A percentage is of the floor's carts, to the nearest cart, a half going up; less
- * than half a cart is none, and such a count is always true. With drift, once negations are driven
- * inward, an or whose sides, through nested ors, are all counts is also true at step s if more carts than the sum of
- * (threshold - 1) satisfy, at each of counters s to s + d, one of its inner texts, not always the same one; and a U b asks, where
- * b is not yet true, for a or b by this rule. */
+ * refusals of cartplan_read_rules; then, about the rules: 21 (clause, group) for the lowest clause that names a group the floor
+ * lacks, and the first such group in its text; with a drift above 0, 16 (clause, 0) for the lowest clause with X outside a count;
+ * then 17 (clause, step) for the lowest clause that is not true, the step being the lowest at which its body fails if its
+ * outermost operator is G, else 0. A count that ends in @0 to @7 counts the carts of that group alone, any other all carts; a
+ * percentage and a negation go by how many these are. A percentage is taken to the nearest cart, a half going up; less than half
+ * a cart is none, and such a count is always true. With drift, a count with threshold 1 is also true at step s if all carts of
+ * the floor satisfy it at s itself, so over a group only if that is all carts. With drift, once negations are driven inward, an
+ * or whose sides, through nested ors, are all counts over the same carts is also true at step s if more of these carts than the
+ * sum of (threshold - 1) satisfy, at each of counters s to s + d, one of its inner texts, not always the same one; and a U b asks,
+ * where b is not yet true, for a or b by this rule. */
 struct cartplan_verdict cartplan_check(const uint8_t *floor, size_t floor_len,
                                        const uint8_t *plan, size_t plan_len,
                                        const uint8_t *rules, size_t rules_len);

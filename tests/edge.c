@@ -1,7 +1,7 @@
 /* The C interface from C: document 01's floor and plan written, compared with bytes written out by hand and read back, its
  * moves checked, the plan checked, moved on and a row replaced; a sheet read and a clause picked; percentages of carts; 64 steps, 32
- * carts, many lanes, marks that no place bears; narrow places written, read and met; empty buffers as null pointers; room one byte
- * short; a refusal of each function. */
+ * carts, many lanes, marks that no place bears; narrow places written, read and met; groups written, read and counted; empty buffers
+ * as null pointers; room one byte short; a refusal of each function. */
 #include <stdio.h>
 #include <string.h>
 
@@ -74,7 +74,7 @@ static int untouched(const uint8_t *buffer, size_t from)
 static struct cartplan_verdict write_floor(uint8_t *out, size_t room)
 {
     memset(out, FILL, ROOM);
-    return cartplan_write_floor(places, 2, lanes, sizeof lanes, carts, sizeof carts, NULL, 0, out, room);
+    return cartplan_write_floor(places, 2, lanes, sizeof lanes, carts, sizeof carts, NULL, 0, NULL, 0, out, room);
 }
 
 static struct cartplan_verdict write_plan(uint8_t *out, size_t room)
@@ -252,7 +252,7 @@ static struct cartplan_verdict check_five(size_t on_1, const char *rules)
         memcpy(plan + 10 + 5 * n, row, sizeof row);
         starts[2 * n + 1] = n < on_1;
     }
-    check_verdict(cartplan_write_floor(places, 2, NULL, 0, starts, sizeof starts, NULL, 0, floor, ROOM), 0, 0, 46, "five carts");
+    check_verdict(cartplan_write_floor(places, 2, NULL, 0, starts, sizeof starts, NULL, 0, NULL, 0, floor, ROOM), 0, 0, 46, "five carts");
     return cartplan_check(floor, 46, plan, sizeof plan, (const uint8_t *)rules, strlen(rules));
 }
 
@@ -326,7 +326,7 @@ static void check_many_carts(void)
     for (size_t n = 0; n < 32; n++)
         for (size_t s = 0; s < 64; s++)
             steps[64 * n + s] = s >= 32 + n;
-    check_verdict(cartplan_write_floor(places, 2, lanes, sizeof lanes, starts, 64, NULL, 0, floor, sizeof floor), 0, 0, 236, "32 carts");
+    check_verdict(cartplan_write_floor(places, 2, lanes, sizeof lanes, starts, 64, NULL, 0, NULL, 0, floor, sizeof floor), 0, 0, 236, "32 carts");
     check_verdict(cartplan_write_plan(floor, 236, 64, 63, 16, steps, 2048, plan, sizeof plan), 0, 0, sizeof plan, "their plan");
     check_verdict(cartplan_check(floor, 236, plan, sizeof plan, all, sizeof all - 1), 0, 0, 0, "32 carts in turn");
     check_numbers(cartplan_check(floor, 236, plan, sizeof plan, last, sizeof last - 1), 3, 17, 0, 47, "the last one within drift 16");
@@ -343,7 +343,7 @@ static void check_many_lanes(size_t count)
 
     for (size_t k = 0; k < count; k++)
         memcpy(many + 3 * k, (const uint8_t[3]){0, 1, k + 1 == count ? 1 : 254}, 3);
-    check_verdict(cartplan_write_floor(places, 2, many, 3 * count, carts, sizeof carts, NULL, 0, floor, sizeof floor), 0, 0, (uint32_t)len,
+    check_verdict(cartplan_write_floor(places, 2, many, 3 * count, carts, sizeof carts, NULL, 0, NULL, 0, floor, sizeof floor), 0, 0, (uint32_t)len,
                   "many lanes");
     memcpy(plan, plan_bytes, PLAN_LEN);
     plan[6] = 3; /* the lap is the last step */
@@ -367,7 +367,7 @@ static struct cartplan_verdict check_marks(uint32_t marks, const char *rules)
     const uint32_t own[2] = {marks, 0};
     uint8_t floor[FLOOR_LEN];
 
-    check_verdict(cartplan_write_floor(own, 2, lanes, sizeof lanes, carts, sizeof carts, NULL, 0, floor, FLOOR_LEN), 0, 0, FLOOR_LEN, "marks");
+    check_verdict(cartplan_write_floor(own, 2, lanes, sizeof lanes, carts, sizeof carts, NULL, 0, NULL, 0, floor, FLOOR_LEN), 0, 0, FLOOR_LEN, "marks");
     return cartplan_check(floor, FLOOR_LEN, plan_bytes, PLAN_LEN, (const uint8_t *)rules, strlen(rules));
 }
 
@@ -390,7 +390,7 @@ static const uint8_t narrow_bytes[15] = {1, 0, 6, 0, 1, 1, 0, 6, 0, 0, 1, 0, 6, 
 static struct cartplan_verdict write_narrow(size_t count, uint8_t *out, size_t room)
 {
     memset(out, FILL, ROOM);
-    return cartplan_write_floor(places, 2, lanes, sizeof lanes, carts, sizeof carts, narrow, count, out, room);
+    return cartplan_write_floor(places, 2, lanes, sizeof lanes, carts, sizeof carts, narrow, count, NULL, 0, out, room);
 }
 
 static void check_narrow_written(void)
@@ -399,8 +399,8 @@ static void check_narrow_written(void)
     uint8_t out[ROOM];
 
     check_verdict(write_narrow(3, out, NARROW_LEN - 1), 1, 18, NARROW_LEN, "narrow places, one byte short");
-    check_verdict(cartplan_write_floor(places, 2, lanes, 12, carts, 4, absent, 2, out, ROOM), 1, 6, 61, "absent narrow place");
-    check_verdict(cartplan_write_floor(places, 2, NULL, 0, NULL, 0, narrow, 1, out, ROOM), 1, 7, 21, "a narrow place and no cart");
+    check_verdict(cartplan_write_floor(places, 2, lanes, 12, carts, 4, absent, 2, NULL, 0, out, ROOM), 1, 6, 61, "absent narrow place");
+    check_verdict(cartplan_write_floor(places, 2, NULL, 0, NULL, 0, narrow, 1, NULL, 0, out, ROOM), 1, 7, 21, "a narrow place and no cart");
     check(untouched(out, 0), "no byte of refused narrow places");
     check_verdict(write_narrow(3, out, NARROW_LEN), 0, 0, NARROW_LEN, "narrow places, just room");
     check(memcmp(out, floor_bytes, FLOOR_LEN) == 0, "the floor before them");
@@ -447,11 +447,102 @@ static void check_swap(void)
     uint8_t floor[ROOM], parked[20] = {6, 0, 4, 0, 1, 0, 0, 0, 16, 0, 1, 0, 5, 0, 0, 1, 0, 5, 0, 1};
     uint8_t swapped[22] = {6, 0, 4, 0, 2, 0, 1, 0, 0, 0, 2, 0, 5, 0, 0, 1, 2, 0, 5, 0, 1, 0};
 
-    check_verdict(cartplan_write_floor(places, 2, lanes, 12, apart, 4, narrow, 2, floor, ROOM), 0, 0, 66, "a cart on each place");
+    check_verdict(cartplan_write_floor(places, 2, lanes, 12, apart, 4, narrow, 2, NULL, 0, floor, ROOM), 0, 0, 66, "a cart on each place");
     check_verdict(cartplan_check(floor, 66, parked, sizeof parked, reached, sizeof reached - 1), 0, 0, 0, "parked in narrow places");
     check_verdict(cartplan_check_moves(floor, 66, swapped, sizeof swapped), 0, 0, 0, "moves that swap");
     check_numbers(cartplan_check(floor, 66, swapped, sizeof swapped, reached, sizeof reached - 1), 2, 20, 0, 0, "swapped");
     check_verdict(cartplan_check(floor, 61, swapped, sizeof swapped, reached, sizeof reached - 1), 0, 0, 0, "one of the two narrow");
+}
+
+/* The paper's floor with groups of cart 1, of no cart and of both: 80 bytes. */
+#define GROUPS_LEN (FLOOR_LEN + 24)
+static const uint32_t groups[3] = {2, 0, 3};
+static const uint8_t group_bytes[24] = {4, 0, 7, 0, 2, 0, 0, 0, 4, 0, 7, 0, 0, 0, 0, 0, 4, 0, 7, 0, 3, 0, 0, 0};
+
+static struct cartplan_verdict write_groups(size_t count, uint8_t *out, size_t room)
+{
+    memset(out, FILL, ROOM);
+    return cartplan_write_floor(places, 2, lanes, sizeof lanes, carts, sizeof carts, NULL, 0, groups, count, out, room);
+}
+
+static void check_groups_written(void)
+{
+    static const uint32_t absent[2] = {1, 4}, nine[9] = {0}, last[1] = {UINT32_C(1) << 31};
+    uint8_t out[ROOM];
+
+    check_verdict(write_groups(3, out, GROUPS_LEN - 1), 1, 18, GROUPS_LEN, "groups, one byte short");
+    check_verdict(cartplan_write_floor(places, 2, lanes, 12, carts, 4, NULL, 0, absent, 2, out, ROOM), 1, 6, 64, "a group of an absent cart");
+    check_verdict(cartplan_write_floor(places, 2, lanes, 12, carts, 4, narrow, 1, last, 1, out, ROOM), 1, 6, 61, "a group of cart 31");
+    check_verdict(cartplan_write_floor(places, 2, lanes, 12, carts, 4, NULL, 0, nine, 9, out, ROOM), 1, 5, 120, "nine groups");
+    check_verdict(cartplan_write_floor(places, 2, NULL, 0, NULL, 0, NULL, 0, nine, 1, out, ROOM), 1, 7, 24, "a group and no cart");
+    check(untouched(out, 0), "no byte of refused groups");
+    check_verdict(write_groups(2, out, GROUPS_LEN - 8), 0, 0, GROUPS_LEN - 8, "groups, just room");
+    check(untouched(out, GROUPS_LEN - 8), "bytes past the groups");
+    check_verdict(write_groups(3, out, GROUPS_LEN), 0, 0, GROUPS_LEN, "three groups");
+    check(memcmp(out, floor_bytes, FLOOR_LEN) == 0, "the floor before them");
+    check(memcmp(out + FLOOR_LEN, group_bytes, sizeof group_bytes) == 0, "the groups' bytes");
+    check(groups[0] == 2 && groups[1] == 0 && groups[2] == 3, "groups unchanged");
+    check_verdict(cartplan_read_floor(out, GROUPS_LEN), 0, 0, 0, "groups read back");
+    check_verdict(cartplan_read_floor(out, GROUPS_LEN - 1), 1, 2, 72, "a group cut short");
+    out[GROUPS_LEN - 1] = 128;
+    check_verdict(cartplan_read_floor(out, GROUPS_LEN), 1, 6, 72, "the last group of an absent cart");
+    memcpy(out + GROUPS_LEN - 8, narrow_bytes, 5);
+    check_verdict(cartplan_read_floor(out, GROUPS_LEN - 3), 1, 3, 72, "a narrow place behind a group");
+}
+
+/* The paper's plan on that floor; or both carts on m0 up to step 1, and then on m1. */
+static struct cartplan_verdict check_grouped(int alike, uint8_t drift, const char *rules)
+{
+    uint8_t floor[ROOM], plan[PLAN_LEN];
+
+    check_verdict(write_groups(3, floor, ROOM), 0, 0, GROUPS_LEN, "three groups");
+    memcpy(plan, plan_bytes, PLAN_LEN);
+    if (alike) memcpy(plan + 14, plan_bytes + 22, 4);
+    plan[8] = drift;
+    return cartplan_check(floor, GROUPS_LEN, plan, PLAN_LEN, (const uint8_t *)rules, strlen(rules));
+}
+
+static void check_groups(void)
+{
+    check_verdict(check_grouped(0, 0, "X [m1,1]\nF [m1,1@0]\n[m0,100%@0]\n[m0,2 @2 ]\n"), 0, 0, 0, "a group's carts alone");
+    check_verdict(check_grouped(0, 0, "X [m1,1@0]\n"), 3, 17, 0, "the other cart does not count");
+    check_numbers(check_grouped(0, 0, "true\nG [m0,1@0]\n"), 3, 17, 1, 2, "a group's step");
+    check_verdict(check_grouped(0, 0, "F [m1,2@0]\n"), 3, 17, 0, "two of a group of one");
+    check_verdict(check_grouped(0, 0, "G ![m1,2@0]\nX ![m1,50%@0]\nX [m1,50%]\n"), 0, 0, 0, "negated by the group's size");
+    check_verdict(check_grouped(0, 0, "X [m1,50%@0]\n"), 3, 17, 0, "a percentage of the group");
+    check_verdict(check_grouped(0, 0, "G [m0,0@1]\nG [m0,100%@1]\nG ![m0,1@1]\n"), 0, 0, 0, "no cart of the empty group");
+    check_verdict(check_grouped(0, 0, "[m0,1@1]\n"), 3, 17, 0, "a cart of the empty group");
+    check_verdict(check_grouped(0, 0, "![m0,0@1]\n"), 3, 17, 0, "less than no cart of the empty group");
+    check_numbers(check_grouped(1, 1, "G [m0,1]\n"), 3, 17, 0, 2, "all carts");
+    check_numbers(check_grouped(1, 1, "G [m0,1@2]\n"), 3, 17, 0, 2, "all carts as a group");
+    check_numbers(check_grouped(1, 1, "G [m0,1@0]\n"), 3, 17, 0, 1, "all carts of a group are not all");
+    check_numbers(check_grouped(0, 0, "[m0,1@3]\n"), 3, 21, 0, 3, "no group 3");
+    check_numbers(check_grouped(0, 1, "X true\n[m0,1@0] & [m0,9%@5] | ![m0,1@4]\n[m0,1@7]\n"), 3, 21, 1, 5, "21 before 16, the first in the text");
+    check_verdict(check_grouped(0, 0, "[m0,1@3]\n?"), 3, 13, 9, "13 before 21");
+    check_verdict(check_grouped(0, 0, "[m0,1@8]\n"), 3, 13, 6, "no group 8 to name");
+    check_verdict(check_grouped(0, 0, "[m0,1000@9]\n"), 3, 15, 4, "15 before it");
+}
+
+/* Cart 0 on m1, cart 1 there at step 0 and then on m2, cart 2 on m2, drift 1; groups of all carts twice, and of the first two. */
+static struct cartplan_verdict check_joined(const char *rules)
+{
+    static const uint32_t marks[2] = {2, 4}, sets[3] = {7, 7, 3};
+    static const uint8_t starts[6] = {0, 0, 0, 0, 0, 1}, steps[6] = {0, 0, 0, 1, 1, 1};
+    uint8_t floor[2 * ROOM], plan[28];
+
+    check_verdict(cartplan_write_floor(marks, 2, lanes, 12, starts, 6, NULL, 0, sets, 3, floor, sizeof floor), 0, 0, 86, "two tables");
+    check_verdict(cartplan_write_plan(floor, 86, 2, 1, 1, steps, sizeof steps, plan, sizeof plan), 0, 0, sizeof plan, "their plan");
+    return cartplan_check(floor, 86, plan, sizeof plan, (const uint8_t *)rules, strlen(rules));
+}
+
+static void check_joined_groups(void)
+{
+    check_verdict(check_joined("[m1,2] | [m2,2]\n[m1,2@0] | [m2,2@1]\n[m1,2@0] | [m2,2]\n"), 0, 0, 0, "joined, the same carts");
+    check_verdict(check_joined("[m1,2@2] | [m2,1@2]\n[m1,2@2] U [m2,1@2]\n"), 0, 0, 0, "joined in a group");
+    check_verdict(check_joined("[m1,2@2] | [m2,2]\n"), 3, 17, 0, "not joined, other carts");
+    check_verdict(check_joined("[m1,2@2] | [m2,2@1]\n"), 3, 17, 0, "not joined, other groups");
+    check_verdict(check_joined("([m1,2] | [m2,2]) | [m3,1@2]\n"), 0, 0, 0, "joined within");
+    check_verdict(check_joined("[m1,2] | ([m2,2] | [m3,1@2])\n"), 3, 17, 0, "other carts within");
 }
 
 static void check_span(struct cartplan_span is, size_t offset, size_t length, const char *name)
@@ -474,7 +565,7 @@ static void check_clause(void)
     verdict[8] = 0;
     check_span(cartplan_clause(sheet, SHEET_LEN, verdict, 16), 0, 8, "clause 0");
     verdict[4] = 21;
-    check_span(cartplan_clause(sheet, SHEET_LEN, verdict, 16), 0, 8, "clause 0 of 21");
+    check_span(cartplan_clause(sheet, SHEET_LEN, verdict, 16), 0, 8, "clause 0 by 21");
     verdict[4] = 20;
     check_span(cartplan_clause(sheet, SHEET_LEN, verdict, 16), 0, 0, "20 names no clause");
     verdict[4] = 13;
@@ -489,16 +580,16 @@ static void check_null(void)
     check_verdict(cartplan_read_floor(NULL, 0), 1, 7, 0, "null floor");
     check_verdict(cartplan_read_plan(NULL, 0, NULL, 0), 1, 7, 0, "null floor and plan");
     check_verdict(cartplan_read_plan(floor_bytes, FLOOR_LEN, NULL, 0), 2, 7, 0, "null plan");
-    check_verdict(cartplan_write_floor(NULL, 0, NULL, 0, NULL, 0, NULL, 0, NULL, 0), 1, 7, 0, "nothing to write");
-    check_verdict(cartplan_write_floor(places, 2, lanes, 12, carts, 4, NULL, 0, NULL, 0), 1, 18, 56, "floor to null");
-    check_verdict(cartplan_write_floor(NULL, 0, lanes, 12, carts, 4, NULL, 0, out, ROOM), 1, 6, 0, "null places");
-    check_verdict(cartplan_write_floor(places, 2, lanes, 12, NULL, 0, NULL, 0, out, ROOM), 1, 7, 44, "null carts");
+    check_verdict(cartplan_write_floor(NULL, 0, NULL, 0, NULL, 0, NULL, 0, NULL, 0, NULL, 0), 1, 7, 0, "nothing to write");
+    check_verdict(cartplan_write_floor(places, 2, lanes, 12, carts, 4, NULL, 0, NULL, 0, NULL, 0), 1, 18, 56, "floor to null");
+    check_verdict(cartplan_write_floor(NULL, 0, lanes, 12, carts, 4, NULL, 0, NULL, 0, out, ROOM), 1, 6, 0, "null places");
+    check_verdict(cartplan_write_floor(places, 2, lanes, 12, NULL, 0, NULL, 0, NULL, 0, out, ROOM), 1, 7, 44, "null carts");
     check_verdict(cartplan_write_plan(NULL, 0, 4, 0, 0, rows, 8, out, ROOM), 1, 7, 0, "plan on null floor");
     check_verdict(cartplan_write_plan(floor_bytes, 56, 4, 0, 0, NULL, 0, out, ROOM), 2, 7, 10, "null rows");
     check_verdict(cartplan_write_plan(floor_bytes, 56, 0, 0, 0, NULL, 0, NULL, 0), 2, 8, 0, "no steps, null rows");
     check_verdict(cartplan_write_plan(floor_bytes, 56, 4, 0, 0, rows, 8, NULL, 0), 2, 18, 26, "plan to null");
     check(untouched(out, 0), "no byte of a refused write");
-    check_verdict(cartplan_write_floor(places, 2, NULL, 0, carts, 4, NULL, 0, out, ROOM), 0, 0, 28, "null lanes");
+    check_verdict(cartplan_write_floor(places, 2, NULL, 0, carts, 4, NULL, 0, NULL, 0, out, ROOM), 0, 0, 28, "null lanes");
     check_verdict(cartplan_read_floor(out, 28), 0, 0, 0, "floor without lanes");
 }
 
@@ -516,8 +607,8 @@ static void check_refusals(void)
     check_verdict(cartplan_read_plan(bad, FLOOR_LEN, plan_bytes, PLAN_LEN), 1, 6, 16, "plan on a bad floor");
     check_verdict(cartplan_read_plan(floor_bytes, FLOOR_LEN, plan_bytes, 18), 2, 7, 18, "a row missing");
     check_verdict(cartplan_read_plan(floor_bytes, 50, plan_bytes, PLAN_LEN), 2, 5, 18, "a row too many");
-    check_verdict(cartplan_write_floor(places, 2, lanes, 11, carts, 4, NULL, 0, out, ROOM), 1, 4, 37, "two thirds of a lane");
-    check_verdict(cartplan_write_floor(places, 2, lanes, 12, class_8, 2, NULL, 0, out, ROOM), 1, 6, 44, "class 8");
+    check_verdict(cartplan_write_floor(places, 2, lanes, 11, carts, 4, NULL, 0, NULL, 0, out, ROOM), 1, 4, 37, "two thirds of a lane");
+    check_verdict(cartplan_write_floor(places, 2, lanes, 12, class_8, 2, NULL, 0, NULL, 0, out, ROOM), 1, 6, 44, "class 8");
     check_verdict(cartplan_write_plan(bad, FLOOR_LEN, 4, 0, 0, rows, 8, out, ROOM), 1, 6, 16, "plan for a bad floor");
     check_verdict(cartplan_write_plan(floor_bytes, FLOOR_LEN, 4, 4, 0, rows, 8, out, ROOM), 2, 8, 0, "l is h");
     check_verdict(cartplan_write_plan(floor_bytes, FLOOR_LEN, 4, 3, 17, rows, 8, out, ROOM), 2, 8, 0, "d 17");
@@ -546,6 +637,9 @@ int main(void)
     check_narrow_written();
     check_conflicts();
     check_swap();
+    check_groups_written();
+    check_groups();
+    check_joined_groups();
     check_clause();
     check_null();
     check_refusals();

@@ -39,6 +39,10 @@ def narrow(*places):
     return b"".join(record(6, [place]) for place in places)  # 5 bytes each
 
 
+def groups(*carts):
+    return b"".join(record(7, bits.to_bytes(4, "little")) for bits in carts)  # 8 bytes each
+
+
 def head(h, l=0, d=0):
     return record(4, number16(h) + number16(l) + number16(d))  # 10 bytes
 
@@ -79,7 +83,7 @@ LANES_1024 = lane(0, 1) * 1024
 CARTS_32 = cart(0, 0) * 32
 ROWS_32 = head(1) + row(0) * 32
 
-# Name, floor, plan, verdict. None is a file that isn't there. Kinds 7 to 11 are not used.
+# Name, floor, plan, verdict. None is a file that isn't there. Kinds 8 to 11 are not used.
 CASES = [
     # Accepted.
     ("document 01's floor and plan", FLOOR, PLAN, "accepted"),
@@ -1533,8 +1537,193 @@ WINDOWS = [
         "G ([m0,2] | ![m0,1])"), "refused rules 17 9 1"),
 ]
 
+# Document 02, 6): groups. Records of kind 7, as CASES.
+GROUPS_8 = groups(3, 0, 1, 2, 3, 3, 0, 0)
+GROUP_FLOORS = [
+    ("group: both carts", FLOOR + groups(3), PLAN, "accepted"),
+    ("group: no cart", FLOOR + groups(0), PLAN, "accepted"),
+    ("group: the last cart, then the first", FLOOR + groups(2, 1), PLAN, "accepted"),
+    ("group: eight records, some of them alike", FLOOR + GROUPS_8, PLAN, "accepted"),
+    ("group: the ninth record", FLOOR + GROUPS_8 + groups(0), PLAN, "refused floor 5 120 0"),
+    ("group: the ninth record, absent cart", FLOOR + GROUPS_8 + groups(4), PLAN, "refused floor 5 120 0"),
+    ("group: the ninth record of 3 bytes", FLOOR + GROUPS_8 + record(7, bytes(3)), PLAN, "refused floor 4 120 0"),
+    ("group: the ninth record one byte short", FLOOR + GROUPS_8 + groups(1)[:-1], PLAN, "refused floor 2 120 0"),
+    ("group: a narrow place behind eight records", FLOOR + GROUPS_8 + narrow(0), PLAN, "refused floor 3 120 0"),
+    ("group: cart 2 of 2", FLOOR + groups(4), PLAN, "refused floor 6 56 0"),
+    ("group: cart 2 of 2 with both others, behind good ones", FLOOR + groups(3, 0, 7), PLAN, "refused floor 6 72 0"),
+    ("group: cart 8 of 2", FLOOR + groups(1 << 8), PLAN, "refused floor 6 56 0"),
+    ("group: cart 16 of 2", FLOOR + groups(1 << 16), PLAN, "refused floor 6 56 0"),
+    ("group: cart 31 of 2", FLOOR + groups(1 << 31), PLAN, "refused floor 6 56 0"),
+    ("group: cart 31 of 31", PLACES + CARTS_32[:-6] + groups(1 << 31), ROWS_32[:-5], "refused floor 6 202 0"),
+    ("group: cart 31 of 32", PLACES + CARTS_32 + groups(1 << 31, 2**32 - 1), ROWS_32, "accepted"),
+    ("group: 0 bytes", FLOOR + record(7, []), PLAN, "refused floor 4 56 0"),
+    ("group: 3 bytes", FLOOR + groups(1) + record(7, bytes(3)), PLAN, "refused floor 4 64 0"),
+    ("group: 5 bytes, absent cart", FLOOR + record(7, [4, 0, 0, 0, 0]), PLAN, "refused floor 4 56 0"),
+    ("group: one byte short", FLOOR + groups(0)[:-1], PLAN, "refused floor 2 56 0"),
+    ("group: kind 263, 7 but for the high byte", FLOOR + record(263, bytes(4)), PLAN, "refused floor 3 56 0"),
+    ("group: behind a narrow place", FLOOR + narrow(0) + groups(1), PLAN, "accepted"),
+    ("group: a narrow place behind it", FLOOR + groups(1) + narrow(0), PLAN, "refused floor 3 64 0"),
+    ("group: a cart behind it", FLOOR + groups(1) + cart(0, 0), PLAN, "refused floor 3 64 0"),
+    ("group: a lane behind it", FLOOR + groups(1) + lane(0, 1), PLAN, "refused floor 3 64 0"),
+    ("group: a place behind it", FLOOR + groups(1) + place(), PLAN, "refused floor 3 64 0"),
+    ("group: between two carts", FLOOR[:50] + groups(1) + cart(0, 0), PLAN, "refused floor 3 58 0"),
+    ("group: the second cart before it is there", FLOOR[:50] + groups(2) + cart(0, 0), PLAN, "refused floor 6 50 0"),
+    ("group: no cart, before any place", groups(0) + FLOOR, PLAN, "refused floor 3 8 0"),
+    ("group: cart 0, before any place", groups(1) + FLOOR, PLAN, "refused floor 6 0 0"),
+    ("group: places and no cart", PLACES + groups(0), PLAN, "refused floor 7 24 0"),
+    ("group: alone", groups(0), PLAN, "refused floor 7 8 0"),
+    ("group: in a plan", FLOOR, PLAN + groups(0), "refused plan 3 26 0"),
+    ("group: in place of a head", FLOOR, groups(0) + PLAN, "refused plan 3 0 0"),
+    ("group: the longest floor", PLACES_256 + LANES_1024 + CARTS_32 + narrow(*range(256)) + groups(*[2**32 - 1] * 8),
+     head(64, 63, 16) + still(64) * 32, "accepted"),
+    ("group: one more than the longest floor", PLACES_256 + LANES_1024 + CARTS_32 + narrow(*range(256)) + groups(*[2**32 - 1] * 9), ROWS_32,
+     "refused floor 5 10752 0"),
+]
+
+# Document 01's floor with its first cart, both and none as groups 0, 1 and 2.
+GROUPED = FLOOR + groups(1, 3, 0)
+
+# As EDITS: groups are read, and say nothing of moves.
+GROUP_EDITS = [
+    ("group: moves on a floor with some", GROUPED, PLAN, MOVES, "accepted"),
+    ("group: moved on", GROUPED, PLAN, move_on(1), lent(26), *done(head(4) + row(1, 1, 0, 0) + row(0, 1, 1, 0))),
+    ("group: a row replaced", GROUPED, PLAN, replace(1, 0, 1, 0, 1), "accepted", head(4) + row(0, 1, 1, 0) + row(0, 1, 0, 1)),
+    ("group: moves on a floor refused for it", FLOOR + groups(4), PLAN, MOVES, "refused floor 6 56 0"),
+    ("group: moved on, floor refused for it", FLOOR + groups(4), PLAN, move_on(1), lent(26), "refused floor 6 56 0", lent(26)),
+    ("group: replaced, floor refused for it", FLOOR + record(7, []), PLAN, replace(0, 0, 1, 1, 0), "refused floor 4 56 0", PLAN),
+]
+
+
+def grouped(name, carts, rows, l, d, clauses, verdict):
+    """As tables, with groups of these carts."""
+    _, floor, *rest = tables(name, rows, l, d, clauses, verdict)
+    return "group: " + name, floor + groups(*carts), *rest
+
+
+def token(text, verdict, d=0):
+    """A sheet as it stands, on document 01's floor with three groups."""
+    shown = text.decode().replace("\n", " / ")
+    return f"group, drift {d}: {shown}", GROUPED, drifting(d), text, verdict if verdict == "accepted" else "refused rules " + verdict
+
+
+# Example 3 and a cart without a mark. Groups 0 and 1 are the carts of the example, 2 is all carts, 3 none, 4 the first two.
+WITH_A_FOURTH = [7, 7, 15, 0, 3], [*EXAMPLE_3, (2, 2)], 1, 1
+# One cart on m1 once, the other always on m2: groups of each of them, of none, of both.
+ONCE_AND_ALWAYS = [1, 2, 0, 3], [(0, 2), (1, 1)], 1, 1
+BOTH_ONCE = [3, 1, 0], [(0, 2), (0, 2)], 1, 1
+# x for the carts of y, and the other way round.
+CROSSWISE = [1, 2], [(1,), (0,)], 0
+
+# 32 carts: the first half, the last cart, all.
+HALVED = CROWD + groups(0xFFFF, 1 << 31, 2**32 - 1)
+
+# As CHECKS; a refused clause stands last, so that those before it are accepted.
+GROUP_CHECKS = [
+    # The all-carts case only where the group is the whole fleet.
+    grouped("true once, of one of two carts", *ONCE_AND_ALWAYS, ["F [!m1,1@0]", "[m2,1@1]", "[m1,1@0]"], "17 2 0"),
+    grouped("all carts at s: without a group, by a full one, by a part", *BOTH_ONCE, ["[m1,1]", "[m1,1@0]", "[m1,50%@0]", "[m1,1@1]"], "17 3 0"),
+    grouped("all carts at s: two of them", *BOTH_ONCE, ["[m1,1@0]", "[m1,2@0]"], "17 1 0"),
+    grouped("all carts at s: no cart", *BOTH_ONCE, ["[m1,1]", "[m1,1@2]"], "17 1 0"),
+    grouped("all carts at s: negated", *BOTH_ONCE, ["![!m1,2@0]", "![!m1,1@1]"], "17 1 0"),
+    grouped("the hindmost cart outside", [1, 2], [(0, 2), (1, 2)], 1, 1, ["G ([true,1@0] | ![m2,1@1])", "G ([m1,1@0] | ![m2,1@1])"], "17 1 0"),
+    # Percentages and negation by the group's size.
+    grouped("sizes", *ONCE_AND_ALWAYS, [
+        "[m2,49%@0]", "[m2,100%@1]", "[m2,50%@3]", "![m2,1@0]", "![m2,2@3]", "![m2,2@1]", "[m1,0@2]", "[m1,100%@2]", "![m1,1@2]", "![m1,2@2]",
+        "![true,1@2]", "G ![m1,1@2]", "[true,50%@1] & ![true,2@1]"], "accepted"),
+    grouped("half of one cart", *ONCE_AND_ALWAYS, ["[m2,50%@0]"], "17 0 0"),
+    grouped("all of two carts, and of one", *ONCE_AND_ALWAYS, ["[m2,100%@1]", "[m2,100%@3]"], "17 1 0"),
+    grouped("negated over one cart, and over two", *ONCE_AND_ALWAYS, ["![m2,1@0]", "![m2,1@3]"], "17 1 0"),
+    grouped("no cart: one", *ONCE_AND_ALWAYS, ["[m1,1@2]"], "17 0 0"),
+    grouped("no cart: one of true", *ONCE_AND_ALWAYS, ["F [true,1@2]"], "17 0 0"),
+    grouped("no cart: none, negated", *ONCE_AND_ALWAYS, ["![m1,0@2]"], "17 0 0"),
+    grouped("no cart: a share, negated", *ONCE_AND_ALWAYS, ["[m1,50%@2]", "![m1,50%@2]"], "17 1 0"),
+    grouped("no cart: a G and its step", *ONCE_AND_ALWAYS, ["G [m1,0@2]", "G [m1,1@2]"], "17 1 0"),
+    # Joined over the same carts as a set.
+    grouped("joined over the same carts", *WITH_A_FOURTH, [
+        "[m1,2] | [m2,2]", "[m1,2@0] | [m2,2@0]", "[m1,2@0] | [m2,2@1]", "[m1,2@2] | [m2,2]", "[m1,2] | [m2,2@2]", "G ([m2,2@1] | [m1,2@0])",
+        "[m1,2@0] | ([m2,2@1] | [m3,1@0])", "[m1,2@0] | [m2,2@1] | [m3,1]", "[m3,1] | ([m1,2@0] | [m2,2@1])", "!(![m1,2@0] & ![m2,2@1])",
+        "!([!m1,2@0] & [!m2,2@0])", "G ([m1,67%@0] | [m2,50%@0])", "[m1,2@0] U [m2,2@1]", "!(![m1,2@0] R ![m2,2@1])", "[m1,0@3] | [m2,5@3]",
+        "![m1,1@3] | [m2,1@3]"], "accepted"),
+    grouped("a part and all carts not joined", *WITH_A_FOURTH, ["[m1,2@0] | [m2,2]"], "17 0 0"),
+    grouped("a part and a full group not joined", *WITH_A_FOURTH, ["[m1,2@0] | [m2,2@2]"], "17 0 0"),
+    grouped("two parts not joined", *WITH_A_FOURTH, ["[m1,2@4] | [m2,2@0]"], "17 0 0"),
+    grouped("not more than the sum", *WITH_A_FOURTH, ["[m1,2@0] | ([m2,2@1] | [m3,2@0])"], "17 0 0"),
+    grouped("a plain count among them", *WITH_A_FOURTH, ["[m1,2@0] | ([m2,2@1] | [m3,1])"], "17 0 0"),
+    grouped("negations by all carts", *WITH_A_FOURTH, ["!([!m1,2@0] & [!m2,2@0])", "!([!m1,2] & [!m2,2])"], "17 1 0"),
+    grouped("percentages of all carts", *WITH_A_FOURTH, ["G ([m1,67%@0] | [m2,50%@0])", "G ([m1,67%] | [m2,50%])"], "17 1 0"),
+    grouped("U over a part and all carts", *WITH_A_FOURTH, ["[m1,2@0] U [m2,2@1]", "[m1,2@0] U [m2,2]"], "17 1 0"),
+    grouped("an or over no cart", *WITH_A_FOURTH, ["[m1,1@3] | [true,1@3]"], "17 0 0"),
+    grouped("a group's or for its own carts", *WITH_A_FOURTH, ["[m1,1@4] | [m2,2@4]", "[m2,2@4] | [m2,2@4]"], "17 1 0"),
+    grouped("crosswise, d 1", *CROSSWISE, 1, ["[m1,1@1] | [m2,1@0]", "[m1,1@0] | [m2,1]", "[m1,1@0] | [m2,1@1]"], "17 2 0"),
+    grouped("crosswise, d 0", *CROSSWISE, 0, ["[m1,1@1] | [m2,1@0]", "[m1,1@0] | [m2,1]", "[m1,1@0] | [m2,1@1]"], "17 2 0"),
+    grouped("crosswise: U", *CROSSWISE, 1, ["[m1,1@0] U [m2,1@0]", "[m1,1@0] U [m2,1@1]"], "17 1 0"),
+    # 32 carts: cart n is on m1 from step 32 + n on.
+    ("group: 32 carts, the first half, d 0", HALVED, stairs(63, 0), sheet("G [m0 | m1,16@0]", "G [m0,1@0]"), "refused rules 17 1 47"),
+    ("group: 32 carts, the first half, d 16", HALVED, stairs(63, 16), sheet("G [m0,1@0]"), "refused rules 17 0 31"),
+    ("group: 32 carts, half of the first half", HALVED, stairs(63, 0), sheet("G [m0,50%@0]"), "refused rules 17 0 40"),
+    ("group: 32 carts, the last one, d 0", HALVED, stairs(63, 0), sheet("G [m0,1@1]"), "refused rules 17 0 63"),
+    ("group: 32 carts, the last one, d 16", HALVED, stairs(63, 16), sheet("G [m0,1@1]"), "refused rules 17 0 47"),
+    ("group: 32 carts, all, d 16", HALVED, stairs(63, 16), sheet("G [m0,1@2]"), "refused rules 17 0 47"),
+    ("group: 32 carts, negated, d 16", HALVED, stairs(63, 16), sheet("G ![m1,33@2]", "G ![m1,17@0]", "G ![m1,16@0]"), "refused rules 17 2 31"),
+    ("group: 32 carts, eight groups", CROWD + groups(*[1 << g for g in range(8)]), stairs(63, 0),
+     sheet(*["F [m1,1@%d]" % g for g in range(8)], "G [m0,1@7]"), "refused rules 17 8 39"),
+    # The token.
+    token(b"[m0,1@0]\n", "accepted"),
+    token(b"[m0,1 @0]\n", "accepted"),
+    token(b" [ m0 , 100%  @1  ] \n", "accepted"),
+    token(b"[m0,2@0]\n", "17 0 0"),
+    token(b"G [m0,1@1]\n", "17 0 2"),
+    token(b"[m0,1@8]\n", "13 6 0"),
+    token(b"[m0,1@01]\n", "13 7 0"),
+    token(b"[m0,1@10]\n", "13 7 0"),
+    token(b"[m0,1@ 0]\n", "13 6 0"),
+    token(b"[m0,1 @ 0]\n", "13 7 0"),
+    token(b"[m0,1@", "13 6 0"),
+    token(b"[m0,1@0", "13 7 0"),
+    token(b"[m0,1@]\n", "13 6 0"),
+    token(b"[m0,1@0@1]\n", "13 7 0"),
+    token(b"[m0,1@0%]\n", "13 7 0"),
+    token(b"[m0@0,1]\n", "13 3 0"),
+    token(b"[m0,@0]\n", "13 4 0"),
+    token(b"[m0,1]@0\n", "13 6 0"),
+    token(b"true@0\n", "13 4 0"),
+    token(b"[m0,1000@9]\n", "15 4 0"),
+    token(b"[m0,101%@8]\n", "15 4 0"),
+    token(b"[m0,101@8]\n", "13 8 0"),
+    ("group: no node", GROUPED, PLAN, sheet("&".join(["[m0,0@0]"] * 43)), "accepted"),
+    ("group: no node, the 129th beside it", GROUPED, PLAN, sheet("!" + "&".join(["[m0,0@0]"] * 43)), "refused rules 14 380 0"),
+    ("group: no level", GROUPED, PLAN, sheet("!" * 30 + "([m0,0 @2])"), "accepted"),
+    ("group: no level, the 33rd beside it", GROUPED, PLAN, sheet("!" * 31 + "([m0,0 @2])"), "refused rules 14 32 0"),
+    # 21: behind the sheet, before 16; the lowest clause, its first group in the text.
+    ("group: a floor without any", FLOOR, PLAN, sheet("true", "[m0,1@0]"), "refused rules 21 1 0"),
+    ("group: seven, and the eighth named", FLOOR + groups(*[3] * 7), PLAN, sheet("[m0,1@6]", "[m0,1@7]"), "refused rules 21 1 7"),
+    ("group: eight, and the eighth named", FLOOR + groups(*[3] * 8), PLAN, sheet("[m0,1@6]", "[m0,1@7]"), "accepted"),
+    token(b"[m0,1@3]\n", "21 0 3"),
+    token(b"true | [m0,0@3]\n", "21 0 3", 16),
+    token(b"[m0,1@3]\n?", "13 9 0"),
+    token(b"[m0,1@5] & [m0,1@3]\n", "21 0 5"),
+    token(b"[m0,1@0] | [m0,1@6] | [m0,1@3]\n", "21 0 6"),
+    token(b"![m0,1@0] U ([m0,1@7] R [m0,1@4])\n", "21 0 7"),
+    token(b"[m0,1@7]\n[m0,1@3]\n", "21 0 7"),
+    token(b"!true\n[m0,1@3]\n", "21 1 3"),
+    token(b"X true\n[m0,1@3]\n", "21 1 3", 1),
+    token(b"[m0,1@4]\nX true\n[m0,1@3]\n", "21 0 4", 1),
+    token(b"X [m0,1@3]\n", "21 0 3", 1),
+    token(b"X [m0,1@0]\n", "16 0 0", 1),
+    token(b"X [m0,1@1]\n", "accepted"),
+    ("group: 20 before 21", JAMMED + groups(1), PLAN, sheet("[m0,1@1]"), "refused plan 20 0 0"),
+]
+
+# As SHOWN.
+GROUP_SHOWN = [
+    ("group: 21 of clause 1 shown, spaces included", FLOOR, PLAN, sheet("!true", " [m0,1@0] "), "refused rules 21 1 0", " [m0,1@0] "),
+    ("group: 21 of the 32nd clause shown", GROUPED, drifting(1), sheet(*["[m0,1@1]"] * 31, "[m0,1@0] | [m0,1@5]"), "refused rules 21 31 5",
+     "[m0,1@0] | [m0,1@5]"),
+    ("group: 17 of a clause with groups shown", GROUPED, PLAN, sheet("[m0,1@0]", "[m0,2@0]"), "refused rules 17 1 0", "[m0,2@0]"),
+]
+
 # The numbers that each file's refusals have. No task writes a floor, so 18 is about the plan alone.
-NUMBERS = {"floor": [*range(1, 8)], "plan": [*range(1, 6), *range(7, 12), 18, 19, 20], "rules": [7, *range(12, 18)]}
+NUMBERS = {"floor": [*range(1, 8)], "plan": [*range(1, 6), *range(7, 12), 18, 19, 20], "rules": [7, *range(12, 18), 21]}
 
 
 def write(folder, name, content):
@@ -1592,6 +1781,14 @@ def data_sets():
     for cases in (LINKED_CHECKS, BORNE, STEPS, BLOCKS, [*by_need()], SIX_PAIRS, [*two_operands()], CHAINS, COUNTS, LIMITS, EITHER, WINDOWS):
         for case in cases:
             yield check_set(*case)
+    for case in GROUP_FLOORS:
+        yield read_set(*case)
+    for case in GROUP_EDITS:
+        yield edit_set(*case)
+    for case in GROUP_CHECKS:
+        yield check_set(*case)
+    for case in GROUP_SHOWN:
+        yield show_set(*case)
 
 
 def giving(sets, file, number):
@@ -1604,7 +1801,7 @@ def list_numbers(sets):
         for number in numbers:
             found = giving(sets, file, number)
             more = [f"and {len(found) - 3} more"] if found[3:] else []
-            print(f"{file} {number}: " + "; ".join([f"{n:03} {name}" for n, name in found[:3]] + more))
+            print(f"{file} {number}: " + "; ".join([f"{n:04} {name}" for n, name in found[:3]] + more))
 
 
 def check(sets):
@@ -1639,9 +1836,9 @@ def main():
     lines = []
     for n, (name, files, line) in enumerate(sets):
         for file, content in files.items():
-            write(data / f"{n:03}", file, content)
-        lines.append(f"{n:03} {line}\n")
-        print(f"{n:03} {name}: {line}"[:120])
+            write(data / f"{n:04}", file, content)
+        lines.append(f"{n:04} {line}\n")
+        print(f"{n:04} {name}: {line}"[:120])
     (CRATE / "stdout").write_text("".join(lines))
     write_program()
 

@@ -1,7 +1,7 @@
 #!/usr/bin/env python3
 """Runs the program cartcheck on folders of files at the limits of its buffers, absent files and each file's refusal, and compares the line
 that it prints, also where standard input is closed, so that the first file has descriptor 0. The lines are written by hand from
-documents 01 and 02. Then sees that the lines due of the program cases name each refusal, 1 to 20. Run from the repository's root after
+documents 01 and 02. Then sees that the lines due of the program cases name each refusal, 1 to 21. Run from the repository's root after
 `rt check cartcheck`."""
 import pathlib
 import re
@@ -15,6 +15,11 @@ PROGRAM = ROOT / "target" / "bin" / "cartcheck"
 
 def read(example, name):
     return (ROOT / "examples" / example / name).read_bytes()
+
+
+def group(*carts):
+    """The record of a group of these carts."""
+    return bytes([4, 0, 7, 0]) + sum(1 << cart for cart in carts).to_bytes(4, "little")
 
 
 FLOOR, PLAN, RULES = (read("two-carts", name) for name in ("floor", "plan", "rules"))
@@ -65,6 +70,20 @@ CASES = [
     ("two carts change bays, the second wide", [NEXT_DOOR[:-5], CHANGED, b"true\n"], "accepted"),
     ("the longest floor", [LONGEST, LONGEST_PLAN, b"true\n"], "accepted"),
     ("the longest floor and a narrow place", [LONGEST + b"\1\0\6\0\0", LONGEST_PLAN, b"true\n"], "refused floor 5 10688 0"),
+    ("the longest floor with eight groups", [LONGEST + group(*range(32)) * 8, LONGEST_PLAN, b"G ![m0,1@7]\n"], "accepted"),
+    ("the longest floor and a ninth group", [LONGEST + group() * 9, LONGEST_PLAN, b"true\n"], "refused floor 5 10752 0"),
+    ("two carts, groups of one each", [FLOOR + group(0) + group(1), PLAN, b"X [m1,1@0]\nX [m0,1@1]\n"], "accepted"),
+    ("two carts, the first leaves at step 1", [FLOOR + group(0), PLAN, b"G [m0,1@0]\n"], "refused rules 17 0 1"),
+    ("two carts, the second leaves at step 2", [FLOOR + group() + group(1), PLAN, b"G [m0,1@1]\n"], "refused rules 17 0 2"),
+    ("two carts, none of them", [FLOOR + group(), PLAN, b"G [m0,100%@0]\nG ![m0,1@0]\n"], "accepted"),
+    ("two carts, one of none", [FLOOR + group(), PLAN, b"[m0,1@0]\n"], "refused rules 17 0 0"),
+    ("two carts, a group that is not there", [FLOOR + group(0), PLAN, b"true\n[m0,1@0] & [m0,1@3] & [m0,1@1]\n"], "refused rules 21 1 3"),
+    ("two carts, no group and X", [FLOOR, PLAN[:8] + b"\1" + PLAN[9:], b"X true\n[m0,1@7]\n"], "refused rules 21 1 7"),
+    ("two carts, a group of a third", [FLOOR + group(0, 1, 2), PLAN, RULES], "refused floor 6 42 0"),
+    ("two carts, a narrow place behind a group", [FLOOR + group(0) + b"\1\0\6\0\0", PLAN, RULES], "refused floor 3 50 0"),
+    ("two carts, group 8", [FLOOR, PLAN, b"[m0,1@8]\n"], "refused rules 13 6 0"),
+    ("either table, all carts as two groups", [TABLES + group(0, 1, 2) * 2, TABLES_PLAN, b"[m1,2@0] | [m2,2@1]\n"], "accepted"),
+    ("either table, two carts at the one", [TABLES + group(0, 1), TABLES_PLAN, b"[m1,2@0] | [m2,2]\n"], "refused rules 17 0 0"),
     ("no floor", [None, PLAN, RULES], "refused floor 7 0 0"),
     ("no plan", [FLOOR, None, RULES], "refused plan 7 0 0"),
     ("no rules", [FLOOR, PLAN, None], "refused rules 7 0 0"),
@@ -93,7 +112,7 @@ for title, files, line in CASES:
             failed += 1
             print(f"program: {title}, {command}: printed {got!r}, not {line!r}")
 due = (ROOT / "crates" / "cases" / "stdout").read_text()
-missing = set(range(1, 21)) - {int(n) for n in re.findall(r"^\d+ refused \w+ (\d+) \d+ \d+", due, re.MULTILINE)}
+missing = set(range(1, 22)) - {int(n) for n in re.findall(r"^\d+ refused \w+ (\d+) \d+ \d+", due, re.MULTILINE)}
 if missing:
     print(f"program: no data set of cases is refused by {sorted(missing)}")
 print(f"program: {len(CASES)} folders, {failed} differences")

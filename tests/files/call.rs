@@ -137,12 +137,14 @@ fn call_write_floor(random: &mut Random, numbers: &Floor, room: usize, written: 
     let mut lanes = Lent::new(random, &numbers.lanes, &[]);
     let mut carts = Lent::new(random, &numbers.carts, &[]);
     let mut narrow = Lent::new(random, &numbers.narrow, &[]);
+    let mut groups = Lent::new(random, &numbers.groups, &[]);
     let mut out = result(random, room, written);
     let verdict = library::write_floor(
         places.lend(),
         lanes.lend(),
         carts.lend(),
         narrow.lend(),
+        groups.lend(),
         out.lend(),
     );
     let complaints = [
@@ -150,6 +152,7 @@ fn call_write_floor(random: &mut Random, numbers: &Floor, room: usize, written: 
         lanes.complaint("lanes"),
         carts.complaint("carts"),
         narrow.complaint("narrow"),
+        groups.complaint("groups"),
         out.complaint("out"),
     ];
     Outcome {
@@ -284,12 +287,20 @@ impl fmt::Display for Call {
                 write!(f, "read plan {plan}\n  with floor {floor}")
             }
             Call::WriteFloor(numbers, room) => {
-                let places = numbers.places.iter().flat_map(|p| p.to_le_bytes());
-                let places = hex(&places.collect::<Vec<u8>>());
+                let bytes = |numbers: &[u32]| {
+                    numbers
+                        .iter()
+                        .flat_map(|n| n.to_le_bytes())
+                        .collect::<Vec<u8>>()
+                };
+                let (places, groups) = (hex(&bytes(&numbers.places)), hex(&bytes(&numbers.groups)));
                 let (lanes, carts) = (hex(&numbers.lanes), hex(&numbers.carts));
                 let narrow = hex(&numbers.narrow);
                 write!(f, "write floor, room {room}\n  places {places}\n")?;
-                write!(f, "  lanes {lanes}\n  carts {carts}\n  narrow {narrow}")
+                write!(
+                    f,
+                    "  lanes {lanes}\n  carts {carts}\n  narrow {narrow}\n  groups {groups}"
+                )
             }
             Call::WritePlan(floor, Plan { h, l, d, rows }, room) => {
                 let (floor, rows) = (hex(&floor.bytes), hex(rows));

@@ -1,8 +1,10 @@
 //! Damaged files: valid ones with records or bytes changed, cut, added, or piled up to a limit.
 
 use crate::call::Input;
-use crate::random::Random;
-use crate::reference::{LONGEST_FILE, MOST_CARTS, MOST_LANES, MOST_NARROW, MOST_PLACES};
+use crate::random::{self, Random};
+use crate::reference::{
+    LONGEST_FILE, MOST_CARTS, MOST_GROUPS, MOST_LANES, MOST_NARROW, MOST_PLACES,
+};
 
 #[derive(Clone)]
 struct Record {
@@ -45,10 +47,10 @@ fn starts_of(file: &[u8]) -> Vec<usize> {
     starts
 }
 
-/// Kinds 7 to 11 are reserved: wherever chance made one, another unknown kind takes its place.
+/// Kinds 8 to 11 are reserved: wherever chance made one, another unknown kind takes its place.
 fn avoid_reserved_kinds(file: &mut [u8]) {
     for start in starts_of(file) {
-        if (7..=11).contains(&file[start + 2]) && file[start + 3] == 0 {
+        if (8..=11).contains(&file[start + 2]) && file[start + 3] == 0 {
             file[start + 2] += 12;
         }
     }
@@ -57,7 +59,7 @@ fn avoid_reserved_kinds(file: &mut [u8]) {
 fn any_kind(random: &mut Random) -> u16 {
     let large = random.between(12, 65_535) as u16;
     let unknown = random.pick(&[0, 12, 13, 255, 256, 257, 258, 259, 260, 261, 65_535, large]);
-    let known = random.between(1, 6) as u16;
+    let known = random.between(1, 7) as u16;
     random.pick(&[known, unknown])
 }
 
@@ -76,6 +78,7 @@ fn any_record(random: &mut Random, places: usize) -> Record {
         3 => 2,
         4 => 6,
         6 => 1,
+        7 => 4,
         _ => random.below(6),
     };
     let odd = random.below(8);
@@ -139,6 +142,7 @@ fn pile_up(random: &mut Random, records: &mut Vec<Record>, places: usize) {
         2 => MOST_LANES,
         3 => MOST_CARTS,
         6 => MOST_NARROW,
+        7 => MOST_GROUPS,
         _ => have,
     };
     let want = limit + random.below(2);
@@ -152,6 +156,18 @@ fn pile_up(random: &mut Random, records: &mut Vec<Record>, places: usize) {
     }
 }
 
+/// Gives a group another set of carts, or adds one behind the last record, with an absent cart in most of them.
+fn damage_group(random: &mut Random, records: &mut Vec<Record>) {
+    let carts = records.iter().filter(|record| record.kind == 3).count();
+    let body = random::group_near(random, carts).to_le_bytes().to_vec();
+    let groups = (0..records.len()).filter(|&at| records[at].kind == 7);
+    let groups: Vec<usize> = groups.collect();
+    match groups.is_empty() || random.percent(40) {
+        true => records.push(Record { kind: 7, body }),
+        false => records[random.pick(&groups)].body = body,
+    }
+}
+
 fn damage_records(random: &mut Random, records: &mut Vec<Record>, places: usize) {
     if records.is_empty() {
         records.push(any_record(random, places));
@@ -159,7 +175,7 @@ fn damage_records(random: &mut Random, records: &mut Vec<Record>, places: usize)
     }
     let at = position(random, records.len());
     let other = position(random, records.len());
-    match random.below(30) {
+    match random.below(34) {
         0..=2 => drop(records.remove(at)),
         3..=5 => records.insert(other, records[at].clone()),
         6 => records.push(records[at].clone()),
@@ -170,6 +186,7 @@ fn damage_records(random: &mut Random, records: &mut Vec<Record>, places: usize)
         19..=23 => damage_body_byte(random, &mut records[at].body, places),
         24..=25 => records.insert(at, any_record(random, places)),
         26 => pile_up(random, records, places),
+        27..=30 => damage_group(random, records),
         _ => damage_head(random, &mut records[0].body),
     }
 }
@@ -210,7 +227,13 @@ fn extend(random: &mut Random, file: &mut Vec<u8>, places: usize) {
     let more = match random.below(4) {
         0 => vec![0; random.between(1, 8)],
         1 => random
-            .pick(&[[4, 0, 1, 0], [2, 0, 3, 0], [4, 0, 5, 0], [1, 0, 6, 0]])
+            .pick(&[
+                [4, 0, 1, 0],
+                [2, 0, 3, 0],
+                [4, 0, 5, 0],
+                [1, 0, 6, 0],
+                [4, 0, 7, 0],
+            ])
             .to_vec(),
         2 => file_of(&[any_record(random, places)]),
         _ => {

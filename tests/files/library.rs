@@ -33,6 +33,8 @@ extern "C" {
         carts_len: usize,
         narrow: *const u8,
         narrow_len: usize,
+        groups: *const u32,
+        group_count: usize,
         out: *mut u8,
         out_len: usize,
     ) -> CVerdict;
@@ -111,12 +113,14 @@ pub fn write_floor(
     lanes: Buffer<u8>,
     carts: Buffer<u8>,
     narrow: Buffer<u8>,
+    groups: Buffer<u32>,
     out: Buffer<u8>,
 ) -> Verdict {
     let (places, place_count) = parts(places);
     let (lanes, lanes_len) = parts(lanes);
     let (carts, carts_len) = parts(carts);
     let (narrow, narrow_len) = parts(narrow);
+    let (groups, group_count) = parts(groups);
     let (out, out_len) = parts(out);
     // SAFETY: as above.
     numbers(unsafe {
@@ -129,6 +133,8 @@ pub fn write_floor(
             carts_len,
             narrow,
             narrow_len,
+            groups,
+            group_count,
             out,
             out_len,
         )

@@ -45,6 +45,7 @@ pub fn paper_floor_numbers() -> Floor {
         lanes: vec![0, 1, 255, 1, 0, 255, 0, 0, 255, 1, 1, 255],
         carts: vec![0, 0, 0, 0],
         narrow: Vec::new(),
+        groups: Vec::new(),
     }
 }
 
@@ -79,6 +80,7 @@ pub fn counted_numbers(places: usize, lanes: usize, carts: usize) -> Floor {
         lanes: vec![0; 3 * lanes],
         carts: vec![0; 2 * carts],
         narrow: Vec::new(),
+        groups: Vec::new(),
     }
 }
 
@@ -364,7 +366,7 @@ fn floor_writes() -> Vec<Limit> {
     ]
 }
 
-fn floor_groups() -> Vec<Limit> {
+fn floor_left_over() -> Vec<Limit> {
     let lanes = |count: usize, more: &[u8]| {
         let mut numbers = counted_numbers(1, count, 1);
         numbers.lanes.extend_from_slice(more);
@@ -413,7 +415,7 @@ fn plan_writes() -> Vec<Limit> {
     ]
 }
 
-fn plan_groups() -> Vec<Limit> {
+fn plan_left_over() -> Vec<Limit> {
     let rows = |rows: &[u8]| plan_numbers(4, 0, 0, rows);
     let zeros = |h: u16, count: usize| plan_numbers(h, 0, 0, &vec![0; count]);
     vec![
@@ -452,9 +454,9 @@ pub fn all() -> Vec<Limit> {
         floors_below(),
         full_plans(),
         floor_writes(),
-        floor_groups(),
+        floor_left_over(),
         plan_writes(),
-        plan_groups(),
+        plan_left_over(),
     ];
     parts.into_iter().flatten().collect()
 }

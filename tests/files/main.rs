@@ -11,6 +11,7 @@ mod damage;
 mod edit_cases;
 mod edit_limits;
 mod edits;
+mod group_limits;
 mod library;
 mod limits;
 mod move_limits;
@@ -174,6 +175,7 @@ impl Harness {
         let limits = [
             limits::all(),
             narrow_limits::all(),
+            group_limits::all(),
             move_limits::all(),
             edit_limits::all(),
         ]

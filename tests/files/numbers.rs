@@ -2,7 +2,7 @@
 
 use crate::random::{self, Random};
 use crate::reference::{
-    Floor, Plan, LONGEST_FILE, MOST_CARTS, MOST_LANES, MOST_NARROW, MOST_PLACES,
+    Floor, Plan, LONGEST_FILE, MOST_CARTS, MOST_GROUPS, MOST_LANES, MOST_NARROW, MOST_PLACES,
 };
 
 /// A place that is the last of the floor or just past it, or any byte.
@@ -28,18 +28,20 @@ fn push_some(random: &mut Random, bytes: &mut Vec<u8>, most: usize) {
 /// As many records as allowed, or one more.
 fn fill(random: &mut Random, floor: &mut Floor) {
     let over = random.below(2);
-    match random.below(4) {
+    match random.below(5) {
         0 => floor.places.resize(MOST_PLACES + over, 7),
         1 => floor.lanes.resize(3 * (MOST_LANES + over), 0),
         2 => floor.carts.resize(2 * (MOST_CARTS + over), 0),
-        _ => floor.narrow.resize(MOST_NARROW + over, 0),
+        3 => floor.narrow.resize(MOST_NARROW + over, 0),
+        _ => floor.groups.resize(MOST_GROUPS + over, 1),
     }
 }
 
 fn spoil_floor(random: &mut Random, floor: &mut Floor) {
     let near = near_place(random, floor.places.len());
     let class = random.pick(&[7, 8, 9, 128, 255]);
-    match random.below(17) {
+    let group = random::group_near(random, floor.carts.len() / 2);
+    match random.below(21) {
         0 => push_some(random, &mut floor.lanes, 2),
         1 => push_some(random, &mut floor.carts, 3),
         2..=4 => set_some_byte(random, &mut floor.lanes, near),
@@ -51,6 +53,8 @@ fn spoil_floor(random: &mut Random, floor: &mut Floor) {
         12 => drop(floor.carts.pop()),
         13 => push_some(random, &mut floor.narrow, 3),
         14..=15 => set_some_byte(random, &mut floor.narrow, near),
+        16..=18 => floor.groups.push(group),
+        19 => floor.groups.insert(0, group),
         _ => fill(random, floor),
     }
 }
@@ -64,24 +68,28 @@ fn heavy_length(random: &mut Random) -> usize {
 /// A floor of the length drawn, nearly all of it in one kind of record.
 fn heavy_floor(random: &mut Random) -> Floor {
     let length = heavy_length(random);
-    // A place takes 8 bytes, a lane 7, a cart 6, a narrow place 5: a few of another kind make up the rest.
+    // A place and a group take 8 bytes, a lane 7, a cart 6, a narrow place 5: a few of another kind make up the rest.
     let rest = length - 8;
-    let [places, lanes, carts, narrow] = match random.below(4) {
+    let [places, lanes, carts, narrow, groups] = match random.below(5) {
         0 => {
             let lanes = (8 - length % 8) % 8;
-            [(length - 7 * lanes) / 8, lanes, 0, 0]
+            [(length - 7 * lanes) / 8, lanes, 0, 0, 0]
         }
         1 => {
             let carts = (7 - rest % 7) % 7;
-            [1, (rest - 6 * carts) / 7, carts, 0]
+            [1, (rest - 6 * carts) / 7, carts, 0, 0]
         }
         2 => {
             let lanes = rest % 6;
-            [1, lanes, (rest - 7 * lanes) / 6, 0]
+            [1, lanes, (rest - 7 * lanes) / 6, 0, 0]
+        }
+        3 => {
+            let carts = rest % 5;
+            [1, 0, carts, (rest - 6 * carts) / 5, 0]
         }
         _ => {
-            let carts = rest % 5;
-            [1, 0, carts, (rest - 6 * carts) / 5]
+            let lanes = (8 - length % 8) % 8;
+            [1, lanes, 0, 0, (rest - 7 * lanes) / 8]
         }
     };
     let mut floor = Floor {
@@ -89,8 +97,9 @@ fn heavy_floor(random: &mut Random) -> Floor {
         lanes: vec![0; 3 * lanes],
         carts: vec![0; 2 * carts],
         narrow: vec![0; narrow],
+        groups: vec![0; groups],
     };
-    // A shorter last group makes the file shorter by its missing bytes and no more.
+    // A shorter last part makes the file shorter by its missing bytes and no more.
     if random.percent(30) {
         floor.lanes.pop();
     }

@@ -1,7 +1,8 @@
 //! A small generator of random numbers, and random floors and plans that are valid.
 
 use crate::reference::{
-    Floor, Plan, MOST_CARTS, MOST_DRIFT, MOST_LANES, MOST_NARROW, MOST_PLACES, MOST_STEPS,
+    Floor, Plan, MOST_CARTS, MOST_DRIFT, MOST_GROUPS, MOST_LANES, MOST_NARROW, MOST_PLACES,
+    MOST_STEPS,
 };
 
 /// splitmix64.
@@ -72,6 +73,25 @@ pub fn place(random: &mut Random, places: usize) -> u8 {
     place as u8
 }
 
+/// The bits of all of so many carts.
+fn all(carts: usize) -> u32 {
+    (0..carts).map(|cart| 1 << cart).sum()
+}
+
+/// A group of so many carts: some of them, all, none, or the first or last alone.
+pub fn group(random: &mut Random, carts: usize) -> u32 {
+    let some = random.next() as u32 & all(carts);
+    random.pick(&[some, some, some, all(carts), 0, 1, 1 << (carts - 1)])
+}
+
+/// A group with a bit beside that of the last cart, or with any bits.
+pub fn group_near(random: &mut Random, carts: usize) -> u32 {
+    let near = 1u32.checked_shl((carts + random.below(3)).saturating_sub(1) as u32);
+    let beside = near.unwrap_or(1 << 31) | random.next() as u32 & all(carts.min(MOST_CARTS));
+    let any = random.next() as u32;
+    random.pick(&[beside, beside, beside, any])
+}
+
 pub fn floor(random: &mut Random) -> Floor {
     let places = size(random, 1, MOST_PLACES);
     let mut floor = Floor::default();
@@ -91,6 +111,10 @@ pub fn floor(random: &mut Random) -> Floor {
     if random.percent(60) {
         let count = size(random, 0, MOST_NARROW);
         floor.narrow = (0..count).map(|_| place(random, places)).collect();
+    }
+    if random.percent(60) {
+        let (carts, count) = (floor.carts.len() / 2, random.between(0, MOST_GROUPS));
+        floor.groups = (0..count).map(|_| group(random, carts)).collect();
     }
     floor
 }

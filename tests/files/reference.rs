@@ -6,6 +6,7 @@ pub const MOST_PLACES: usize = 256;
 pub const MOST_LANES: usize = 1_024;
 pub const MOST_CARTS: usize = 32;
 pub const MOST_NARROW: usize = 256;
+pub const MOST_GROUPS: usize = 8;
 pub const MOST_STEPS: u16 = 64;
 pub const MOST_DRIFT: u16 = 16;
 
@@ -13,13 +14,14 @@ pub const FLOOR: u32 = 1;
 pub const PLAN: u32 = 2;
 
 /// A floor's numbers as the C interface takes them: three bytes a lane, two bytes a cart, one byte a
-/// narrow place.
+/// narrow place, a number a group with bit n for cart n.
 #[derive(Clone, Default, PartialEq, Eq, Debug)]
 pub struct Floor {
     pub places: Vec<u32>,
     pub lanes: Vec<u8>,
     pub carts: Vec<u8>,
     pub narrow: Vec<u8>,
+    pub groups: Vec<u32>,
 }
 
 /// A plan's numbers as the C interface takes them: h bytes a row.
@@ -76,6 +78,10 @@ fn two_bytes(bytes: &[u8], at: usize) -> u16 {
     u16::from_le_bytes([bytes[at], bytes[at + 1]])
 }
 
+fn four_bytes(body: &[u8]) -> u32 {
+    (0..4).map(|i| u32::from(body[i]) << (8 * i)).sum()
+}
+
 /// The record at `start`. The body counts as missing before anyone looks at the kind.
 fn record_at(file: &[u8], start: usize) -> Result<Record<'_>, Refusal> {
     let rest = &file[start..];
@@ -95,7 +101,7 @@ pub fn read_floor(file: &[u8]) -> Result<Floor, Refusal> {
     let mut highest_kind = 1;
     while start < file.len() {
         let record = record_at(file, start)?;
-        let known = [1, 2, 3, 6].contains(&record.kind);
+        let known = [1, 2, 3, 6, 7].contains(&record.kind);
         let out_of_place = !known || record.kind < highest_kind;
         refuse_if(out_of_place, 3, start)?;
         take_floor_record(&mut floor, &record, start)?;
@@ -107,7 +113,7 @@ pub fn read_floor(file: &[u8]) -> Result<Floor, Refusal> {
     Ok(floor)
 }
 
-/// Takes one record of kind 1, 2, 3 or 6 after judging 4, 5 and 6 in that order.
+/// Takes one record of kind 1, 2, 3, 6 or 7 after judging 4, 5 and 6 in that order.
 fn take_floor_record(floor: &mut Floor, record: &Record, start: usize) -> Result<(), Refusal> {
     let body = record.body;
     let places = floor.places.len();
@@ -116,8 +122,7 @@ fn take_floor_record(floor: &mut Floor, record: &Record, start: usize) -> Result
         1 => {
             refuse_if(body.len() != 4, 4, start)?;
             refuse_if(places == MOST_PLACES, 5, start)?;
-            let marks = (0..4).map(|i| u32::from(body[i]) << (8 * i)).sum();
-            floor.places.push(marks);
+            floor.places.push(four_bytes(body));
         }
         2 => {
             refuse_if(body.len() != 3, 4, start)?;
@@ -131,11 +136,19 @@ fn take_floor_record(floor: &mut Floor, record: &Record, start: usize) -> Result
             refuse_if(body[0] > 7 || absent(body[1]), 6, start)?;
             floor.carts.extend_from_slice(body);
         }
-        _ => {
+        6 => {
             refuse_if(body.len() != 1, 4, start)?;
             refuse_if(floor.narrow.len() == MOST_NARROW, 5, start)?;
             refuse_if(absent(body[0]), 6, start)?;
             floor.narrow.push(body[0]);
+        }
+        _ => {
+            refuse_if(body.len() != 4, 4, start)?;
+            refuse_if(floor.groups.len() == MOST_GROUPS, 5, start)?;
+            let carts = floor.carts.len() / 2;
+            let member = |cart: usize| body[cart / 8] >> (cart % 8) & 1 == 1;
+            refuse_if((carts..32).any(member), 6, start)?;
+            floor.groups.push(four_bytes(body));
         }
     }
     Ok(())
@@ -186,8 +199,8 @@ fn take_row(plan: &mut Plan, floor: &Floor, row: &[u8], start: usize) -> Result<
     Ok(())
 }
 
-/// Groups of `size` bytes, a shorter last one included. With no size all bytes are left over.
-fn groups(bytes: &[u8], size: usize) -> impl Iterator<Item = &[u8]> {
+/// Parts of `size` bytes, a shorter last one included. With no size all bytes are left over.
+fn parts(bytes: &[u8], size: usize) -> impl Iterator<Item = &[u8]> {
     let whole = bytes.len().max(1);
     bytes.chunks(if size == 0 { whole } else { size })
 }
@@ -209,13 +222,15 @@ fn laid_out(records: &[(u8, Vec<u8>)]) -> Result<Vec<u8>, Refusal> {
 /// The floor's numbers as a file, whether or not that file is readable.
 pub fn floor_file(floor: &Floor) -> Result<Vec<u8>, Refusal> {
     let place = |marks: &u32| (1, marks.to_le_bytes().to_vec());
-    let lane = |group: &[u8]| (2, group.to_vec());
-    let cart = |group: &[u8]| (3, group.to_vec());
-    let narrow = |group: &[u8]| (6, group.to_vec());
+    let lane = |part: &[u8]| (2, part.to_vec());
+    let cart = |part: &[u8]| (3, part.to_vec());
+    let narrow = |part: &[u8]| (6, part.to_vec());
+    let group = |carts: &u32| (7, carts.to_le_bytes().to_vec());
     let mut records: Vec<(u8, Vec<u8>)> = floor.places.iter().map(place).collect();
-    records.extend(groups(&floor.lanes, 3).map(lane));
-    records.extend(groups(&floor.carts, 2).map(cart));
-    records.extend(groups(&floor.narrow, 1).map(narrow));
+    records.extend(parts(&floor.lanes, 3).map(lane));
+    records.extend(parts(&floor.carts, 2).map(cart));
+    records.extend(parts(&floor.narrow, 1).map(narrow));
+    records.extend(floor.groups.iter().map(group));
     laid_out(&records)
 }
 
@@ -223,8 +238,8 @@ pub fn floor_file(floor: &Floor) -> Result<Vec<u8>, Refusal> {
 pub fn plan_file(plan: &Plan) -> Result<Vec<u8>, Refusal> {
     let head = [plan.h, plan.l, plan.d].map(u16::to_le_bytes).concat();
     let mut records = vec![(4, head)];
-    let row = |group: &[u8]| (5, group.to_vec());
-    records.extend(groups(&plan.rows, usize::from(plan.h)).map(row));
+    let row = |part: &[u8]| (5, part.to_vec());
+    records.extend(parts(&plan.rows, usize::from(plan.h)).map(row));
     laid_out(&records)
 }
 

@@ -110,7 +110,8 @@ impl Wide {
     fn places(&mut self) {
         let places = &mut self.block[..TURN / 8];
         let out = &mut self.out;
-        let verdict = library::write_floor(Some(places), None, Some(&mut [0, 0]), None, Some(out));
+        let verdict =
+            library::write_floor(Some(places), None, Some(&mut [0, 0]), None, None, Some(out));
         self.expect("places", verdict, [1, 1, 0, 0]);
     }
 
@@ -118,22 +119,32 @@ impl Wide {
         let lanes = Wide::bytes(&mut self.block, &[], length);
         let out = &mut self.out;
         let carts = Some(&mut [0, 0][..]);
-        let verdict = library::write_floor(Some(&mut [1]), Some(lanes), carts, None, Some(out));
+        let verdict =
+            library::write_floor(Some(&mut [1]), Some(lanes), carts, None, None, Some(out));
         self.expect("lanes", verdict, [1, 1, 0, 0]);
     }
 
     fn carts(&mut self, length: usize) {
         let carts = Wide::bytes(&mut self.block, &[], length);
         let out = &mut self.out;
-        let verdict = library::write_floor(Some(&mut [1]), None, Some(carts), None, Some(out));
+        let verdict =
+            library::write_floor(Some(&mut [1]), None, Some(carts), None, None, Some(out));
         self.expect("carts", verdict, [1, 1, 0, 0]);
     }
 
     fn narrow(&mut self, length: usize) {
         let narrow = Wide::bytes(&mut self.block, &[], length);
         let (carts, out) = (Some(&mut [0, 0][..]), &mut self.out);
-        let verdict = library::write_floor(Some(&mut [1]), None, carts, Some(narrow), Some(out));
+        let verdict =
+            library::write_floor(Some(&mut [1]), None, carts, Some(narrow), None, Some(out));
         self.expect("narrow", verdict, [1, 1, 0, 0]);
+    }
+
+    fn groups(&mut self, count: usize) {
+        let groups = Some(&mut self.block[..count]);
+        let (carts, out) = (Some(&mut [0, 0][..]), &mut self.out);
+        let verdict = library::write_floor(Some(&mut [1]), None, carts, None, groups, Some(out));
+        self.expect("groups", verdict, [1, 1, 0, 0]);
     }
 
     fn rows(&mut self, h: u16, length: usize) {
@@ -164,6 +175,8 @@ pub fn complaints() -> Vec<String> {
     wide.carts(2 * 715_827_883);
     wide.narrow(TURN + 1);
     wide.narrow(858_993_460);
+    wide.groups(TURN / 8);
+    wide.groups(TURN / 4 + 1);
     wide.rows(4, TURN + 8);
     wide.rows(4, TURN / 2);
     wide.rows(0, TURN);

@@ -14,7 +14,7 @@ typedef struct cartplan_span span;
 verdict __real_cartplan_read_floor(BYTES(floor));
 verdict __real_cartplan_read_plan(BYTES(floor), BYTES(plan));
 verdict __real_cartplan_write_floor(const uint32_t *places, size_t count, BYTES(lanes), BYTES(carts), BYTES(narrow),
-                                    uint8_t *out, size_t out_len);
+                                    const uint32_t *groups, size_t group_count, uint8_t *out, size_t out_len);
 verdict __real_cartplan_write_plan(BYTES(floor), uint16_t h, uint16_t l, uint16_t d, BYTES(rows), uint8_t *out, size_t out_len);
 verdict __real_cartplan_read_rules(BYTES(rules));
 verdict __real_cartplan_check_moves(BYTES(floor), BYTES(plan));
@@ -35,7 +35,12 @@ verdict __wrap_cartplan_read_floor(BYTES(floor))
 {
     if (fault("read_before_start") && floor_len > 0) sink = floor[-1];
     if (fault("read_null") && floor == NULL) sink = *(const volatile uint8_t *)floor;
-    return __real_cartplan_read_floor(floor, floor_len);
+    verdict v = __real_cartplan_read_floor(floor, floor_len);
+    int at_group = v.number > 2 && v.first + 4 <= floor_len && floor[v.first + 2] == 7;
+    if (fault("ninth_group_read") && v.number == 5 && at_group) return (verdict){0, 0, 0, 0};
+    if (fault("absent_cart_read") && v.number == 6 && at_group) return (verdict){0, 0, 0, 0};
+    if (fault("absent_before_ninth") && v.number == 5 && at_group && floor[v.first + 7] != 0) v.number = 6;
+    return v;
 }
 
 verdict __wrap_cartplan_read_plan(BYTES(floor), BYTES(plan))
@@ -47,14 +52,18 @@ verdict __wrap_cartplan_read_plan(BYTES(floor), BYTES(plan))
     return v;
 }
 
-verdict __wrap_cartplan_write_floor(const uint32_t *places, size_t count, BYTES(lanes), BYTES(carts), BYTES(narrow), uint8_t *out,
-                                    size_t out_len)
+verdict __wrap_cartplan_write_floor(const uint32_t *places, size_t count, BYTES(lanes), BYTES(carts), BYTES(narrow), const uint32_t *groups,
+                                    size_t group_count, uint8_t *out, size_t out_len)
 {
+    if (fault("read_groups_past_end")) sink = (uint8_t)groups[group_count];
+    if (fault("drops_groups")) group_count = 0;
+    if (fault("drops_one_group") && group_count > 1) group_count--;
     if (fault("read_narrow_past_end")) sink = narrow[narrow_len];
     if (fault("drops_narrow")) narrow_len = 0;
     if (fault("drops_one_narrow") && narrow_len > 1) narrow_len--;
-    verdict v = __real_cartplan_write_floor(places, count, lanes, lanes_len, carts, carts_len, narrow, narrow_len, out, out_len);
-    if (fault("narrow_otherwise") && v.number == 0 && narrow_len > 0) out[v.first - 1] = 0;
+    verdict v = __real_cartplan_write_floor(places, count, lanes, lanes_len, carts, carts_len, narrow, narrow_len, groups, group_count, out, out_len);
+    if (fault("narrow_otherwise") && v.number == 0 && narrow_len > 0) out[v.first - 8 * group_count - 1] = 0;
+    if (fault("group_otherwise") && v.number == 0 && group_count > 0) out[v.first - 4] = 0;
     if (fault("write_on_refusal") && v.number == 18 && out_len > 0) out[0]++;
     if (fault("read_places_past_end")) sink = (uint8_t)places[count];
     return v;
@@ -71,7 +80,12 @@ verdict __wrap_cartplan_write_plan(BYTES(floor), uint16_t h, uint16_t l, uint16_
 verdict __wrap_cartplan_read_rules(BYTES(rules))
 {
     if (fault("read_past_end")) sink = rules[rules_len];
-    return __real_cartplan_read_rules(rules, rules_len);
+    verdict v = __real_cartplan_read_rules(rules, rules_len);
+    int digit = v.number == 13 && v.first > 0 && v.first < rules_len && rules[v.first - 1] == '@';
+    if (fault("digit_8_read") && digit && rules[v.first] == '8') return (verdict){0, 0, 0, 0};
+    if (fault("space_in_group_read") && digit && rules[v.first] == ' ') return (verdict){0, 0, 0, 0};
+    if (fault("groups_not_read") && v.number == 0 && memchr(rules, '@', rules_len) != NULL) return (verdict){3, 13, 0, 0};
+    return v;
 }
 
 /* Faults of the moves that every function which judges them shares, so that no two of these differ. The first row begins at byte 14. */
@@ -161,11 +175,33 @@ static verdict sum_of(verdict v, BYTES(floor), BYTES(plan), BYTES(rules))
     size_t last = rules_len - 1;
     memcpy(sheet, rules, rules_len);
     memcpy(other, plan, plan_len);
-    while (last > 0 && (sheet[last] < '1' || sheet[last] > '9')) last--;
+    while (last > 0 && (sheet[last] < '1' || sheet[last] > '9' || sheet[last - 1] == '@')) last--;
     if (fault("joined_at_least")) sheet[last]--;
     if (fault("joined_window_short")) other[8]--;
     verdict lower = __real_cartplan_check(floor, floor_len, other, plan_len, sheet, rules_len);
     return lower.number == 0 ? lower : v;
+}
+
+/* Faults of counts over groups in an or: a pattern for one that is not joined, for any group or where the groups' numbers differ. */
+static const char *apart_for(BYTES(clause), const struct sides *sides)
+{
+    static const struct floor_numbers labels = {.groups = {1, 2, 4, 8, 16, 32, 64, 128}, .carts_len = 64};
+    uint32_t sets[128];
+    size_t n = sets_of(clause, clause_len, &labels, sets), alike = 0;
+    if (sides->op != '|') return NULL;
+    while (alike < n && sets[alike] == sets[0]) alike++;
+    if (fault("groups_never_joined") && memchr(clause, '@', clause_len) != NULL) return "(!true | (a)) | (b)";
+    if (fault("groups_joined_by_number") && alike < n) return "(!true | (a)) | (b)";
+    return NULL;
+}
+
+/* An or or until of counts over different carts, joined as if they were all over the fleet. */
+static verdict joined_of(verdict v, BYTES(floor), BYTES(plan), BYTES(rules))
+{
+    static const int none[9] = {FLEET, FLEET, FLEET, FLEET, FLEET, FLEET, FLEET, FLEET, FLEET};
+    static uint8_t sheet[16384];
+    verdict other = __real_cartplan_check(floor, floor_len, plan, plan_len, sheet, with_groups(rules, rules_len, none, sheet));
+    return v.number == 17 && other.number == 0 && fault("groups_joined") ? other : v;
 }
 
 /* The check of a sheet of one clause that has sides, with one of these faults. */
@@ -177,7 +213,9 @@ static verdict either_of(BYTES(floor), BYTES(plan), BYTES(rules))
     if ((v.number != 0 && v.number != 17) || memchr(rules, '\n', rules_len) != rules + rules_len - 1) return v;
     if (!sides_of(rules, rules_len - 1, &sides)) return v;
     if (plan[8] > 0 && sides.op == '|') v = sum_of(v, floor, floor_len, plan, plan_len, rules, rules_len);
+    v = joined_of(v, floor, floor_len, plan, plan_len, rules, rules_len);
     const char *pattern = pattern_for(&sides);
+    if (pattern == NULL) pattern = apart_for(rules, rules_len, &sides);
     size_t len = pattern != NULL ? rewritten(rules, rules_len - 1, &sides, pattern, sheet) : regrouped(rules, rules_len - 1, &sides, sheet);
     if (fault("step_not_joined") && v.number == 17 && sides.prefix == 'G' && sides.op == '|')
         len = rewritten(rules, rules_len - 1, &sides, "(!true | (a)) | (b)", sheet);
@@ -190,11 +228,46 @@ static verdict either_of(BYTES(floor), BYTES(plan), BYTES(rules))
 /* The check, with numbers of carts in place of the percentages of a sheet that can be read. */
 static verdict shares_of(BYTES(floor), BYTES(plan), BYTES(rules))
 {
+    static struct floor_numbers numbers;
     static uint8_t plain[16384 + 1];
-    if (__real_cartplan_read_rules(rules, rules_len).number != 0)
-        return __real_cartplan_check(floor, floor_len, plan, plan_len, rules, rules_len);
-    size_t len = with_numbers(rules, rules_len, fleet_of(plan, plan_len), carts_for, plain);
+    verdict v = __real_cartplan_check(floor, floor_len, plan, plan_len, rules, rules_len);
+    if (v.number != 0 && v.number != 16 && v.number != 17) return v;
+    take_apart(floor, floor_len, &numbers);
+    for (size_t g = 0; g < 8 && fault("share_of_fleet"); g++) numbers.groups[g] = carts_of(&numbers, FLEET);
+    size_t len = with_numbers(rules, rules_len, &numbers, carts_for, plain);
     return either_of(floor, floor_len, plan, plan_len, plain, len);
+}
+
+/* Faults of groups that the floor lacks, and of 21. */
+static verdict lacking_of(verdict v, BYTES(floor), BYTES(plan), BYTES(rules))
+{
+    static const int none[9] = {FLEET, FLEET, FLEET, FLEET, FLEET, FLEET, FLEET, FLEET, FLEET};
+    static uint8_t plain[16384];
+    verdict other = __real_cartplan_check(floor, floor_len, plan, plan_len, plain, with_groups(rules, rules_len, none, plain));
+    if (fault("lacking_as_fleet")) return other;
+    if (fault("lacking_after_16") && other.number == 16) return other;
+    if (fault("lacking_about_floor")) v.about = 1;
+    if (fault("lacking_in_clause_0")) v.first = 0;
+    if (fault("lacking_no_group")) v.second = 0;
+    if (fault("lacking_last_group")) v.second = 7;
+    return v;
+}
+
+/* Faults of the carts that counts are over: another group, all carts, a group that is all carts not known as that. */
+static verdict others_of(BYTES(floor), BYTES(plan), BYTES(rules))
+{
+    static struct floor_numbers numbers;
+    static uint8_t sheet[2 * 16384];
+    int other[9] = {0, 1, 2, 3, 4, 5, 6, 7, FLEET};
+    take_apart(floor, floor_len, &numbers);
+    for (int g = 0; g < (int)numbers.group_count; g++) {
+        if (fault("over_all_carts")) other[g] = FLEET;
+        if (fault("over_next_group")) other[g] = (g + 1) % (int)numbers.group_count;
+        if (fault("over_group_0")) other[g] = 0;
+    }
+    if (fault("fleet_over_group_0") && numbers.group_count > 0) other[8] = 0;
+    size_t len = with_groups(rules, rules_len, other, sheet);
+    return shares_of(floor, floor_len, plan, plan_len, sheet, len);
 }
 
 /* Faults of windows, which are told by a running count. */
@@ -216,6 +289,8 @@ static void mix_up(struct lone_count *first, size_t *asked, struct lone_count *c
     int negated = count->negated ^ count->mark_negated;
     for (size_t i = 0; i < *asked; i++) {
         if (first[i].mark != count->mark) continue;
+        if (fault("number_of_other_group")) count->group = first[i].group;
+        if (first[i].group != count->group) continue;
         if (fault("number_of_other_sign") && negated != (first[i].negated ^ first[i].mark_negated)) {
             count->mark_negated ^= 1;
             return;
@@ -227,6 +302,35 @@ static void mix_up(struct lone_count *first, size_t *asked, struct lone_count *c
         }
     }
     first[(*asked)++] = *count;
+}
+
+/* The fleet's size in place of a group's in a negation: as much more is asked for as carts are outside. */
+static void negate_by_fleet(const struct floor_numbers *numbers, struct lone_count *count)
+{
+    unsigned size = size_of(carts_of(numbers, count->group)), outside = (unsigned)numbers->carts_len / 2 - size;
+    unsigned m = count->is_share ? nearest(count->number * size, 0) : count->number;
+    if (!fault("count_negated_by_fleet") || !count->negated) return;
+    count->number = m > outside ? m - outside : 0;
+    count->is_share = 0;
+}
+
+/* Whether a count of one mark is true; with a fault, all carts of a group are all carts. */
+static int lone_kept(BYTES(floor), const uint8_t *plan, struct lone_count *count, uint32_t *step)
+{
+    static struct floor_numbers numbers;
+    static uint8_t fewer[65536], rows[65536];
+    uint8_t list[32];
+    size_t n = 0;
+    take_apart(floor, floor_len, &numbers);
+    negate_by_fleet(&numbers, count);
+    for (uint8_t i = 0; i < 32; i++)
+        if (carts_of(&numbers, count->group) >> i & 1) list[n++] = i;
+    if (n == 0 || !fault("count_all_of_group")) return is_kept(floor, floor_len, plan, count, running, step);
+    pick_carts(&numbers, list, n);
+    pick_rows(plan, list, n, rows);
+    verdict v = __real_cartplan_write_floor(numbers.places, numbers.place_count, NULL, 0, numbers.carts, 2 * n, NULL, 0, NULL, 0, fewer, sizeof fewer);
+    count->group = FLEET;
+    return is_kept(fewer, v.first, rows, count, running, step);
 }
 
 /* The check of a judged sheet, line by line, with these faults in its counts of one mark. */
@@ -243,7 +347,7 @@ static verdict counts_of(BYTES(floor), BYTES(plan), BYTES(rules))
             alone = __real_cartplan_check(floor, floor_len, plan, plan_len, line, len);
         } else {
             mix_up(first, &asked, &count);
-            if (is_kept(floor, floor_len, plan, &count, running, &alone.second)) alone.number = 0;
+            if (lone_kept(floor, floor_len, plan, &count, &alone.second)) alone.number = 0;
         }
         if (alone.number != 0) return (verdict){3, 17, number, alone.second};
         line += len;
@@ -263,7 +367,9 @@ verdict __wrap_cartplan_check(BYTES(floor), BYTES(plan), BYTES(rules))
     if (fault("accepts_all")) return (verdict){0, 0, 0, 0};
     verdict v = moves_of(floor, floor_len, plan, plan_len);
     if (v.number != 0) return v;
-    v = shares_of(floor, floor_len, plan, plan_len, rules, rules_len);
+    v = __real_cartplan_check(floor, floor_len, plan, plan_len, rules, rules_len);
+    if (v.number == 21) return lacking_of(v, floor, floor_len, plan, plan_len, rules, rules_len);
+    if (v.number == 0 || v.number == 16 || v.number == 17) v = others_of(floor, floor_len, plan, plan_len, rules, rules_len);
     if (v.number == 20) return conflict_of(v, plan, plan_len, rules, rules_len);
     if (counts_wrong() && (v.number == 0 || v.number == 17)) return counts_of(floor, floor_len, plan, plan_len, rules, rules_len);
     if (fault("conflict_invented") && v.number == 0) return (verdict){2, 20, 0, 0};
@@ -297,6 +403,7 @@ verdict __wrap_cartplan_replace_row(BYTES(floor), uint8_t *plan, size_t plan_len
 span __wrap_cartplan_clause(BYTES(rules), BYTES(given))
 {
     span part = __real_cartplan_clause(rules, rules_len, given, given_len);
+    if (fault("clause_not_by_21") && given_len == 16 && given[4] == 21) return (span){0, 0};
     if (fault("part_too_long") && part.length > 0) part.length++;
     if (fault("verdict_past_end") && given_len < 16) sink = given[15];
     return part;

@@ -1,6 +1,6 @@
-/* An accepted floor's numbers, and the conflicts of a plan in narrow places: two carts in one at a moment (a vertex conflict), or
- * exchanged between two in one tick (a swap conflict). A sheet's percentages as numbers of carts. Counts of one mark, by their windows. A
- * clause's outermost operator. */
+/* An accepted floor's numbers, also of some of its carts, and the conflicts of a plan in narrow places: two carts in one at a moment (a vertex conflict), or
+ * exchanged between two in one tick (a swap conflict). A sheet's percentages as numbers of carts, and its groups. Counts of one mark, by
+ * their windows. A clause's outermost operator. */
 #include "model.h"
 
 #include <stdio.h>
@@ -17,7 +17,7 @@ static void append(uint8_t *to, size_t *len, const uint8_t *body, size_t n)
 
 void take_apart(const uint8_t *floor, size_t floor_len, struct floor_numbers *numbers)
 {
-    numbers->place_count = numbers->lanes_len = numbers->carts_len = numbers->narrow_len = 0;
+    numbers->place_count = numbers->lanes_len = numbers->carts_len = numbers->narrow_len = numbers->group_count = 0;
     for (size_t at = 0; at < floor_len; at += 4u + floor[at]) {
         const uint8_t *body = floor + at + 4;
         switch (floor[at + 2]) {
@@ -25,8 +25,45 @@ void take_apart(const uint8_t *floor, size_t floor_len, struct floor_numbers *nu
         case 2: append(numbers->lanes, &numbers->lanes_len, body, 3); break;
         case 3: append(numbers->carts, &numbers->carts_len, body, 2); break;
         case 6: append(numbers->narrow, &numbers->narrow_len, body, 1); break;
+        case 7:
+            if (numbers->group_count == 8) return;
+            memcpy(&numbers->groups[numbers->group_count++], body, 4);
+            break;
         }
     }
+}
+
+uint32_t carts_of(const struct floor_numbers *numbers, int group)
+{
+    return group == FLEET ? UINT32_MAX >> (CARTS - numbers->carts_len / 2) : numbers->groups[group];
+}
+
+unsigned size_of(uint32_t set)
+{
+    unsigned size = 0;
+    for (unsigned n = 0; n < CARTS; n++) size += set >> n & 1;
+    return size;
+}
+
+void pick_carts(struct floor_numbers *numbers, const uint8_t *list, size_t n)
+{
+    uint8_t all[sizeof numbers->carts];
+    memcpy(all, numbers->carts, sizeof all);
+    numbers->carts_len = 2 * n;
+    for (size_t i = 0; i < n; i++) memcpy(numbers->carts + 2 * i, all + 2 * list[i], 2);
+    for (size_t g = 0; g < numbers->group_count; g++) {
+        uint32_t kept = 0;
+        for (size_t i = 0; i < n; i++) kept |= (numbers->groups[g] >> list[i] & 1) << i;
+        numbers->groups[g] = kept;
+    }
+}
+
+size_t pick_rows(const uint8_t *plan, const uint8_t *list, size_t n, uint8_t *out)
+{
+    size_t len = 0, row = 4u + plan[4];
+    append(out, &len, plan, 10);
+    for (size_t i = 0; i < n; i++) append(out, &len, plan + 10 + list[i] * row, row);
+    return len;
 }
 
 unsigned fleet_of(const uint8_t *plan, size_t plan_len)
@@ -107,15 +144,22 @@ static unsigned number_at(const uint8_t *rules, size_t rules_len, size_t at, siz
     return number;
 }
 
-size_t with_numbers(const uint8_t *rules, size_t rules_len, unsigned fleet, rounding *rounded, uint8_t *out)
+/* The group that stands at a byte or behind spaces there, or FLEET. */
+static int group_at(const uint8_t *rules, size_t rules_len, size_t at)
+{
+    while (at < rules_len && rules[at] == ' ') at++;
+    return at + 1 < rules_len && rules[at] == '@' ? rules[at + 1] - '0' : FLEET;
+}
+
+size_t with_numbers(const uint8_t *rules, size_t rules_len, const struct floor_numbers *numbers, rounding *rounded, uint8_t *out)
 {
     size_t len = 0;
     int nots = 0, negated = 0;
     for (size_t at = 0, end; at < rules_len; at = end) {
         unsigned number = number_at(rules, rules_len, at, &end);
         if (end > at && end < rules_len && rules[end] == '%') {
-            len += (size_t)sprintf((char *)out + len, "%u", rounded(number * fleet, negated));
-            end++;
+            unsigned size = size_of(carts_of(numbers, group_at(rules, rules_len, ++end)));
+            len += (size_t)sprintf((char *)out + len, "%u", rounded(number * size, negated));
             continue;
         }
         if (rules[at] == '[') negated = nots & 1;
@@ -124,6 +168,50 @@ size_t with_numbers(const uint8_t *rules, size_t rules_len, unsigned fleet, roun
         append(out, &len, rules + at, end - at);
     }
     return len;
+}
+
+size_t with_groups(const uint8_t *rules, size_t rules_len, const int other[9], uint8_t *out)
+{
+    size_t len = 0;
+    int group = FLEET;
+    for (size_t at = 0; at < rules_len; at++) {
+        if (rules[at] == '@') {
+            group = rules[++at] - '0';
+            continue;
+        }
+        if (rules[at] == ']') {
+            group = other[group == FLEET ? 8 : group];
+            if (group != FLEET) len += (size_t)sprintf((char *)out + len, "@%d", group);
+            group = FLEET;
+        }
+        out[len++] = rules[at];
+    }
+    return len;
+}
+
+int missing_group(const uint8_t *rules, size_t rules_len, size_t group_count, uint32_t *clause, uint32_t *group)
+{
+    *clause = 0;
+    for (size_t at = 0; at < rules_len; at++) {
+        if (rules[at] == '\n') ++*clause;
+        if (rules[at] != '@') continue;
+        *group = (uint32_t)(rules[at + 1] - '0');
+        if (*group >= group_count) return 1;
+    }
+    return 0;
+}
+
+size_t sets_of(const uint8_t *text, size_t len, const struct floor_numbers *numbers, uint32_t *sets)
+{
+    size_t n = 0;
+    int group = FLEET;
+    for (size_t at = 0; at < len; at++) {
+        if (text[at] == '@') group = text[at + 1] - '0';
+        if (text[at] != ']') continue;
+        sets[n++] = carts_of(numbers, group);
+        group = FLEET;
+    }
+    return n;
 }
 
 /* The byte at a place that is no space, or 0 behind the end. */
@@ -160,6 +248,8 @@ int lone_count_of(const uint8_t *clause, size_t len, struct lone_count *count)
     look(clause, len, &at);
     count->number = number_at(clause, len, at, &at);
     count->is_share = take_byte(clause, len, &at, '%');
+    count->group = group_at(clause, len, at);
+    if (take_byte(clause, len, &at, '@')) at++;
     return take_byte(clause, len, &at, ']') && look(clause, len, &at) == 0;
 }
 
@@ -185,11 +275,14 @@ int is_kept(const uint8_t *floor, size_t floor_len, const uint8_t *plan, const s
     static struct floor_numbers numbers;
     unsigned h = plan[4], failing = h, met = 0;
     take_apart(floor, floor_len, &numbers);
-    unsigned fleet = (unsigned)numbers.carts_len / 2, m = count->is_share ? nearest(count->number * fleet, 0) : count->number;
-    if (count->negated) m = m > fleet ? 0 : fleet + 1 - m;
+    uint32_t over = carts_of(&numbers, count->group);
+    unsigned fleet = (unsigned)numbers.carts_len / 2, size = size_of(over);
+    unsigned m = count->is_share ? nearest(count->number * size, 0) : count->number;
+    if (count->negated) m = m > size ? 0 : size + 1 - m;
     for (unsigned s = h; s-- > 0;) {
         unsigned here = 0, within = 0;
         for (unsigned n = 0; n < fleet; n++) {
+            if (!(over >> n & 1)) continue;
             uint64_t row = marked(&numbers, plan, n, count->mark, count->negated ^ count->mark_negated);
             here += row >> s & 1;
             within += (unsigned)held(row, plan, s);
@@ -240,6 +333,20 @@ int sides_of(const uint8_t *clause, size_t len, struct sides *sides)
     sides->end = end;
     sides->op = clause[at];
     return 1;
+}
+
+int plain_count_of(const uint8_t *part, size_t len, struct plain_count *count)
+{
+    size_t at = 0, end;
+    if (!take_byte(part, len, &at, '[')) return 0;
+    for (end = at; part[end] != ','; end++) continue;
+    count->text = part + at;
+    count->len = end - at;
+    for (at = end + 1; at < len && part[at] == ' '; at++) continue;
+    count->number = number_at(part, len, at, &at);
+    count->group = group_at(part, len, at);
+    if (take_byte(part, len, &at, '@')) at++;
+    return take_byte(part, len, &at, ']') && look(part, len, &at) == 0;
 }
 
 size_t rewritten(const uint8_t *clause, size_t len, const struct sides *sides, const char *pattern, uint8_t *out)

@@ -7,13 +7,24 @@
 
 /* A floor's numbers, as cartplan_write_floor takes them. */
 struct floor_numbers {
-    uint32_t places[256];
+    uint32_t places[256], groups[8];
     uint8_t lanes[3 * 1024], carts[2 * 32], narrow[256];
-    size_t place_count, lanes_len, carts_len, narrow_len;
+    size_t place_count, lanes_len, carts_len, narrow_len, group_count;
 };
 
 /* The numbers of an accepted floor. */
 void take_apart(const uint8_t *floor, size_t floor_len, struct floor_numbers *numbers);
+
+/* The carts of a group, bit n for cart n; all of them for FLEET. How many a set has. */
+enum { FLEET = -1 };
+uint32_t carts_of(const struct floor_numbers *numbers, int group);
+unsigned size_of(uint32_t carts);
+
+/* Leaves the carts of a list alone, in its order; each group keeps those that it has of them. */
+void pick_carts(struct floor_numbers *numbers, const uint8_t *list, size_t n);
+
+/* Their rows of an accepted plan, behind its head; the length. */
+size_t pick_rows(const uint8_t *plan, const uint8_t *list, size_t n, uint8_t *out);
 
 /* How many rows an accepted plan has: one a cart. */
 unsigned fleet_of(const uint8_t *plan, size_t plan_len);
@@ -28,12 +39,22 @@ typedef unsigned rounding(unsigned share, int negated);
 rounding nearest;
 
 /* A readable sheet with numbers of carts, rounded so, in place of its percentages; its length. */
-size_t with_numbers(const uint8_t *rules, size_t rules_len, unsigned fleet, rounding *rounded, uint8_t *out);
+size_t with_numbers(const uint8_t *rules, size_t rules_len, const struct floor_numbers *numbers, rounding *rounded, uint8_t *out);
+
+/* A readable sheet with other groups: for each group, and behind them for counts of the fleet, a group or FLEET. Its length, at most half as
+ * long again as the sheet's. */
+size_t with_groups(const uint8_t *rules, size_t rules_len, const int other[9], uint8_t *out);
+
+/* Whether a readable sheet names a group that a floor of so many lacks; the first in its text. */
+int missing_group(const uint8_t *rules, size_t rules_len, size_t group_count, uint32_t *clause, uint32_t *group);
+
+/* The carts that each count of a readable text is over; how many counts, at most 64 in a clause. */
+size_t sets_of(const uint8_t *text, size_t len, const struct floor_numbers *numbers, uint32_t *sets);
 
 /* A clause that is a count of one mark, with G, F or nothing before it. The number may be a percentage; count and mark may be negated. */
 struct lone_count {
     unsigned mark, number;
-    int is_share, negated, mark_negated;
+    int is_share, negated, mark_negated, group;
     uint8_t prefix;
 };
 
@@ -59,6 +80,17 @@ struct sides {
 
 /* Whether a readable clause, without its line end, is such a one. */
 int sides_of(const uint8_t *clause, size_t len, struct sides *sides);
+
+/* A side that is a count by itself, its number no percentage: its inner text, number and group. */
+struct plain_count {
+    const uint8_t *text;
+    size_t len;
+    unsigned number;
+    int group;
+};
+
+/* Whether a readable part of a clause is such a one. */
+int plain_count_of(const uint8_t *part, size_t len, struct plain_count *count);
 
 /* The clause with a pattern in place of the operator and its sides, which are a and b in it; its length. */
 size_t rewritten(const uint8_t *clause, size_t len, const struct sides *sides, const char *pattern, uint8_t *out);

@@ -82,18 +82,24 @@ def fleet(carts, away, d):
     return floor, record(4, little(2, 0, d)) + b"".join(record(5, [0, cart < away]) for cart in range(carts))
 
 
+def grouped(files, *groups):
+    """A floor and its plan, with groups of these carts."""
+    floor, plan = files
+    return floor + b"".join(record(7, sum(1 << cart for cart in group).to_bytes(4, "little")) for group in groups), plan
+
+
 def folder(path):
     return [(pathlib.Path(path) / file).read_bytes() for file in ("floor", "plan", "rules")]
 
 
 def seeds_of(floor, plan, rules):
-    places, lanes, carts, narrow = (b"".join(bodies(floor, kind)) for kind in (1, 2, 3, 6))
+    places, lanes, carts, narrow, groups = (b"".join(bodies(floor, kind)) for kind in (1, 2, 3, 6, 7))
     head, rows = bodies(plan, 4)[0], bodies(plan, 5)
     h, l, d = (int.from_bytes(head[i : i + 2], "little") for i in (0, 2, 4))
     return {
         "read_floor": seed("read_floor", [], floor),
         "read_plan": seed("read_plan", [], floor, plan),
-        "write_floor": seed("write_floor", [len(floor)], places, lanes, carts, narrow),
+        "write_floor": seed("write_floor", [len(floor)], places, lanes, carts, narrow, groups),
         "write_plan": seed("write_plan", [h, l, d, len(plan) + 9], floor, b"".join(rows)),
         "read_rules": seed("read_rules", [], rules),
         "check_moves": seed("check_moves", [], floor, plan),
@@ -125,8 +131,8 @@ def special_seeds():
         "long_plan": seed("read_plan", [], PLACE + CART, record(4, little(4, 0, 0)) * 2 + b"..", repeat=1 | 63 << 2),
         "long_sheet": seed("read_rules", [], line, repeat=2 | 16 << 2),
         "many_clauses": seed("read_rules", [], line, repeat=2 | 1 << 2),
-        "many_places": seed("write_floor", [4000], bytes([1, 0, 0, 0]), b"", bytes([0, 0]), b"", repeat=1 << 2),
-        "many_carts": seed("write_floor", [4000], bytes([1, 0, 0, 0]), bytes([0, 0, 255]), bytes([0, 0]), b"", repeat=2 | 1 << 2),
+        "many_places": seed("write_floor", [4000], bytes([1, 0, 0, 0]), b"", bytes([0, 0]), b"", b"", repeat=1 << 2),
+        "many_carts": seed("write_floor", [4000], bytes([1, 0, 0, 0]), bytes([0, 0, 255]), bytes([0, 0]), b"", b"", repeat=2 | 1 << 2),
         "many_rows": seed("write_plan", [64, 0, 0, 4000], PLACE + CART, bytes(64), repeat=1 | 2 << 2),
         "no_such_cart": seed("replace_row", [3, 0], floor, plan, bytes(61)),
         "short_verdict": seed("clause", [], little(3, 0, 17, 0, 0, 0, 0), line),
@@ -165,10 +171,10 @@ def narrow_seeds():
         "narrow_long": seed("read_floor", [], floor + record(6, [1, 1])),
         "narrow_no_cart": seed("read_floor", [], PLACE + record(6, [0])),
         "narrow_257": seed("read_floor", [], crowd(0)[0] + record(6, [0])),
-        "narrow_to_write": seed("write_floor", [60], marks, lane, cart, bytes([1, 0, 1])),
-        "narrow_absent_to_write": seed("write_floor", [60], marks, lane, cart, bytes([1, 2])),
-        "many_narrow": seed("write_floor", [4000], marks, lane, cart, bytes([1]), repeat=3 | 1 << 2),
-        "no_narrow_to_write": seed("write_floor", [60], marks, lane, cart, b"", edges=0x10),
+        "narrow_to_write": seed("write_floor", [60], marks, lane, cart, bytes([1, 0, 1]), b""),
+        "narrow_absent_to_write": seed("write_floor", [60], marks, lane, cart, bytes([1, 2]), b""),
+        "many_narrow": seed("write_floor", [4000], marks, lane, cart, bytes([1]), b"", repeat=3 | 1 << 2),
+        "no_narrow_to_write": seed("write_floor", [60], marks, lane, cart, b"", b"", edges=0x10),
     }
 
 
@@ -261,9 +267,93 @@ def window_seeds():
     }
 
 
+def group_seeds():
+    """Counts over groups: one cart, none, all, the same ones twice; in ors, untils and their negations, beside counts of the fleet and of other
+    groups; percentages and negations of a group's size, thresholds above it; all carts of a group at a step that is left. Groups that the floor
+    lacks: the second in the text, before 16, behind a wrong byte, of no group at all. Of 32 carts. Tokens that are refused."""
+    three, leaving = [[0, 0], [0, 1], [1, 1]], [[0, 0, 2], [0, 0, 2], [0, 0, 0]]
+    sets = (0, 1), (1, 2), (0, 1, 2), (), (2, 1), (0, 1, 2)
+    clauses = {
+        "or": "[m1,2@0] | [m2,1@0]",
+        "or_of_others": "[m1,2@0] | [m2,2@1]",
+        "or_with_fleet": "[m1,2] | [m2,2@2]",
+        "or_of_fleet_twice": "[m1,2@2] | [m2,2@5]",
+        "or_not_fleet": "[m1,2] | [m2,2@1]",
+        "or_of_equals": "G ([m1,1@1] | [m2,2@4])",
+        "negated_and": "!(![m1,2@0] & ![m2,1@0])",
+        "negated_and_of_others": "!(![m1,2@2] & ![m2,2@1])",
+        "until": "[m1,2@2] U [m2,2]",
+        "until_of_others": "[m1,2@2] U [m2,2@1]",
+        "until_of_one": "[m1,2@0] U [m2,1@0]",
+        "negated_release": "!(![m1,2@2] R ![m2,2@1])",
+        "more_of_others": "([m1,2] | [m2,2@2]) | [m1,2@1]",
+        "others_between": "[m1,2] | ([m1,2@1] | [m2,2])",
+        "empty": "[m1,0@3] & ![m1,1@3] & [m1,100%@3] & [m1,1%@1]",
+        "of_none": "F [m1,1@3]",
+        "none_negated": "![m1,0@3]",
+        "above_its_size": "G ![m1,3@1] & F [m2,2@1]",
+        "share": "[m1,75%@0] | [m2,25%@1]",
+        "all": "F [m1,1@2]",
+    }
+    seeds = {f"group_{name}": seed("check", [], *grouped(tables(three, 1, 1), *sets), f"{clause}\n".encode()) for name, clause in clauses.items()}
+    halves = b"G [m1,50%@0]\nF ![m1,50%@1]\n[m2,50%@1]\nG ![m1,67%@0]\n"
+    wide = grouped(fleet(32, 20, 2), range(16), range(16, 32), range(32), [31])
+    lacking = b"true\n[m1,0@1] & [m1,0@5] & [m1,0@4]\nX true\n[m1,0@7]\n"
+    return seeds | {
+        "group_shares_in_step": seed("check", [], *grouped(tables(three, 1, 0), *sets), halves),
+        "group_all_leave": seed("check", [], *grouped(tables(leaving, 2, 1), (0, 1), (0, 1, 2)), b"G [m1,1@0]\n"),
+        "group_one_stays": seed("check", [], *grouped(tables(leaving, 2, 1), (0, 1), (2,)), b"G [m1,1@1]\nF ![m1,2@0]\nG [m1,1@0]\n"),
+        "group_fleet_leaves": seed("check", [], *grouped(tables(leaving[:2], 2, 1), (0, 1)), b"F [m1,1@0]\nG [m1,1@0]\n"),
+        "group_negated": seed("check", [], *grouped(tables(three, 1, 0), *sets), b"![m1,2@1]\n![m1,3@0]\nF ![m1,1@1]\n"),
+        "group_of_32": seed("check", [], *wide, b"G [m0,12@1]\n[m0,75% @1 ]\nG ([m0,1@3] | [m1,1@3])\nG [m0,13@2]\n"),
+        "group_8": seed("check", [], *grouped(fleet(3, 1, 0), *[[n % 3] for n in range(8)]), b"X [m1,1@0]\nX [m1,1@3]\nX ![m1,1@7]\n"),
+        "group_lacking": seed("check", [], *grouped(fleet(3, 1, 1), (0,), (1,), ()), lacking),
+        "group_lacking_no_drift": seed("check", [], *grouped(fleet(3, 1, 0), (0,), (1,), ()), lacking[5:]),
+        "group_none_there": seed("check", [], *fleet(3, 1, 0), b"G [m0,0@0]\n"),
+        "group_lacking_bad_sheet": seed("check", [], *fleet(3, 1, 0), b"G [m0,0@0]\n[m0,1@8]\n"),
+        "group_sheet": seed("read_rules", [], b"[m0,1@0] | [ m1 , 50%  @7 ]\n"),
+        "group_digit_8": seed("read_rules", [], b"true\n[m0,1@8]\n"),
+        "group_two_digits": seed("read_rules", [], b"[m0,100%@01]\n"),
+        "group_space_inside": seed("read_rules", [], b"[m0,1@ 0]\n"),
+        "group_cut": seed("read_rules", [], b"[m0,1@"),
+        "group_clause": seed("clause", [], little(3, 0, 21, 0, 1, 0, 7, 0), b"true\n[m0,1@7]\n"),
+    }
+
+
+def group_file_seeds():
+    """Records of kind 7: eight of them, a ninth, an absent cart, a wrong length, a narrow place behind one, before any cart. To write: three
+    behind a narrow place, an absent cart's, the empty one alone, nine, 261 and 8,321."""
+    floor, plan = grouped(bays([[0, 1], [2, 3]], [1], 0, 0), (0,), (), (0, 1))
+    marks, lane, cart = bytes([1, 0, 0, 0]) * 2, bytes([0, 1, 255]), bytes(4)
+    write = lambda room, narrow, *groups, **how: seed("write_floor", [room], marks, lane, cart, narrow, b"".join(groups), **how)
+    bits = [bytes([n, 0, 0, 0]) for n in range(8)]
+    return {
+        "groups_read": seed("read_floor", [], floor),
+        "groups_of_8": seed("read_floor", [], floor + record(7, bits[0]) * 5),
+        "groups_of_9": seed("read_floor", [], floor + record(7, bits[0]) * 6),
+        "groups_of_32": seed("read_floor", [], PLACE + CART * 32 + record(7, [255] * 4)),
+        "groups_absent_cart": seed("read_floor", [], floor + record(7, bits[4])),
+        "groups_long": seed("read_floor", [], floor + record(7, [1] * 5)),
+        "groups_then_narrow": seed("read_floor", [], floor + record(6, [1])),
+        "groups_no_cart": seed("read_floor", [], PLACE + record(7, bits[0])),
+        "groups_before_cart": seed("read_floor", [], PLACE + record(7, bits[1]) + CART),
+        "groups_plan": seed("read_plan", [], floor, plan),
+        "groups_moves": seed("check_moves", [], floor, plan),
+        "groups_move_on": seed("move_on", [1, 99], floor, plan),
+        "groups_row": seed("replace_row", [1, 0], floor, plan, bytes([2, 3])),
+        "groups_to_write": write(99, bytes([1]), bits[2], bits[0], bits[3]),
+        "groups_absent_to_write": write(99, b"", bits[1], bits[4]),
+        "groups_empty_to_write": write(43, b"", bits[0]),
+        "groups_9_to_write": write(999, b"", *[bits[3]] * 9),
+        "many_groups": write(4000, b"", bits[1], repeat=3 | 1 << 2),
+        "too_many_groups": write(4000, b"", bits[1], repeat=3 | 32 << 2),
+        "no_groups_to_write": write(60, b"", edges=0x20),
+    }
+
+
 def main():
     out = pathlib.Path(sys.argv[1] if len(sys.argv) > 1 else "tests/fuzz/corpus")
-    seeds = special_seeds() | narrow_seeds() | share_seeds() | either_seeds() | window_seeds()
+    seeds = special_seeds() | narrow_seeds() | share_seeds() | either_seeds() | window_seeds() | group_seeds() | group_file_seeds()
     edits = ["check", "move_on", "replace_row", "write_floor", "write_plan", "clause"]
     for name, files, operations in [
         ("two-carts", folder("examples/two-carts"), OPERATIONS),

@@ -137,7 +137,7 @@ def replacements(body, i, known, repository):
         return [(LOGIC[text], "logic")] if binary or text in ("true", "false", "!") else []
     if text[0].isdigit():
         return [(n, "number") for n in numbers(text)]
-    if re.fullmatch(r"b'[A-Za-z0-9()]'", text):
+    if re.fullmatch(r"b'[A-Za-z0-9()@]'", text):
         return [(f"b'{chr(ord(text[2]) + 1)}'", "number")]
     if not re.fullmatch(r"[A-Za-z_]\w*", text) or text in KEYWORDS:
         return []

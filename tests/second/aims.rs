@@ -3,6 +3,7 @@
 use crate::clauses::Clauses;
 use crate::damage::{self, Triple};
 use crate::faults::Records;
+use crate::groups;
 use crate::limits;
 use crate::narrow;
 use crate::random::Random;
@@ -12,8 +13,8 @@ use crate::tables;
 use crate::world::{Size, World};
 
 /// How often each number is aimed at, in 1,000; 18 stands for damaged bytes, and 19 for ors of counts. These are no numbers of the check.
-const AIMS: [usize; 21] = [
-    180, 6, 20, 20, 20, 25, 25, 20, 20, 20, 25, 60, 10, 60, 55, 40, 50, 100, 54, 80, 110,
+const AIMS: [usize; 22] = [
+    170, 6, 20, 20, 20, 25, 25, 20, 20, 20, 25, 50, 10, 60, 55, 40, 50, 95, 54, 75, 90, 50,
 ];
 
 pub fn triple(random: &mut Random) -> Triple {
@@ -25,6 +26,7 @@ pub fn triple(random: &mut Random) -> Triple {
         12..=16 => with_sheet(random, aim),
         19 => joined(random),
         20 => conflicting(random),
+        21 => with_lacking(random),
         _ => damaged(random),
     };
     damage::without_later_forms(&mut triple);
@@ -142,11 +144,25 @@ fn with_sheet(random: &mut Random, number: u32) -> Triple {
     };
     match number {
         12 => limits::pad(random, &mut rules),
+        13 if random.chance(25) => rules = limits::other_group(random, &rules),
         13 => damage::damage(random, &mut rules, true),
         14 if random.chance(15) => damage::damage(random, &mut rules, true),
         15 => rules = limits::other_number(random, &rules),
         _ => {}
     }
+    with_rules(&world, rules)
+}
+
+/// A triple with counts over groups that the floor lacks, beside others.
+fn with_lacking(random: &mut Random) -> Triple {
+    let size = [Size::Small, Size::Middle, Size::Large][random.weighted(&[80, 18, 2])];
+    let mut world = World::random(random, size, narrow::Wish::Clear);
+    world.floor.groups.truncate(groups::MOST_GROUPS - 1);
+    let collection = world.collection();
+    let mut clauses = Clauses::new(random, &world, &collection);
+    clauses.next_outside = clauses.random.chance(30);
+    let count = clauses.random.range(1, 4);
+    let rules = sheets::lacking(&mut clauses, count);
     with_rules(&world, rules)
 }
 

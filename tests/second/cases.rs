@@ -2,12 +2,13 @@
 
 use crate::check;
 use crate::floor::Floor;
+use crate::group_cases;
 use crate::joined_cases;
 use crate::library;
 use crate::narrow_cases;
 use crate::plan::Plan;
 use crate::unrolled;
-use crate::verdict::{Refusal, Verdict, PLAN, RULES};
+use crate::verdict::{Refusal, Verdict, FLOOR as FLOOR_FILE, PLAN, RULES};
 
 pub const FLOOR: [u8; 56] = [
     4, 0, 1, 0, 1, 0, 0, 0, 4, 0, 1, 0, 2, 0, 0, 0, // places with m0, with m1
@@ -28,7 +29,7 @@ pub fn plan(d: u8) -> Vec<u8> {
     plan
 }
 
-const ACCEPTED: Refusal = Refusal(0, 0, 0);
+pub const ACCEPTED: Refusal = Refusal(0, 0, 0);
 
 /// Clause, drift, verdict: the cases table.
 const TABLE: [(&str, u8, Refusal); 12] = [
@@ -230,6 +231,32 @@ fn joined() -> Result<usize, String> {
     Ok(count)
 }
 
+/// Records and tokens of groups, and clauses about them with the runs.
+fn groups() -> Result<usize, String> {
+    let mut count = 0;
+    for (records, refusal) in group_cases::floors() {
+        let floor = [&FLOOR[..], &records].concat();
+        let verdict = match refusal {
+            ACCEPTED => Verdict::ACCEPTED,
+            _ => Verdict::refused(FLOOR_FILE, refusal),
+        };
+        compare(&floor, &plan(0), b"true\n", verdict)?;
+        count += 1;
+    }
+    let floor = [&FLOOR[..], &group_cases::records(&group_cases::GROUPS)].concat();
+    for (sheet, d, refusal) in group_cases::sheets() {
+        compare(&floor, &plan(d), sheet.as_bytes(), wanted(refusal))?;
+        count += 1;
+    }
+    for case in group_cases::judged() {
+        let (floor, plan, rules, verdict, _) = &case;
+        compare(floor, plan, rules, *verdict)?;
+        joined_cases::found_on_runs(&case)?;
+        count += 1;
+    }
+    Ok(count)
+}
+
 /// The number of cases; the first case that comes out otherwise is told.
 pub fn run() -> Result<usize, String> {
     let mut count = 0;
@@ -246,5 +273,5 @@ pub fn run() -> Result<usize, String> {
         compare(&floor, &plan, b"true\n", verdict)?;
         count += 1;
     }
-    Ok(count + narrow()? + joined()?)
+    Ok(count + narrow()? + joined()? + groups()?)
 }

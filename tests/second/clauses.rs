@@ -14,6 +14,8 @@ pub struct Clauses<'a> {
     /// How often a part is an or of counts or an until between such ors, in percent, and the most nodes of one where it is asked for.
     pub joined: usize,
     pub sizes: [usize; 4],
+    /// How often a count, or an or of counts, is over groups of the floor, in percent.
+    pub grouped: usize,
     /// The least number of nodes of a clause.
     pub least: usize,
 }
@@ -30,6 +32,7 @@ impl<'a> Clauses<'a> {
             next_outside: false,
             joined: 15,
             sizes: [11; 4],
+            grouped: 50,
             least: 1,
         }
     }
@@ -131,58 +134,54 @@ impl<'a> Clauses<'a> {
 
     /// A count over this inner formula.
     pub fn counted(&mut self, clause: &mut Clause, inner: usize) -> usize {
-        let threshold = self.threshold(clause, inner);
+        let group = self.maybe_group();
+        let threshold = self.threshold(clause, inner, group).over(group);
         clause.push(Op::Count(threshold), inner, 0)
     }
 
-    fn threshold(&mut self, clause: &Clause, inner: usize) -> Threshold {
-        let carts = self.collection.carts();
+    fn threshold(&mut self, clause: &Clause, inner: usize, group: Option<usize>) -> Threshold {
+        let over = self.collection.over(group);
         let number = match self.random.below(20) {
             0 => self.random.below(1000),
-            1 => self.random.below(carts + 2),
+            1 => self.random.below(over.len() + 2),
             2 | 3 => 1,
-            4 => carts,
-            _ => self.telling(clause, inner),
+            4 => over.len(),
+            _ => self.telling(clause, inner, &over),
         };
-        if number <= carts && self.random.chance(35) {
-            return self.percentage(number);
+        if number <= over.len() && self.random.chance(35) {
+            return self.percentage(number, over.len());
         }
-        let number = number as u32;
-        Threshold {
-            number,
-            percent: false,
-        }
+        Threshold::plain(number)
     }
 
-    /// A number at which the count, or its negation, just turns at some step.
-    fn telling(&mut self, clause: &Clause, inner: usize) -> usize {
-        let carts = self.collection.carts();
+    /// A number at which the count over these carts, or its negation, just turns at some step.
+    fn telling(&mut self, clause: &Clause, inner: usize, over: &[usize]) -> usize {
         let negated = self.random.chance(40);
         let step = self.random.below(self.collection.steps());
-        let holds = |&n: &usize| {
+        let holds = |&&n: &&usize| {
             let mut z = self.collection.z(clause, inner, n);
             z.iter_mut().for_each(|value| *value ^= negated);
             self.collection.r(&z)[step]
         };
-        let robust = (0..carts).filter(holds).count();
-        let number = if negated { carts + 1 - robust } else { robust };
+        let robust = over.iter().filter(holds).count();
+        let number = if negated {
+            over.len() + 1 - robust
+        } else {
+            robust
+        };
         (number + self.random.pick(&[1, 1, 1, 0, 2])).saturating_sub(1)
     }
 
-    /// A percentage beside the half at which this number is reached: the lowest that gives it, the one below, or the nearest of those
+    /// A percentage of so many carts beside the half at which this number is reached: the lowest that gives it, the one below, or the nearest of those
     /// that leave half a cart over; now and then any.
-    fn percentage(&mut self, number: usize) -> Threshold {
-        let carts = self.collection.carts();
-        let percent = |number| Threshold {
-            number,
-            percent: true,
-        };
-        let reaches = |p: &u32| percent(*p).of(carts) >= number;
+    fn percentage(&mut self, number: usize, carts: usize) -> Threshold {
+        let percent = Threshold::share_of;
+        let reaches = |p: &usize| percent(*p).of(carts) >= number;
         let lowest = (0..=100).find(reaches).expect("all of the carts");
         let halves = (0..=100).filter(|p| percent(*p).share(carts) % 100 == 50);
         let half = halves.min_by_key(|p| p.abs_diff(lowest));
         percent(match self.random.below(20) {
-            0 => self.random.below(101) as u32,
+            0 => self.random.below(101),
             1..=4 => half.unwrap_or(lowest),
             5..=11 => lowest.saturating_sub(1),
             _ => lowest,

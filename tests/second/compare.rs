@@ -81,7 +81,8 @@ fn compare(triple: &Triple, tally: &mut Tally) -> Result<(), String> {
     match verdict.number {
         0 | 17 => tally.note_clauses(triple, verdict),
         20 => tally.note_conflict(triple),
-        _ => {}
+        21 => tally.note_lacking(triple, verdict),
+        _ => tally.note_written(triple, verdict),
     }
     Ok(())
 }

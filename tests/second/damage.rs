@@ -35,7 +35,7 @@ pub fn too_long(random: &mut Random, file: &mut Vec<u8>) {
     }
 }
 
-const ALPHABET: &[u8] = b" \n!&(),0123456789%FGRUX[]mtrue|m1[(,&U";
+const ALPHABET: &[u8] = b" \n!&(),0123456789%FGRUX[]mtrue|m1[(,&U@";
 
 /// Changes some bytes of a file, a sheet mostly within its alphabet.
 pub fn damage(random: &mut Random, file: &mut Vec<u8>, sheet: bool) {
@@ -75,14 +75,8 @@ fn damage_at(random: &mut Random, file: &mut Vec<u8>, byte: u8) {
     }
 }
 
-/// Byte `@` and kinds 7 to 11 may get a meaning later: others take their place.
+/// Kinds 8 to 11 may get a meaning later: others take their place.
 pub fn without_later_forms(triple: &mut Triple) {
-    let later = |byte: &&mut u8| **byte == b'@';
-    triple
-        .rules
-        .iter_mut()
-        .filter(later)
-        .for_each(|byte| *byte = b'#');
     without_later_kinds(&mut triple.floor);
     without_later_kinds(&mut triple.plan);
 }
@@ -90,7 +84,7 @@ pub fn without_later_forms(triple: &mut Triple) {
 fn without_later_kinds(file: &mut [u8]) {
     let mut at = 0;
     while at + 4 <= file.len() {
-        if (7..=11).contains(&file[at + 2]) && file[at + 3] == 0 {
+        if (8..=11).contains(&file[at + 2]) && file[at + 3] == 0 {
             file[at + 2] += 100;
         }
         at += 4 + u16::from_le_bytes([file[at], file[at + 1]]) as usize;

@@ -31,7 +31,7 @@ impl Records {
     }
 
     fn of_kind<'a>(&'a mut self, random: &mut Random, kind: u16) -> Option<&'a mut Written> {
-        let file = if kind <= 3 || kind == 6 {
+        let file = if kind <= 3 || kind >= 6 {
             &mut self.floor
         } else {
             &mut self.plan
@@ -69,7 +69,7 @@ impl Records {
         let other = random.below(file.len());
         match random.below(4) {
             0 => file[at].0 = random.pick(&[0, 12, 13, 255, 256, 257, 1025, 65535]),
-            1 => file[at].0 = random.range(1, 6) as u16,
+            1 => file[at].0 = random.range(1, 7) as u16,
             2 => file.swap(at, other),
             _ => {
                 let copy = file[at].clone();
@@ -93,8 +93,8 @@ impl Records {
     }
 
     fn one_too_many(&mut self, random: &mut Random) {
-        let kind = random.pick(&[1, 2, 3, 3, 5, 5, 6, 6]);
-        let most = [0, 256, 1024, 32, 0, 0, 256][kind as usize] + random.below(2);
+        let kind = random.pick(&[1, 2, 3, 3, 5, 5, 6, 6, 7, 7]);
+        let most = [0, 256, 1024, 32, 0, 0, 256, 8][kind as usize] + random.below(2);
         let Some(copy) = self.of_kind(random, kind).cloned() else {
             return;
         };
@@ -117,12 +117,35 @@ impl Records {
             self.floor.remove(0);
             return;
         }
+        if random.chance(25) {
+            self.absent_cart(random);
+            return;
+        }
         let field = if kind == 6 { 0 } else { random.below(2) };
         let class = random.pick(&[8, 9, 255]);
         if let Some((_, body)) = self.of_kind(random, kind) {
             let class_field = kind == 3 && field == 0;
             let value = if class_field { class } else { absent };
             body.iter_mut().skip(field).take(1).for_each(|b| *b = value);
+        }
+    }
+
+    /// A group with a cart that the floor does not have: the next one, the last there may be, or any; one cart fewer will do too.
+    fn absent_cart(&mut self, random: &mut Random) {
+        let carts = self.floor.iter().filter(|record| record.0 == 3).count();
+        let first = self.floor.iter().position(|record| record.0 == 3);
+        let next = carts.min(32);
+        let any = random.range(next, 32);
+        let absent = random.pick(&[next, next, 31, any]);
+        if let (true, Some(cart)) = (random.chance(30), first) {
+            self.floor.remove(cart);
+        } else if absent == 32 {
+            self.floor.push((7, vec![0; 4]));
+        } else if let Some((_, body)) = self.of_kind(random, 7) {
+            body.iter_mut().skip(absent / 8).take(1).for_each(|b| *b |= 1 << (absent % 8));
+        } else {
+            self.floor
+                .push((7, (1u32 << absent).to_le_bytes().to_vec()));
         }
     }
 

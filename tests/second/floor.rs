@@ -1,4 +1,4 @@
-//! The reader of a floor: places, lanes, carts and narrow places.
+//! The reader of a floor: places, lanes, carts, narrow places and groups.
 
 use crate::record::{Record, LONGEST_FILE};
 use crate::verdict::Refusal;
@@ -22,6 +22,8 @@ pub struct Floor {
     pub carts: Vec<Cart>,
     /// The places that hold one cart, as often as they are named.
     pub narrow: Vec<u8>,
+    /// The carts of each group, cart 0 in the lowest bit.
+    pub groups: Vec<u32>,
 }
 
 impl Floor {
@@ -44,13 +46,15 @@ impl Floor {
 
     /// Kinds may only grow along the file.
     fn in_order(&self, kind: u16) -> bool {
-        match kind {
-            1 => self.lanes.is_empty() && self.carts.is_empty() && self.narrow.is_empty(),
-            2 => self.carts.is_empty() && self.narrow.is_empty(),
-            3 => self.narrow.is_empty(),
-            6 => true,
-            _ => false,
-        }
+        let seen = [
+            (1, self.places.is_empty()),
+            (2, self.lanes.is_empty()),
+            (3, self.carts.is_empty()),
+            (6, self.narrow.is_empty()),
+            (7, self.groups.is_empty()),
+        ];
+        let known = seen.iter().any(|(other, _)| *other == kind);
+        known && seen.iter().all(|(other, none)| *other <= kind || *none)
     }
 
     fn take(&mut self, record: &Record) -> Result<(), Refusal> {
@@ -59,7 +63,8 @@ impl Floor {
             1 => self.take_place(record),
             2 => self.take_lane(record),
             3 => self.take_cart(record),
-            _ => self.take_narrow(record),
+            6 => self.take_narrow(record),
+            _ => self.take_group(record),
         }
     }
 
@@ -97,6 +102,17 @@ impl Floor {
         let place = record.body[0];
         record.demand((place as usize) < self.places.len(), 6)?;
         self.narrow.push(place);
+        Ok(())
+    }
+
+    fn take_group(&mut self, record: &Record) -> Result<(), Refusal> {
+        record.demand(record.body.len() == 4, 4)?;
+        record.demand(self.groups.len() < 8, 5)?;
+        let b = record.body;
+        let group = u32::from_le_bytes([b[0], b[1], b[2], b[3]]);
+        let absent = |n: usize| group >> n & 1 == 1 && n >= self.carts.len();
+        record.demand(!(0..32).any(absent), 6)?;
+        self.groups.push(group);
         Ok(())
     }
 }

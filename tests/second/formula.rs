@@ -16,15 +16,37 @@ pub enum Op {
     Count(Threshold),
 }
 
-/// The number of a count as written.
+/// The number of a count as written, and the group that it is over, if it names one.
 #[derive(Clone, Copy, Debug, PartialEq, Eq)]
 pub struct Threshold {
     pub number: u32,
     pub percent: bool,
+    pub group: Option<usize>,
 }
 
 impl Threshold {
-    /// The number of carts that is asked for: of a percentage the whole carts, and one more where at least half a cart is left.
+    pub fn plain(number: usize) -> Threshold {
+        Threshold {
+            number: number as u32,
+            percent: false,
+            group: None,
+        }
+    }
+
+    pub fn share_of(number: usize) -> Threshold {
+        Threshold {
+            percent: true,
+            ..Threshold::plain(number)
+        }
+    }
+
+    /// The same over a group, or over all carts.
+    pub fn over(self, group: Option<usize>) -> Threshold {
+        Threshold { group, ..self }
+    }
+
+    /// The number of carts that is asked for, of so many that it is over: of a percentage the whole carts, and one more where at least
+    /// half a cart is left.
     pub fn of(self, carts: usize) -> usize {
         if !self.percent {
             return self.number as usize;
@@ -85,6 +107,23 @@ impl Clause {
             _ if op.operands() == 1 => self.next_outside(left),
             _ => false,
         }
+    }
+
+    /// The groups that its counts name, in the order of the text.
+    pub fn groups(&self) -> Vec<usize> {
+        let mut groups = Vec::new();
+        self.collect_groups(self.root, &mut groups);
+        groups
+    }
+
+    fn collect_groups(&self, node: usize, groups: &mut Vec<usize>) {
+        let Node { op, left, right } = self.nodes[node];
+        if let Op::Count(threshold) = op {
+            groups.extend(threshold.group);
+            return;
+        }
+        let operands = [left, right].into_iter().take(op.operands());
+        operands.for_each(|operand| self.collect_groups(operand, groups));
     }
 
     /// Whether two trees are alike, however they are stored.

@@ -11,7 +11,7 @@ use crate::verdict::{Refusal, Verdict, RULES};
 use crate::world::{encode, Written};
 
 /// Clause, the step of 17 if it is refused, and whether some run breaks it.
-type Case = (&'static str, Option<usize>, bool);
+pub type Case = (&'static str, Option<usize>, bool);
 
 /// Rows, the lap's first step, the drift, and what is said of such a plan. Place 0 bears m1, place 1 m2, place 2 nothing.
 type Plans = (&'static [&'static [u8]], u8, u8, &'static [Case]);
@@ -138,16 +138,20 @@ pub type Checked = (Vec<u8>, Vec<u8>, Vec<u8>, Verdict, bool);
 
 pub fn all() -> impl Iterator<Item = Checked> {
     PLANS.iter().flat_map(|plans| {
-        let (floor, plan) = files(plans);
-        plans.3.iter().map(move |(clause, refused, broken)| {
-            let rules = format!("{clause}\n").into_bytes();
-            let verdict = match refused {
-                Some(step) => Verdict::refused(RULES, Refusal(17, 0, *step)),
-                None => Verdict::ACCEPTED,
-            };
-            (floor.clone(), plan.clone(), rules, verdict, *broken)
-        })
+        let (rows, l, d, cases) = plans;
+        let (floor, plan) = files(rows, *l, *d, &[]);
+        let checked = move |case| checked(&floor, &plan, case);
+        cases.iter().map(checked)
     })
+}
+
+pub fn checked(floor: &[u8], plan: &[u8], (clause, refused, broken): &Case) -> Checked {
+    let rules = format!("{clause}\n").into_bytes();
+    let verdict = match refused {
+        Some(step) => Verdict::refused(RULES, Refusal(17, 0, *step)),
+        None => Verdict::ACCEPTED,
+    };
+    (floor.to_vec(), plan.to_vec(), rules, verdict, *broken)
 }
 
 /// Whether the search over all runs says of a case what is told.
@@ -165,14 +169,16 @@ pub fn found_on_runs((floor, plan, rules, verdict, broken): &Checked) -> Result<
     ))
 }
 
-fn files((rows, l, d, _): &Plans) -> (Vec<u8>, Vec<u8>) {
+pub fn files(rows: &[&[u8]], l: u8, d: u8, groups: &[u32]) -> (Vec<u8>, Vec<u8>) {
     let mut floor: Vec<Written> = Vec::new();
     floor.extend([2, 4, 0].map(|marks| (1, vec![marks, 0, 0, 0])));
     for from in 0..3 {
         floor.extend((0..3).map(|to| (2, vec![from, to, 1])));
     }
     floor.extend(rows.iter().map(|row| (3, vec![0, row[0]])));
-    let mut plan: Vec<Written> = vec![(4, vec![rows[0].len() as u8, 0, *l, 0, *d, 0])];
+    let group = |group: &u32| (7, group.to_le_bytes().to_vec());
+    floor.extend(groups.iter().map(group));
+    let mut plan: Vec<Written> = vec![(4, vec![rows[0].len() as u8, 0, l, 0, d, 0])];
     plan.extend(rows.iter().map(|row| (5, row.to_vec())));
     (encode(&floor), encode(&plan))
 }

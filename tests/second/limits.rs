@@ -56,7 +56,7 @@ fn levels(random: &mut Random) -> Vec<u8> {
         if kind == 0 && !in_count {
             in_count = true;
             text += "[";
-            ends.push(random.pick(&[",0]", ",1]", " ,50%]"]));
+            ends.push(random.pick(&[",0]", ",1]", " ,50%]", ",0@0]", ",1 @7]"]));
         } else if kind <= 1 || kind == 2 && prefixed {
             text += "(";
             ends.push(random.pick(&[")", " )", "&true)", "|true)"]));
@@ -99,6 +99,26 @@ pub fn other_number(random: &mut Random, sheet: &[u8]) -> Vec<u8> {
     }
     out
 }
+
+/// A sheet with another token of a group in front of one of its brackets, instead of the one there or beside it.
+pub fn other_group(random: &mut Random, sheet: &[u8]) -> Vec<u8> {
+    let ends: Vec<usize> = (0..sheet.len()).filter(|i| sheet[*i] == b']').collect();
+    if ends.is_empty() {
+        return b"[m0,0@8]\n".to_vec();
+    }
+    let end = random.pick(&ends);
+    let token = random.pick(&GROUPS).as_bytes();
+    let start = match sheet[..end].iter().rposition(|byte| *byte == b'@') {
+        Some(at) if at + 2 == end && random.chance(70) => at,
+        _ => end,
+    };
+    [&sheet[..start], token, &sheet[end..]].concat()
+}
+
+const GROUPS: [&str; 20] = [
+    "@0", "@7", " @1", "  @3  ", "@8", "@9", "@01", "@10", "@00", "@ 0", "@", "@@0", "@0@0",
+    "@0 @1", "@0%", "@-1", "@m0", "@]", ",@0", "#0",
+];
 
 const NUMBERS: &str = "31,32,33,99,100,101,999,1000,1001,100%,101%,102 %,999%,1000%,0,00,01,\
     4294967296,18446744073709551617,65536,256";

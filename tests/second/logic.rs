@@ -2,10 +2,10 @@
 //!
 //! Where documents 01 and 02 narrow them: the window of equation 22 includes step s + d; an or is equation 25 if all it is
 //! made of, through nested ors, are counts, and each of these nested ors is one itself; an or of anything else is equation 26
-//! and is not rewritten.
+//! and is not rewritten. Equation 25 is only for counts over the same carts, and equation 24 only for those over all carts.
 
 use crate::floor::Floor;
-use crate::formula::{Clause, Node, Op};
+use crate::formula::{Clause, Node, Op, Threshold};
 use crate::plan::Plan;
 use crate::running::{self, Way};
 use crate::verdict::Refusal;
@@ -23,6 +23,8 @@ pub struct Collection {
     step: Vec<usize>,
     /// The trace of each cart (definition 2).
     traces: Vec<Vec<u32>>,
+    /// The carts of each group.
+    groups: Vec<Vec<usize>>,
     /// A wrong way to find windows, if one is tried.
     way: Option<Way>,
 }
@@ -39,10 +41,14 @@ pub enum Pnf {
     Release(Box<[Pnf; 2]>),
 }
 
-/// A temporal counting proposition: z of its inner formula for each cart, and how many carts it asks for.
+/// A temporal counting proposition: z of its inner formula for each cart, the carts that it is over, and how many of them it asks for.
 pub struct Count {
     pub z: Vec<Row>,
+    pub carts: Vec<usize>,
     pub m: usize,
+    /// As it is written, and whether it is negated.
+    pub written: Threshold,
+    pub negated: bool,
     /// The mark that is its whole inner formula, and whether that is negated.
     pub lone: Option<(u32, bool)>,
 }
@@ -74,6 +80,7 @@ impl Collection {
             z_loop,
             step: (0..plan.h + plan.d).map(|v| plan.step(v)).collect(),
             traces: plan.rows.iter().map(trace).collect(),
+            groups: floor.groups.iter().map(|group| carts_of(*group)).collect(),
             way: None,
         }
     }
@@ -92,6 +99,18 @@ impl Collection {
 
     pub fn carts(&self) -> usize {
         self.traces.len()
+    }
+
+    pub fn groups(&self) -> usize {
+        self.groups.len()
+    }
+
+    /// The carts that a count is over: those of its group, which the floor has, or all.
+    pub fn over(&self, group: Option<usize>) -> Vec<usize> {
+        match group {
+            None => (0..self.carts()).collect(),
+            Some(group) => self.groups[group].clone(),
+        }
     }
 
     pub fn steps(&self) -> usize {
@@ -221,12 +240,20 @@ impl Collection {
 
     /// y of a clause in positive normal form.
     pub fn y(&self, pnf: &Pnf) -> Row {
-        self.y_by(pnf, &mut |count| self.count(count))
+        self.y_by(pnf, &mut |count| self.count(count), &|counts| {
+            self.joined(counts)
+        })
     }
 
-    /// The same with these rows for its counts.
-    fn y_by(&self, pnf: &Pnf, counted: &mut dyn FnMut(&Count) -> Row) -> Row {
-        let mut two = |both: &[Pnf; 2]| both.each_ref().map(|part| self.y_by(part, counted));
+    /// The same with these rows for its counts, and for counts that are joined.
+    fn y_by(
+        &self,
+        pnf: &Pnf,
+        counted: &mut dyn FnMut(&Count) -> Row,
+        joined: &dyn Fn(&[&Count]) -> Row,
+    ) -> Row {
+        let mut two =
+            |both: &[Pnf; 2]| both.each_ref().map(|part| self.y_by(part, counted, joined));
         match pnf {
             Pnf::Constant(value) => self.row(|_| *value),
             Pnf::Count(count) => counted(count),
@@ -234,11 +261,11 @@ impl Collection {
                 let [a, b] = two(both);
                 self.and(&a, &b)
             }
-            Pnf::Or(_, both) => self.either(both, &two(both)),
-            Pnf::Next(one) => self.next(&self.y_by(one, counted)),
+            Pnf::Or(_, both) => self.either(both, &two(both), joined),
+            Pnf::Next(one) => self.next(&self.y_by(one, counted, joined)),
             Pnf::Until(_, both) => {
                 let y = two(both);
-                self.robust_until(&self.either(both, &y), &y[1])
+                self.robust_until(&self.either(both, &y, joined), &y[1])
             }
             Pnf::Release(both) => {
                 let [a, b] = two(both);
@@ -247,42 +274,51 @@ impl Collection {
         }
     }
 
-    /// Equations 23 and 24.
+    /// Equation 36, which is 23 over the count's own carts, and equation 24.
     pub fn count(&self, count: &Count) -> Row {
         self.enough(count, &self.sums(count))
     }
 
-    /// The sum of r over all carts, at each step.
+    /// The sum of r over the count's carts, at each step.
     pub fn sums(&self, count: &Count) -> [usize; 64] {
         let mut sums = [0; 64];
-        for z in &count.z {
-            let r = self.r(z);
+        for n in &count.carts {
+            let r = self.r(&count.z[*n]);
             (0..self.h).for_each(|t| sums[t] += r[t] as usize);
         }
         sums
     }
 
-    /// Whether such sums are enough, or z of all carts is.
+    /// Whether such sums are enough, or z of all carts is: the hindmost has to be one that is counted.
     pub fn enough(&self, count: &Count, sums: &[usize; 64]) -> Row {
-        let all = |t: usize| count.z.iter().all(|z| z[t]);
+        let whole_fleet = count.carts.len() == self.carts();
+        let all = |t: usize| whole_fleet && count.z.iter().all(|z| z[t]);
         self.row(|t| sums[t] >= count.m || count.m == 1 && all(t))
     }
 
     /// Equation 25 or 26 for "a or b", from y of the two.
-    fn either(&self, both: &[Pnf; 2], [a, b]: &[Row; 2]) -> Row {
+    fn either(&self, both: &[Pnf; 2], [a, b]: &[Row; 2], joined: &dyn Fn(&[&Count]) -> Row) -> Row {
         let alone = self.or(a, b);
         let [Some(mut counts), Some(more)] = both.each_ref().map(Pnf::counts) else {
             return alone;
         };
         counts.extend(more);
-        self.or(&alone, &self.joined(&counts))
+        self.or(&alone, &joined(&counts))
     }
 
-    /// The sum of equation 25.
+    /// The sum of equation 25; nowhere enough if the counts are not all over the same carts.
     pub fn joined(&self, counts: &[&Count]) -> Row {
+        match same_carts(counts) {
+            Some(carts) => self.joined_over(counts, carts),
+            None => self.row(|_| false),
+        }
+    }
+
+    /// That sum over these carts.
+    pub fn joined_over(&self, counts: &[&Count], carts: &[usize]) -> Row {
         let bound: isize = counts.iter().map(|count| count.m as isize - 1).sum();
         let mut sum_r = [0; 64];
-        for n in 0..self.carts() {
+        for &n in carts {
             let z = self.row(|t| counts.iter().any(|count| count.z[n][t]));
             let r = self.r(&z);
             for t in 0..self.h {
@@ -292,7 +328,7 @@ impl Collection {
         self.row(|t| sum_r[t] > bound)
     }
 
-    /// Remark 2: negations driven inward down to the counts, where N + 1 - m takes over.
+    /// Remark 2: negations driven inward down to the counts, where N + 1 - m takes over, N being the carts that a count is over.
     pub fn pnf(&self, clause: &Clause, node: usize, negate: bool) -> Pnf {
         let Node { op, left, right } = clause.nodes[node];
         let one = |operand| self.pnf(clause, operand, negate);
@@ -326,7 +362,8 @@ impl Collection {
                 z
             }
         };
-        let m = threshold.of(self.carts());
+        let carts = self.over(threshold.group);
+        let m = threshold.of(carts.len());
         let lone = match clause.nodes[left].op {
             Op::Mark(mark) => Some((mark, negated)),
             _ => None,
@@ -335,10 +372,13 @@ impl Collection {
             lone,
             z: (0..self.carts()).map(of_cart).collect(),
             m: if negated {
-                (self.carts() + 1).saturating_sub(m)
+                (carts.len() + 1).saturating_sub(m)
             } else {
                 m
             },
+            carts,
+            written: threshold,
+            negated,
         }
     }
 
@@ -353,20 +393,37 @@ impl Collection {
         clause: &Clause,
         counted: &mut dyn FnMut(&Count) -> Row,
     ) -> Option<usize> {
-        let mut judge = |node| self.y_by(&self.pnf(clause, node, false), counted);
-        if judge(clause.root)[0] {
+        let pnf = self.pnf(clause, clause.root, false);
+        self.broken_as(clause, &pnf, counted, &|counts| self.joined(counts))
+    }
+
+    /// The same of this positive normal form, with these rows for joined counts too.
+    pub fn broken_as(
+        &self,
+        clause: &Clause,
+        pnf: &Pnf,
+        counted: &mut dyn FnMut(&Count) -> Row,
+        joined: &dyn Fn(&[&Count]) -> Row,
+    ) -> Option<usize> {
+        if self.y_by(pnf, counted, joined)[0] {
             return None;
         }
-        let Node { op, left, .. } = clause.nodes[clause.root];
-        if op != Op::Globally {
-            return Some(0);
-        }
-        let body = judge(left);
+        let body = match pnf {
+            Pnf::Release(both) if clause.nodes[clause.root].op == Op::Globally => &both[1],
+            _ => return Some(0),
+        };
+        let body = self.y_by(body, counted, joined);
         Some((0..self.h).find(|t| !body[*t]).expect("a body that fails"))
     }
 
-    /// Refusals 16 and 17.
+    /// Refusals 21, 16 and 17.
     pub fn check(&self, clauses: &[Clause]) -> Result<(), Refusal> {
+        for (i, clause) in clauses.iter().enumerate() {
+            let lacking = |group: &usize| *group >= self.groups.len();
+            if let Some(group) = clause.groups().into_iter().find(lacking) {
+                return Err(Refusal(21, i, group));
+            }
+        }
         let next_outside = |c: &Clause| c.next_outside(c.root);
         if let (true, Some(i)) = (self.d > 0, clauses.iter().position(next_outside)) {
             return Err(Refusal(16, i, 0));
@@ -378,4 +435,16 @@ impl Collection {
         }
         Ok(())
     }
+}
+
+/// The carts that all of these counts are over.
+pub fn same_carts<'a>(counts: &[&'a Count]) -> Option<&'a [usize]> {
+    let carts = &counts.first()?.carts;
+    let same = counts.iter().all(|count| count.carts == *carts);
+    same.then_some(carts)
+}
+
+/// The carts of a group by its bits.
+fn carts_of(group: u32) -> Vec<usize> {
+    (0..32).filter(|n| group >> n & 1 == 1).collect()
 }

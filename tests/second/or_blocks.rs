@@ -236,6 +236,7 @@ impl Tree<'_, '_> {
             self.or(&mut clause, needs, false)
         };
         let leaves = std::mem::take(&mut self.leaves);
+        self.clauses.over_groups(&mut clause, &leaves);
         let step = self.clauses.telling_step(&clause, &leaves);
         self.clauses.join(&mut clause, &leaves, step);
         if self.spare > 0 && self.clauses.random.chance(30) {

@@ -1,8 +1,8 @@
 //! Ors of counts, untils between them, and clauses about both.
 
 use crate::clauses::Clauses;
-use crate::formula::{Clause, Node, Op};
-use crate::sums::{plain, Leaf};
+use crate::formula::{Clause, Node, Op, Threshold};
+use crate::sums::Leaf;
 
 /// What stands before a part about ors.
 const ONE: [Op; 5] = [
@@ -18,6 +18,7 @@ impl Clauses<'_> {
     pub fn either(&mut self, clause: &mut Clause, nodes: usize) -> usize {
         let mut leaves = Vec::new();
         let root = self.or_of_counts(clause, nodes, false, &mut leaves);
+        self.over_groups(clause, &leaves);
         let step = self.telling_step(clause, &leaves);
         self.join(clause, &leaves, step);
         root
@@ -29,6 +30,7 @@ impl Clauses<'_> {
         let share = self.random.range(2, nodes - 6);
         let left = self.or_of_counts(clause, share, false, &mut leaves);
         let right = self.or_of_counts(clause, nodes - 4 - share, false, &mut leaves);
+        self.over_groups(clause, &leaves);
         let step = self.telling_step(clause, &leaves);
         self.join(clause, &leaves, step);
         let other = self.never(clause);
@@ -59,6 +61,7 @@ impl Clauses<'_> {
         let own = leaves.len();
         let rest = nodes - left_out - share;
         let right = self.or_of_counts(clause, rest, written_release, &mut leaves);
+        self.over_groups(clause, &leaves);
         let step = self.telling_step(clause, &leaves);
         let reached = self.random.below(self.collection.steps());
         self.join(clause, &leaves, step);
@@ -180,7 +183,7 @@ impl Clauses<'_> {
 
 /// A count that gets its number later.
 pub fn uncounted() -> Op {
-    Op::Count(plain(0))
+    Op::Count(Threshold::plain(0))
 }
 
 pub fn size(clause: &Clause, node: usize) -> usize {

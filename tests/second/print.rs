@@ -85,6 +85,9 @@ impl<'a> Printer<'a> {
                 self.token(",");
                 let percent = if threshold.percent { "%" } else { "" };
                 self.token(&format!("{}{percent}", threshold.number));
+                if let Some(group) = threshold.group {
+                    self.token(&format!("@{group}"));
+                }
                 self.token("]");
             }
             _ if op.operands() == 2 => self.binary(clause, clause.nodes[node]),

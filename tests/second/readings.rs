@@ -2,7 +2,7 @@
 //! verdicts can be counted that tell these apart.
 
 use crate::formula::{Clause, Op};
-use crate::logic::{Collection, Count, Pnf, Row};
+use crate::logic::{same_carts, Collection, Count, Pnf, Row};
 
 #[derive(Clone, Copy, PartialEq)]
 pub enum Reading {
@@ -220,10 +220,13 @@ impl<'a> Judge<'a> {
 
     fn misjoined(&self, counts: &[&Count]) -> Row {
         let this = self.collection;
+        let Some(carts) = same_carts(counts) else {
+            return this.row(|_| false);
+        };
         let bound: isize = counts.iter().map(|count| count.m as isize - 1).sum();
         let mut sum_z = [0; 64];
         let mut sum_r = [0; 64];
-        for n in 0..this.carts() {
+        for &n in carts {
             let z = this.row(|t| counts.iter().any(|count| count.z[n][t]));
             let r = match self.reading {
                 Reading::ShortWindow => this.r_within(&z, this.drift() - 1),
@@ -241,7 +244,7 @@ impl<'a> Judge<'a> {
         match self.reading {
             Reading::AtLeast => this.row(|t| sum_r[t] >= bound),
             Reading::AllCarts if counts.iter().all(|count| count.m == 1) => {
-                this.row(|t| sum_r[t] > bound || sum_z[t] == this.carts())
+                this.row(|t| sum_r[t] > bound || sum_z[t] == carts.len())
             }
             _ => this.row(|t| sum_r[t] > bound),
         }

@@ -17,7 +17,6 @@ use crate::plan::Plan;
 use crate::random::Random;
 use crate::running::{self, Met};
 use crate::sheet;
-use crate::sums::plain;
 use crate::verdict::{Refusal, Verdict, RULES};
 use crate::world::World;
 
@@ -37,13 +36,15 @@ const LEAST_WAYS: usize = 10;
 enum Slip {
     OtherSign,
     OtherMark,
+    OtherGroup,
     FirstRow,
     NotAllCarts,
 }
 
-const SLIPS: [(Slip, &str); 4] = [
+const SLIPS: [(Slip, &str); 5] = [
     (Slip::OtherSign, "the numbers of the other sign"),
     (Slip::OtherMark, "those of another mark"),
+    (Slip::OtherGroup, "those of other carts"),
     (Slip::FirstRow, "the row of the first threshold"),
     (
         Slip::NotAllCarts,
@@ -141,8 +142,10 @@ impl Recounts {
         let mut seen = BTreeSet::new();
         for clause in &clauses {
             collection.broken_by(clause, &mut |count| {
-                self.counts += count.lone.is_some() as usize;
-                self.again += count.lone.is_some_and(|lone| !seen.insert(lone)) as usize;
+                if let Some((mark, negated)) = count.lone {
+                    self.counts += 1;
+                    self.again += !seen.insert((mark, negated, count.carts.clone())) as usize;
+                }
                 collection.count(count)
             });
         }
@@ -183,13 +186,15 @@ fn slipped(collection: &Collection, clauses: &[Clause], slip: Slip) -> Result<()
     Ok(())
 }
 
-/// The numbers of carts that are kept, by mark and sign, and the first rows that were made of them.
+/// The numbers of carts that are kept, by mark, sign and the carts that are counted, and the first rows that were made of them.
 struct Kept<'a> {
     collection: &'a Collection,
     slip: Slip,
-    sums: BTreeMap<(u32, bool), [usize; 64]>,
-    rows: BTreeMap<(u32, bool), Row>,
+    sums: BTreeMap<Key, [usize; 64]>,
+    rows: BTreeMap<Key, Row>,
 }
+
+type Key = (u32, bool, Vec<usize>);
 
 impl Kept<'_> {
     fn row(&mut self, count: &Count) -> Row {
@@ -198,12 +203,16 @@ impl Kept<'_> {
             return this.count(count);
         };
         let key = match self.slip {
-            Slip::OtherSign => (mark, false),
-            Slip::OtherMark => (0, negated),
-            _ => (mark, negated),
+            Slip::OtherSign => (mark, false, count.carts.clone()),
+            Slip::OtherMark => (0, negated, count.carts.clone()),
+            Slip::OtherGroup => (mark, negated, Vec::new()),
+            _ => (mark, negated, count.carts.clone()),
         };
         let before = self.sums.contains_key(&key);
-        let sums = self.sums.entry(key).or_insert_with(|| this.sums(count));
+        let sums = self
+            .sums
+            .entry(key.clone())
+            .or_insert_with(|| this.sums(count));
         let row = match self.slip {
             Slip::NotAllCarts if before => this.row(|t| sums[t] >= count.m),
             _ => this.enough(count, sums),
@@ -237,6 +246,7 @@ fn go_to_and_fro(random: &mut Random, world: &mut World) {
         lanes,
         carts,
         narrow,
+        ..
     } = &mut world.floor;
     narrow.clear();
     lanes.clear();
@@ -335,12 +345,8 @@ fn mark_counted(clauses: &mut Clauses, clause: &mut Clause) -> usize {
 /// No cart, one, all or one more; or the share that none, half or all of them are.
 fn at_a_limit(clauses: &mut Clauses, told: Threshold) -> Threshold {
     let carts = clauses.collection.carts();
-    let share = |number| Threshold {
-        number,
-        percent: true,
-    };
-    let limits = [0, 1, 1, carts, carts + 1].map(plain);
-    let shares = [0, 50, 100].map(share);
+    let limits = [0, 1, 1, carts, carts + 1].map(Threshold::plain);
+    let shares = [0, 50, 100].map(Threshold::share_of);
     match clauses.random.below(8) {
         0 => told,
         1 | 2 => clauses.random.pick(&shares),

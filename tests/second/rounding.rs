@@ -54,9 +54,9 @@ pub fn ways(read: &Read, judged: Result<(), Refusal>) -> [usize; WAYS.len()] {
 /// How many of a clause's percentages are half a cart over, and how many above 0 ask for no cart, where a cart less or more would
 /// change what is said of the clause.
 fn deciding(collection: &Collection, clause: &Clause) -> [usize; 2] {
-    let carts = collection.carts();
     let mut found = [0; 2];
     for (node, threshold, _) in percentages(clause) {
+        let carts = collection.over(threshold.group).len();
         let (share, m) = (threshold.share(carts), threshold.of(carts));
         let kinds = [share % 100 == 50, share > 0 && m == 0];
         let with = |m| collection.broken_at(&with_number(clause, node, m));
@@ -94,10 +94,9 @@ fn collect(clause: &Clause, node: usize, negated: bool, found: &mut Vec<(usize, 
 /// The clause with another number of carts for one count.
 fn with_number(clause: &Clause, node: usize, m: usize) -> Clause {
     let mut other = clause.clone();
-    other.nodes[node].op = Op::Count(Threshold {
-        number: m as u32,
-        percent: false,
-    });
+    if let Op::Count(threshold) = &mut other.nodes[node].op {
+        *threshold = Threshold::plain(m).over(threshold.group);
+    }
     other
 }
 
@@ -108,11 +107,11 @@ fn changes(
     judged: Result<(), Refusal>,
     rounding: Rounding,
 ) -> bool {
-    let carts = collection.carts();
     let mut others = clauses.to_vec();
     let mut same = true;
     for other in &mut others {
         for (node, threshold, negated) in percentages(other) {
+            let carts = collection.over(threshold.group).len();
             let m = rounding(threshold.share(carts), negated);
             same &= m == threshold.of(carts);
             *other = with_number(other, node, m);

@@ -7,6 +7,7 @@ use crate::compare::{both, tell, Within};
 use crate::damage::Triple;
 use crate::floor::Floor;
 use crate::formula::{Clause, Op};
+use crate::grouped::{self, Grouped};
 use crate::joined::{self, Joined};
 use crate::plan::Plan;
 use crate::random::Random;
@@ -66,13 +67,14 @@ pub struct Tally {
     pub clear: usize,
     pub conflicts: usize,
     pub joined: Joined,
+    pub grouped: Grouped,
 }
 
 pub type Outcome = Result<(), String>;
 
 type Part = fn(&mut Random, &mut Tally) -> (Triple, Outcome);
 
-const PARTS: [Part; 7] = [
+const PARTS: [Part; 8] = [
     on_runs,
     met_on_runs,
     in_step,
@@ -80,6 +82,7 @@ const PARTS: [Part; 7] = [
     small::globally_one_count,
     small::conflicts,
     joined::searched,
+    grouped::searched,
 ];
 
 /// All parts for so many cases; false once a difference was told.
@@ -99,9 +102,10 @@ pub fn run(cases: u64, seed: u64) -> bool {
     }
     tally.print();
     tally.joined.print();
+    tally.grouped.print();
     println!("{:.0} seconds", begun.elapsed().as_secs_f64());
-    if !tally.joined.enough(cases) {
-        println!("second: too few clauses that only joined counts let through, or that misreadings change");
+    if !tally.joined.enough(cases) || !tally.grouped.enough(cases) {
+        println!("second: too few clauses that only joined counts let through, over groups, or that misreadings change");
         return false;
     }
     println!("{cases} cases of runs, 0 differences");
@@ -167,6 +171,8 @@ fn hold_on_runs(random: &mut Random, triple: &Triple, tally: &mut Tally) -> Outc
         tally.runs += 1;
         tally.full_spread += (run.spread() == read.plan.d) as usize;
         tally.clauses += meanings.len();
+        let over_groups = |meaning: &&Meaning| !meaning.clause.groups().is_empty();
+        tally.grouped.held += meanings.iter().filter(over_groups).count();
     }
     Ok(())
 }

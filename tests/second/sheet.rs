@@ -270,12 +270,13 @@ impl<'a> Line<'a> {
         self.apply_binaries(0);
         self.at += 1;
         let threshold = self.threshold()?;
+        let group = self.group()?;
         if self.byte_after_spaces()? != b']' {
             return Err(self.wrong_byte());
         }
         self.at += 1;
         self.open.pop();
-        self.apply(Op::Count(threshold));
+        self.apply(Op::Count(threshold.over(group)));
         self.apply_prefixes();
         Ok(Next::Operator)
     }
@@ -289,7 +290,27 @@ impl<'a> Line<'a> {
         if number > if percent { 100 } else { 999 } {
             return Err(Refusal(15, first, 0));
         }
-        Ok(Threshold { number, percent })
+        let group = None;
+        Ok(Threshold {
+            number,
+            percent,
+            group,
+        })
+    }
+
+    /// The token of a group, if there is one.
+    fn group(&mut self) -> Result<Option<usize>, Refusal> {
+        if self.byte_after_spaces()? != b'@' {
+            return Ok(None);
+        }
+        self.at += 1;
+        match self.byte()? {
+            digit @ b'0'..=b'7' => {
+                self.at += 1;
+                Ok(Some((digit - b'0') as usize))
+            }
+            _ => Err(self.wrong_byte()),
+        }
     }
 
     fn close_line(&mut self) -> Result<Next, Refusal> {

@@ -45,6 +45,28 @@ pub fn about_ors(clauses: &mut Clauses, count: usize) -> Vec<u8> {
     sheet
 }
 
+/// A sheet of so many clauses, at least one of which names a group that the floor lacks.
+pub fn lacking(clauses: &mut Clauses, count: usize) -> Vec<u8> {
+    let lacks = clauses.random.below(count);
+    let mut sheet = Vec::new();
+    for i in 0..count {
+        sheet.extend(loop {
+            let nodes = clauses.nodes();
+            let mut clause = match clauses.random.chance(25) {
+                true => clauses.about_ors(),
+                false => clauses.clause(nodes),
+            };
+            let often = clauses.random.pick(&[0, 20, 50, 100]);
+            let named = clauses.lacking_groups(&mut clause, often);
+            let line = Printer::new(clauses.random).line(&clause);
+            if within_limits(&line, &clause) && (i != lacks || named) {
+                break line;
+            }
+        });
+    }
+    sheet
+}
+
 /// How many clauses a sheet gets.
 pub fn count(clauses: &mut Clauses) -> usize {
     let (low, high) = [(1, 1), (2, 4), (5, 12), (13, 32)][clauses.random.weighted(&[50, 39, 9, 2])];

@@ -99,6 +99,7 @@ fn exactly(triple: &Triple, negated: bool, tally: &mut Tally) -> Outcome {
     let refused = wanted != Verdict::ACCEPTED;
     tally.globally += 1;
     tally.globally_refused += refused as usize;
+    tally.grouped.note_globally(&read, refused);
     if verdict != wanted {
         return Err(format!("{verdict}, but by all standings {wanted}"));
     }

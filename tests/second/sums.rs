@@ -85,12 +85,14 @@ impl Clauses<'_> {
         (0..self.collection.carts()).map(any).collect()
     }
 
-    /// z of a count's inner formula, or of its negation, for each cart.
+    /// z of a count's inner formula, or of its negation, for each cart; of one outside its group it is nowhere true.
     fn z_of(&self, clause: &Clause, (count, negated): Leaf) -> Vec<Row> {
         let inner = clause.nodes[count].left;
+        let over = self.collection.over(written(clause, count).group);
         let of_cart = |n: usize| {
             let z = self.collection.z(clause, inner, n);
-            self.collection.row(|t| z[t] != negated)
+            let counted = over.contains(&n);
+            self.collection.row(|t| counted && z[t] != negated)
         };
         (0..self.collection.carts()).map(of_cart).collect()
     }
@@ -101,10 +103,8 @@ impl Clauses<'_> {
     }
 
     fn asked_for(&self, clause: &Clause, (count, negated): Leaf) -> usize {
-        let Op::Count(threshold) = clause.nodes[count].op else {
-            unreachable!("no count")
-        };
-        let carts = self.collection.carts();
+        let threshold = written(clause, count);
+        let carts = self.collection.over(threshold.group).len();
         match threshold.of(carts) {
             m if negated => (carts + 1).saturating_sub(m),
             m => m,
@@ -113,27 +113,26 @@ impl Clauses<'_> {
 
     /// Lets a count, or its negation, ask for so many carts; now and then as a percentage.
     fn ask_for(&mut self, clause: &mut Clause, (count, negated): Leaf, m: usize) {
-        let carts = self.collection.carts();
+        let group = written(clause, count).group;
+        let carts = self.collection.over(group).len();
         let number = match negated {
             true => (carts + 1).saturating_sub(m),
             false => m,
         };
-        let percent = |number| Threshold {
-            number,
-            percent: true,
-        };
+        let percent = Threshold::share_of;
         let share = (0..=100).find(|p| percent(*p).of(carts) == number);
         let threshold = match share {
             Some(share) if self.random.chance(15) => percent(share),
-            _ => plain(number),
+            _ => Threshold::plain(number),
         };
-        clause.nodes[count].op = Op::Count(threshold);
+        clause.nodes[count].op = Op::Count(threshold.over(group));
     }
 }
 
-pub fn plain(number: usize) -> Threshold {
-    Threshold {
-        number: number as u32,
-        percent: false,
+/// What stands behind a count's comma.
+pub fn written(clause: &Clause, count: usize) -> Threshold {
+    match clause.nodes[count].op {
+        Op::Count(threshold) => threshold,
+        _ => unreachable!("no count"),
     }
 }

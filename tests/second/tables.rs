@@ -1,6 +1,7 @@
 //! Worlds as in document 002's example 3: carts that change between places which bear one of a few marks.
 
 use crate::floor::{Cart, Floor, Lane};
+use crate::groups;
 use crate::narrow;
 use crate::plan::Plan;
 use crate::random::Random;
@@ -29,6 +30,7 @@ pub fn small(random: &mut Random, [carts, steps, drift]: [usize; 3]) -> World {
         lanes: between_all(places),
         carts: plan.rows.iter().map(start).collect(),
         narrow: Vec::new(),
+        groups: groups::random(random, carts),
     };
     let marks = Vec::new();
     let mut world = World { floor, plan, marks };

@@ -3,19 +3,22 @@
 use crate::conflicts::Conflicts;
 use crate::damage::Triple;
 use crate::floor::Floor;
+use crate::group_readings;
+use crate::groups;
 use crate::logic::Collection;
 use crate::plan::Plan;
 use crate::readings::{self, Reading};
 use crate::rounding;
 use crate::runs::Read;
 use crate::sheet;
-use crate::verdict::{Refusal, Verdict};
+use crate::verdict::{Refusal, Verdict, FLOOR, RULES};
 
 /// The least number of times that every verdict has to be met in a run of 300,000 cases or more, and each way into a conflict or to
 /// round a percentage.
 const LEAST: usize = 500;
 
-/// The same for each way to read an or or an until; small plans meet them more often (`joined`).
+/// The same for each refusal for how a group is written, and for each way to read an or, an until or a group; small plans meet these more
+/// often (`joined`, `grouped`).
 const LEAST_READINGS: usize = 10;
 
 /// The most carts times steps of a plan for which all readings are tried.
@@ -24,11 +27,12 @@ const LARGE: usize = 320;
 /// What writing and replacing alone give.
 const NOT_GIVEN: [usize; 2] = [18, 19];
 
-const LIMITS: [(&str, usize); 10] = [
+const LIMITS: [(&str, usize); 11] = [
     ("places", 256),
     ("lanes", 1024),
     ("carts", 32),
     ("narrow places", 256),
+    ("groups", groups::MOST_GROUPS),
     ("steps", 64),
     ("drift", 16),
     ("bytes of sheet", sheet::LONGEST_SHEET),
@@ -47,15 +51,28 @@ const WAYS: [&str; 6] = [
     "a narrow place named twice",
 ];
 
+/// Refusals for how a group is written.
+const WRITTEN: [&str; 6] = [
+    "a record behind a group refused with 3",
+    "a group's record refused with 4",
+    "with 5",
+    "with 6",
+    "13 straight behind @",
+    "13 behind @ and its digit",
+];
+
 #[derive(Default)]
 pub struct Tally {
     /// For each number, 0 being accepted.
-    pub numbers: [usize; 21],
+    pub numbers: [usize; 22],
     pub smaller: usize,
-    limits: [usize; 10],
+    limits: [usize; LIMITS.len()],
     ways: [usize; 6],
+    written: [usize; WRITTEN.len()],
     roundings: [usize; rounding::WAYS.len()],
     readings: [usize; readings::WAYS.len()],
+    groups: [usize; group_readings::WAYS.len()],
+    orders: [usize; group_readings::ORDERS.len()],
     large: usize,
 }
 
@@ -72,6 +89,7 @@ impl Tally {
             floor.lanes.len(),
             floor.carts.len(),
             floor.narrow.len(),
+            floor.groups.len(),
             plan.h,
             plan.d,
             triple.rules.len(),
@@ -129,6 +147,37 @@ impl Tally {
         self.note_readings(&read, judged);
     }
 
+    /// Counts refusals for how a group is written, by the record or the bytes before the offset.
+    pub fn note_written(&mut self, triple: &Triple, verdict: Verdict) {
+        let at = verdict.first as usize;
+        match (verdict.about, verdict.number) {
+            (FLOOR, 3) => {
+                let before = Floor::read(&triple.floor[..at]);
+                self.written[0] += before.is_ok_and(|floor| !floor.groups.is_empty()) as usize;
+            }
+            (FLOOR, number @ 4..=6) if triple.floor[at + 2..at + 4] == [7, 0] => {
+                self.written[number as usize - 3] += 1;
+            }
+            (RULES, 13) => {
+                let before = &triple.rules[..at];
+                let digit = before.last().is_some_and(u8::is_ascii_digit);
+                self.written[4] += before.ends_with(b"@") as usize;
+                self.written[5] += (digit && before[..at - 1].ends_with(b"@")) as usize;
+            }
+            _ => {}
+        }
+    }
+
+    /// Counts what a triple tells apart that is refused for a group.
+    pub fn note_lacking(&mut self, triple: &Triple, verdict: Verdict) {
+        let Verdict { first, second, .. } = verdict;
+        let refused = Refusal(21, first as usize, second as usize);
+        let orders = group_readings::orders(&mut Read::of(triple), refused);
+        for (count, order) in self.orders.iter_mut().zip(orders) {
+            *count += order as usize;
+        }
+    }
+
     /// Counts the readings that would change what is said of the clauses; of large plans that of the old rules alone, for its time.
     fn note_readings(&mut self, read: &Read, judged: Result<(), Refusal>) {
         let looked_at = match judged {
@@ -147,20 +196,33 @@ impl Tally {
         for (count, way) in self.readings.iter_mut().zip(ways) {
             *count += way as usize;
         }
+        let ways = group_readings::ways(&collection, clauses);
+        for (count, way) in self.groups.iter_mut().zip(ways) {
+            *count += way as usize;
+        }
     }
 
-    /// The ways into a conflict, of rounding and of reading ors and untils, by name.
+    /// The ways into a conflict, of rounding and of reading ors, untils and groups, by name.
     fn named_ways(&self) -> impl Iterator<Item = (String, usize)> + '_ {
         let names = WAYS
             .iter()
+            .chain(&WRITTEN)
             .chain(&rounding::WAYS)
             .map(|name| name.to_string());
-        let readings = readings::WAYS.iter();
-        let readings = readings.map(|(_, name)| format!("verdicts changed by {name}"));
+        let readings = readings::WAYS.iter().map(|(_, name)| name);
+        let groups = group_readings::WAYS.iter().map(|(_, name)| name);
+        let readings = readings
+            .chain(groups)
+            .map(|name| format!("verdicts changed by {name}"));
+        let orders = group_readings::ORDERS.iter();
+        let orders = orders.map(|name| format!("answers for a lacking group changed by {name}"));
         let large = "the same by the first of these on large plans".to_string();
-        let counts = self.ways.iter().chain(&self.roundings);
-        let counts = counts.chain(&self.readings).chain([&self.large]);
-        names.chain(readings).chain([large]).zip(counts.copied())
+        let counts = self.ways.iter().chain(&self.written);
+        let counts = counts.chain(&self.roundings);
+        let counts = counts.chain(&self.readings).chain(&self.groups);
+        let counts = counts.chain(&self.orders).chain([&self.large]);
+        let names = names.chain(readings).chain(orders).chain([large]);
+        names.zip(counts.copied())
     }
 
     fn too_rare(&self) -> bool {
@@ -171,6 +233,9 @@ impl Tally {
         numbers.any(rare)
             || ways.any(|count| *count < LEAST)
             || self.large < LEAST
+            || self.written.iter().any(|count| *count < LEAST_READINGS)
+            || self.orders.iter().any(|count| *count < LEAST)
+            || self.groups.iter().any(|count| *count < LEAST_READINGS)
             || self.readings.iter().any(|count| *count < LEAST_READINGS)
     }
 

@@ -72,15 +72,18 @@ impl<'a> Meaning<'a> {
         steps.find(|u| b(*u) || !a(*u)).is_some_and(b)
     }
 
-    /// Whether a count holds at a standing.
+    /// Whether a count holds at a standing: by the carts of its group alone, as in section VI B.
     pub fn count(&self, node: usize, standing: &[usize]) -> bool {
         let Op::Count(threshold) = self.clause.nodes[node].op else {
             unreachable!("no count")
         };
-        let holds =
-            |(n, counter): &(usize, &usize)| self.counts[node][*n][self.plan.step(**counter)];
-        let carts = standing.iter().enumerate().filter(holds).count();
-        carts >= threshold.of(standing.len())
+        let counted = |n: &usize| match threshold.group {
+            None => true,
+            Some(group) => self.floor.groups[group] & 1 << n != 0,
+        };
+        let carts = || (0..standing.len()).filter(counted);
+        let holds = |n: &usize| self.counts[node][*n][self.plan.step(standing[*n])];
+        carts().filter(holds).count() >= threshold.of(carts().count())
     }
 
     /// A formula outside counts at every moment of a run.

@@ -3,6 +3,7 @@
 use std::collections::BTreeMap;
 
 use crate::floor::{Cart, Floor, Lane};
+use crate::groups;
 use crate::logic::Collection;
 use crate::narrow;
 use crate::plan::Plan;
@@ -89,12 +90,14 @@ impl World {
         let narrow = narrow::places(random, &mut plan, places.len(), wish);
         let carts = random_carts(random, &plan);
         let lanes = random_lanes(random, &plan, &carts, places.len());
-        let floor = Floor {
+        let mut floor = Floor {
             places,
             lanes,
             carts,
             narrow,
+            groups: Vec::new(),
         };
+        floor.groups = groups::random(random, floor.carts.len());
         World { floor, plan, marks }
     }
 
@@ -110,6 +113,8 @@ impl World {
         records.extend(self.floor.lanes.iter().map(lane));
         records.extend(self.floor.carts.iter().map(cart));
         records.extend(self.floor.narrow.iter().map(|place| (6, vec![*place])));
+        let group = |group: &u32| (7, group.to_le_bytes().to_vec());
+        records.extend(self.floor.groups.iter().map(group));
         records
     }
 

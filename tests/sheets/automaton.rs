@@ -24,6 +24,10 @@ enum Await {
     MoreNumber,
     /// `%`, or what may follow a number.
     Percent,
+    /// A group, or the end of a count.
+    Group,
+    /// The digit of a group.
+    GroupDigit,
     /// The end of a count.
     Close,
 }
@@ -51,8 +55,11 @@ impl Automaton {
             Await::Number if byte.is_ascii_digit() => Await::MoreNumber,
             Await::Number => return None,
             Await::MoreNumber if byte.is_ascii_digit() => Await::MoreNumber,
-            Await::MoreNumber | Await::Percent if byte == b'%' => Await::Close,
-            Await::MoreNumber | Await::Percent | Await::Close => self.close(byte)?,
+            Await::MoreNumber | Await::Percent if byte == b'%' => Await::Group,
+            Await::MoreNumber | Await::Percent | Await::Group => self.group(byte)?,
+            Await::GroupDigit if (b'0'..=b'7').contains(&byte) => Await::Close,
+            Await::GroupDigit => return None,
+            Await::Close => self.close(byte)?,
         };
         Some(())
     }
@@ -88,6 +95,15 @@ impl Automaton {
                 Some(Await::Line)
             }
             _ => None,
+        }
+    }
+
+    /// The sign of a group, spaces before it, or the count's end.
+    fn group(&mut self, byte: u8) -> Option<Await> {
+        match byte {
+            b' ' => Some(Await::Group),
+            b'@' => Some(Await::GroupDigit),
+            _ => self.close(byte),
         }
     }
 

@@ -60,6 +60,5 @@ pub fn sheet(random: &mut Random) -> Input {
     if random.percent(30) {
         bytes.push(telling::byte(random));
     }
-    telling::avoid_reserved(&mut bytes);
     Input { bytes, behind }
 }

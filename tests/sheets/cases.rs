@@ -53,8 +53,7 @@ fn sheet_to_pick_from(random: &mut Random) -> Input {
 fn number(random: &mut Random) -> u32 {
     let right = random.pick(&[16, 17, 21]);
     match random.below(12) {
-        0 => random.between(0, 21) as u32,
-        1 => random.between(22, 60) as u32,
+        0..=1 => random.between(0, 60) as u32,
         2 => right << random.pick(&[8, 16, 24]),
         3 => right | 1 << random.between(8, 31),
         _ => right,

@@ -39,7 +39,7 @@ fn deepen(random: &mut Random, tokens: &mut Vec<Token>) {
     }
 }
 
-/// Changes the number of a mark or count to another, in or out of range.
+/// Changes the number of a mark, count or group to another, in or out of range.
 fn renumber(random: &mut Random, tokens: &mut [Token]) {
     let numbered = |token: &&mut Token| token.iter().any(u8::is_ascii_digit);
     let mut numbered: Vec<&mut Token> = tokens.iter_mut().filter(numbered).collect();
@@ -122,7 +122,6 @@ pub fn damaged(random: &mut Random, mut lines: Lines, faults: usize) -> Input {
     for _ in kinds.iter().filter(|kind| **kind > 11) {
         damage_bytes(random, &mut sheet);
     }
-    telling::avoid_reserved(&mut sheet.bytes);
     sheet
 }
 
@@ -135,6 +134,5 @@ pub fn soup(random: &mut Random) -> Input {
             false => bytes.push(telling::byte(random)),
         }
     }
-    telling::avoid_reserved(&mut bytes);
     Input::from(bytes)
 }

@@ -13,12 +13,15 @@ pub enum Part {
     Until(Text),
     Smallest(Text),
     Count,
+    /// What stands behind a count's comma.
+    Amount,
     Mark,
     /// A mark whose number doesn't begin with 0.
     LongMark,
     Number,
     /// A number that doesn't begin with 0.
     LongNumber,
+    Group,
 }
 
 #[derive(Clone, Copy, PartialEq, Eq, Debug)]
@@ -43,6 +46,7 @@ pub struct Rule {
 
 const DIGITS: &[u8] = b"0123456789";
 const FIRST_DIGITS: &[u8] = b"123456789";
+const GROUP_DIGITS: &[u8] = b"01234567";
 
 fn rule(part: Part, symbols: &[Symbol]) -> Rule {
     let symbols = symbols.to_vec();
@@ -79,14 +83,18 @@ fn shape(text: Text, own: Part) -> Vec<Rule> {
     ]
 }
 
-/// A number with its `%` is one token, and so is a mark.
+/// A number with its `%` is one token, and so are a mark and a group.
 fn counts_and_marks() -> Vec<Rule> {
     let (open, comma, close) = (Token(b"["), Token(b","), Token(b"]"));
     let inner = Of(Or(Text::Inner));
     let number = Of(Number);
     vec![
-        rule(Count, &[open, inner, comma, number, close]),
-        rule(Count, &[open, inner, comma, number, Joined(b"%"), close]),
+        rule(Count, &[open, inner, comma, Of(Amount), close]),
+        rule(Amount, &[number]),
+        rule(Amount, &[number, Joined(b"%")]),
+        rule(Amount, &[number, Of(Group)]),
+        rule(Amount, &[number, Joined(b"%"), Of(Group)]),
+        rule(Group, &[Token(b"@"), Joined(GROUP_DIGITS)]),
         rule(Number, &[Token(b"0")]),
         rule(Number, &[Of(LongNumber)]),
         rule(LongNumber, &[Token(FIRST_DIGITS)]),

@@ -53,7 +53,7 @@ impl Clause {
                 self.nodes += 1;
                 self.end(Open::Prefix);
             }
-            Kind::Number | Kind::Percentage => (),
+            Kind::Number | Kind::Percentage | Kind::Group => (),
             Kind::Sign(b'(') => self.open.push(Open::Parenthesis),
             Kind::Sign(b')' | b']') => self.close(),
             Kind::Sign(b',') => self.end(Open::Until),

@@ -140,6 +140,11 @@ fn nodes_of_counts() -> Vec<Case> {
         case(counts(41) + "&![m0,1]\n", 14, 296),
         case(counts(41) + "&![m32,1]\n", 14, 296),
         case(counts(41) + "&!true\n", 0, 0),
+        case(counts(42).replace("1]", "1@7]") + "\n", 0, 0),
+        case(counts(42).replace("1]", "1 @0]") + "&true\n", 14, 429),
+        case(inner("[", 63, ",1@0]\n"), 0, 0),
+        case(inner("[", 63, ",1@8]\n"), 13, 195),
+        case(inner("[", 63, ",1000@8]\n"), 15, 193),
     ]
 }
 
@@ -204,6 +209,8 @@ fn mixed_levels() -> Vec<Case> {
         case(many(31, "(", "[m0,1]") + &")".repeat(31) + "\n", 0, 0),
         case(many(31, "(", "[m0,1]") + &")".repeat(32) + "\n", 13, 68),
         case(many(31, "!", "[m0,1]\n"), 0, 0),
+        case(many(31, "!", "[m0,1@3]\n"), 0, 0),
+        case(many(32, "!", "[m0,1@8]\n"), 14, 32),
         case(many(31, "!", "[!m0,1]\n"), 14, 32),
         case(many(31, "!", "[(m0),1]\n"), 14, 32),
         case(many(31, "!", "[[m0,1],1]\n"), 13, 32),
@@ -293,6 +300,11 @@ fn lengths() -> Vec<Case> {
         case(padded("", 16_384, "[m32"), 15, 16_382),
         case(padded("[m0,", 16_384, "101"), 13, 16_384),
         case(padded("[m0,", 16_384, "101%"), 15, 16_380),
+        case(padded("[m0,1", 16_384, "@0]\n"), 0, 0),
+        case(padded("[m0,1@0", 16_384, "]\n"), 0, 0),
+        case(padded("[m0,1", 16_384, "@"), 13, 16_384),
+        case(padded("[m0,1@", 16_384, "0]\n"), 13, 6),
+        case(padded("[m0,1", 16_385, "@0]\n"), 12, 0),
         case(many(16_384, "\0", ""), 13, 0),
         case(many(16_385, "\0", ""), 12, 0),
         case(many(16_384, "\n", ""), 13, 0),

@@ -38,12 +38,12 @@ fn clauses() -> Vec<Pick> {
         pick(SHEET, [3, 17, 1, 5], 5, 8),
         pick(SHEET, [3, 16, 2, 0], 14, 8),
         pick(SHEET, [3, 17, 2, 1], 14, 8),
-        pick(SHEET, [3, 21, 0, 7], 0, 4),
-        pick(SHEET, [3, 21, 1, 0], 5, 8),
+        pick(SHEET, [3, 21, 0, 0], 0, 4),
+        pick(SHEET, [3, 21, 1, 7], 5, 8),
         pick(SHEET, [3, 21, 2, u32::MAX], 14, 8),
+        none(SHEET, [3, 21, 3, 0]),
         none(SHEET, [3, 17, 3, 0]),
         none(SHEET, [3, 16, 4, 0]),
-        none(SHEET, [3, 21, 3, 0]),
         none(SHEET, [3, 16, 256, 0]),
         none(SHEET, [3, 17, 65_536, 0]),
         none(SHEET, [3, 17, 1 << 31, 0]),
@@ -86,7 +86,8 @@ fn other_verdicts() -> Vec<Pick> {
         picks.push(none(SHEET, [about, 17, 1, 0]));
         picks.push(none(SHEET, [about, 21, 1, 0]));
     }
-    let numbers = (0..=15).chain([18, 19, 20, 22, 23, 24, 272, 273, 277, 16 << 8, 17 << 16, 21 << 24, 65_552, u32::MAX]);
+    let near = [272, 273, 277, 16 << 8, 17 << 16, 21 << 24, 65_552, u32::MAX];
+    let numbers = (0..=15).chain(18..=20).chain(22..=32).chain(near);
     picks.extend(numbers.map(|number| none(SHEET, [RULES, number, 1, 0])));
     picks.push(none(SHEET, [17, 3, 1, 0]));
     picks

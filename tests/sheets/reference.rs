@@ -1,4 +1,4 @@
-//! Reading a sheet and picking a clause, written straight from document 01 for comparison.
+//! Reading a sheet and picking a clause, written straight from documents 01 and 02 for comparison.
 //!
 //! Every refusal that could be given is collected with its offset, and then the paper's order
 //! chooses. Where the grammar fails is found by `automaton`, nodes and levels by `levels`.
@@ -31,9 +31,13 @@ pub const MOST_LEVELS: usize = 32;
 #[derive(Clone, Copy, PartialEq, Eq, Debug)]
 pub enum Reason {
     Accepted,
+    /// With a count over a group.
+    AcceptedGroup,
     Empty,
     TooLong,
     WrongByte,
+    /// Straight behind the sign of a group.
+    WrongGroup,
     EndsEarly,
     Line,
     Node,
@@ -64,9 +68,10 @@ fn refusal(number: u32, offset: usize, reason: Reason) -> Refusal {
 /// 13: the first byte that no sheet could have, or the length.
 fn wrong_byte(sheet: &[u8]) -> Option<Refusal> {
     let offset = automaton::first_wrong(sheet)?;
-    let reason = match offset == sheet.len() {
-        true => Reason::EndsEarly,
-        false => Reason::WrongByte,
+    let reason = match sheet[..offset].last() {
+        _ if offset == sheet.len() => Reason::EndsEarly,
+        Some(b'@') => Reason::WrongGroup,
+        _ => Reason::WrongByte,
     };
     Some(refusal(13, offset, reason))
 }
@@ -143,6 +148,7 @@ pub fn read_rules(sheet: &[u8]) -> (Verdict, Reason) {
             [RULES, refused.number, refused.offset as u32, 0],
             refused.reason,
         ),
+        None if sheet.contains(&b'@') => ([0; 4], Reason::AcceptedGroup),
         None => ([0; 4], Reason::Accepted),
     }
 }

@@ -130,6 +130,10 @@ impl Walk<'_> {
                 let number = number(self.random);
                 self.put(b",", 0);
                 self.put(&number, 0);
+                if self.random.percent(25) {
+                    let group = self.random.below(8);
+                    self.put(format!("@{group}").as_bytes(), 0);
+                }
                 self.put(b"]", 0);
             }
         }

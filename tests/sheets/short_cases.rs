@@ -1,5 +1,5 @@
 //! Short sheets with their verdicts, written by hand: those of document 01, every place where a
-//! sheet can go wrong, and numbers on both sides of their limits.
+//! sheet can go wrong, and numbers and groups on both sides of their limits.
 
 use crate::reference::{Verdict, RULES};
 
@@ -321,6 +321,80 @@ fn percentages() -> Vec<Case> {
     group("percentages", &cases)
 }
 
+fn groups() -> Vec<Case> {
+    let cases = [
+        ("[m0,1@0]\n", 0, 0),
+        ("[m0,1@7]\n", 0, 0),
+        ("[m0,999@3]\n", 0, 0),
+        ("[m0,0@0]\n", 0, 0),
+        ("[m0,100%@0]\n", 0, 0),
+        ("[m0,0%@5]\n", 0, 0),
+        ("[m0,101@1]\n", 0, 0),
+        ("[m0,1 @0]\n", 0, 0),
+        ("[ m0 , 1   @0  ] \n", 0, 0),
+        ("[m0,50% @6 ]\n", 0, 0),
+        ("[m0,1@0]&[m0,1@1]|![m1,2]\n", 0, 0),
+        ("[m0,1@8]\n", 13, 6),
+        ("[m0,1@9]\n", 13, 6),
+        ("[m0,50%@8]\n", 13, 8),
+        ("[m0,1 @8]\n", 13, 7),
+        ("[m0,1@01]\n", 13, 7),
+        ("[m0,1@00]\n", 13, 7),
+        ("[m0,1@10]\n", 13, 7),
+        ("[m0,1@0 1]\n", 13, 8),
+        ("[m0,1@ 0]\n", 13, 6),
+        ("[m0,1@]\n", 13, 6),
+        ("[m0,1@\n", 13, 6),
+        ("[m0,1@", 13, 6),
+        ("[m0,1 @", 13, 7),
+        ("[m0,1@0", 13, 7),
+        ("[m0,1@0 ", 13, 8),
+        ("[m0,1@0\n", 13, 7),
+        ("[m0,1@x]\n", 13, 6),
+        ("[m0,1@-1]\n", 13, 6),
+        ("[m0,1@@0]\n", 13, 6),
+        ("[m0,1@0@1]\n", 13, 7),
+        ("[m0,1@0 @1]\n", 13, 8),
+        ("[m0,1@0%]\n", 13, 7),
+        ("[m0,1@0 %]\n", 13, 8),
+        ("[m0,1 %@0]\n", 13, 6),
+        ("[m0,1@0,1]\n", 13, 7),
+        ("[m0,@0]\n", 13, 4),
+        ("[m0,@0 1]\n", 13, 4),
+        ("[m0 @0,1]\n", 13, 4),
+        ("[m0@0,1]\n", 13, 3),
+        ("[@0,1]\n", 13, 1),
+        ("[m0,1]@0\n", 13, 6),
+        ("[m0,1] @0\n", 13, 7),
+        ("true@0\n", 13, 4),
+        ("@0\n", 13, 0),
+        ("(@0)\n", 13, 1),
+        ("true\n@0", 13, 5),
+    ];
+    group("groups", &cases)
+}
+
+/// The number's range is judged whatever follows it.
+fn groups_of_wrong_numbers() -> Vec<Case> {
+    let cases = [
+        ("[m0,1000@0]\n", 15, 4),
+        ("[m0,1000@9]\n", 15, 4),
+        ("[m0,1000 @9]\n", 15, 4),
+        ("[m0,1000@", 15, 4),
+        ("[m0,1000@01]\n", 15, 4),
+        ("[m0,101%@0]\n", 15, 4),
+        ("[m0,101%@8]\n", 15, 4),
+        ("[m0,101%@", 15, 4),
+        ("[m0,101@8]\n", 13, 8),
+        ("[m0,01@0]\n", 13, 5),
+        ("[m32,1@8]\n", 15, 2),
+        ("[m0,1@8]&[m32,1]\n", 13, 6),
+        ("[m0,1@7]&[m32,1@0]\n", 15, 11),
+        ("[m0,1@7]&[m0,1000@0]\n", 15, 13),
+    ];
+    group("groups of wrong numbers", &cases)
+}
+
 /// The lowest offset wins.
 fn first_of_two() -> Vec<Case> {
     let cases = [
@@ -342,7 +416,7 @@ fn first_of_two() -> Vec<Case> {
 
 /// Bytes that are no ASCII, or no text, or ASCII with the highest bit set.
 fn odd_bytes() -> Vec<Case> {
-    let cases: [(&[u8], u32, u32); 19] = [
+    let cases: [(&[u8], u32, u32); 21] = [
         (b"\0", 13, 0),
         (b"true\0\n", 13, 4),
         (b"tr\0ue\n", 13, 2),
@@ -362,6 +436,8 @@ fn odd_bytes() -> Vec<Case> {
         (b"\xef\xbb\xbftrue\n", 13, 0),
         (b"[m\xb1,1]\n", 13, 2),
         (b"[m1,1\xb1]\n", 13, 5),
+        (b"[m1,1@\xb0]\n", 13, 6),
+        (b"[m1,1\xc00]\n", 13, 5),
     ];
     group("odd bytes", &cases)
 }
@@ -378,6 +454,8 @@ pub fn all() -> Vec<Case> {
         marks(),
         numbers(),
         percentages(),
+        groups(),
+        groups_of_wrong_numbers(),
         first_of_two(),
         odd_bytes(),
     ];

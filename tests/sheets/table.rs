@@ -16,11 +16,13 @@ const ALWAYS: [bool; 3] = [true, true, true];
 /// A changed byte changes no length, and no clause is picked there.
 const NOT_CHANGED: [bool; 3] = [true, false, true];
 
-const ROWS: [(Reason, &str, [bool; 3]); 18] = [
+const ROWS: [(Reason, &str, [bool; 3]); 20] = [
     (Reason::Accepted, "accepted", ALWAYS),
+    (Reason::AcceptedGroup, "accepted, with @", ALWAYS),
     (Reason::Empty, "7 empty", NOT_CHANGED),
     (Reason::TooLong, "12 too long", NOT_CHANGED),
     (Reason::WrongByte, "13 wrong byte", ALWAYS),
+    (Reason::WrongGroup, "13 behind @", ALWAYS),
     (Reason::EndsEarly, "13 ends early", ALWAYS),
     (Reason::Line, "14 33rd line", ALWAYS),
     (Reason::Node, "14 129th node", ALWAYS),

@@ -9,6 +9,10 @@ const SIGNS: [&[u8]; 20] = [
     b" ", b"x", b"True", b"[m0,1]", b"(true)",
 ];
 const ODD_MARKS: [&[u8]; 7] = [b"m", b"m00", b"m01", b"m031", b"m 1", b"m1%", b"M1"];
+const GROUPS: [&[u8]; 4] = [b"@0", b"@1", b"@6", b"@7"];
+const ODD_GROUPS: [&[u8]; 12] = [
+    b"@8", b"@9", b"@", b"@ 0", b"@00", b"@01", b"@10", b"@78", b"@0%", b"@@0", b"@0@1", b"@m0",
+];
 const ODD_NUMBERS: [&[u8]; 6] = [b"00", b"01", b"0100", b"1 %", b"1%%", b"-1"];
 
 /// On both sides of the limits.
@@ -18,7 +22,7 @@ const NUMBERS: [u128; 12] = [0, 9, 32, 99, 100, 101, 200, 356, 998, 999, 1_000, 
 /// A number with one of these added is small again when cut to so many bits.
 const TURNS: [u128; 4] = [1 << 8, 1 << 16, 1 << 32, 1 << 64];
 
-const BYTES: &[u8] = b"\n\n   ()[],,!XFGUR&|%m00123456789truexM\0\t\r\x80\xff";
+const BYTES: &[u8] = b"\n\n   ()[],,!XFGUR&|%@@m00123456789truexM\0\t\r\x80\xff";
 
 pub fn byte(random: &mut Random) -> u8 {
     let any = random.byte();
@@ -52,28 +56,30 @@ fn number(random: &mut Random) -> Token {
     }
 }
 
+fn group(random: &mut Random) -> Token {
+    match random.percent(50) {
+        true => random.pick(&ODD_GROUPS).to_vec(),
+        false => random.pick(&GROUPS).to_vec(),
+    }
+}
+
 pub fn token(random: &mut Random) -> Token {
     match random.below(10) {
         0 => random.pick(&WORDS).to_vec(),
         1..=2 => mark(random),
         3..=4 => number(random),
+        5 => group(random),
         _ => random.pick(&SIGNS).to_vec(),
     }
 }
 
-/// A token of the same kind as this one: a word, mark, number, or any other.
+/// A token of the same kind as this one: a word, mark, number, group, or any other.
 pub fn alike(random: &mut Random, token: &[u8]) -> Token {
     match token[0] {
         b't' => random.pick(&WORDS).to_vec(),
         b'm' => mark(random),
         b'0'..=b'9' => number(random),
+        b'@' => group(random),
         _ => random.pick(&SIGNS).to_vec(),
-    }
-}
-
-/// `@` is reserved behind a count's number: wherever chance made one, another byte takes its place.
-pub fn avoid_reserved(bytes: &mut [u8]) {
-    for byte in bytes.iter_mut().filter(|byte| **byte == b'@') {
-        *byte = b'#';
     }
 }

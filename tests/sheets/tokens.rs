@@ -8,6 +8,8 @@ pub enum Kind {
     Mark,
     Number,
     Percentage,
+    /// `@` and a group's digit.
+    Group,
     /// A token of one byte.
     Sign(u8),
 }
@@ -45,6 +47,7 @@ fn token_at(bytes: &[u8], start: usize) -> Option<(Kind, usize, Range<usize>)> {
                 _ => Some((Kind::Number, end, start..end)),
             }
         }
+        b'@' => (rest.len() > 1).then_some((Kind::Group, start + 2, 0..0)),
         sign => Some((Kind::Sign(sign), start + 1, 0..0)),
     }
 }
