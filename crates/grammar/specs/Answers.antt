@@ -69,8 +69,8 @@ pub record Allowed (s : List ℕ) (k : ℕ) : Type 0 where
   pub begins : Begins (take last s)
 
 -- "14 a token past a limit, or the first byte of the 33rd line": it would be the 129th node, or open level 33, or 32 lines stand before
-abbrev pub Over : List ℕ → ℕ → Type 0
-Over s k = ((k < length s) × (begun s k .lines ≡ 32)) ⊎ (Allowed s k × TooMany (begun s k) (getD s k 0))
+abbrev pub PastLimit : List ℕ → ℕ → Type 0
+PastLimit s k = ((k < length s) × (begun s k .lines ≡ 32)) ⊎ (Allowed s k × TooMany (begun s k) (getD s k 0))
 
 -- a whole number out of range from its first byte r to what is left, behind a mark's `m`, or behind a count's `,` and spaces
 pub data Large : List ℕ → List ℕ → List ℕ → Type 0 where

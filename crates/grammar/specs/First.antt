@@ -8,11 +8,11 @@ use native.Mathlib.Omega.{arith}
 use lib.ListN.{length, take, drop, getD, length-drop}
 use lib.Seq.{take-length}
 use lib.Dec.{ltb}
-use Rattle.grammar.specs.Grammar.{Form, Spaces, none, space, Digits, end, digit, Number, nought, other, Percent, without, sign, Over as Carts, Group, ungrouped, grouped, Amount, AmountText, written, prefixByte, reachByte, Rank, Part, word, parens, prefix, one-small, reach, one-until, one-and, Mark, mark, Counted, Count, count, Clause, Sheet, done, line}
+use Rattle.grammar.specs.Grammar.{Form, Spaces, none, space, Digits, end, digit, Number, nought, other, Percent, without, sign, Over, Group, ungrouped, grouped, Amount, AmountText, written, prefixByte, reachByte, Rank, Part, word, parens, prefix, one-small, reach, one-until, one-and, Mark, mark, Counted, Count, count, Clause, Sheet, done, line}
 use Rattle.grammar.specs.Limits.{nodes, markNodes, countNodes}
 use Rattle.grammar.specs.Begun.{isNode, opensLevel, Begun, onBy, after, begun, TooMany}
 use Rattle.grammar.specs.Reader.{Got, lines, accepted, refused, outcome, start, readSheet}
-use Rattle.grammar.specs.Answers.{InSheet, Begins, Never, Token, Allowed, Large, Over}
+use Rattle.grammar.specs.Answers.{InSheet, Begins, Never, Token, Allowed, Large, PastLimit}
 use Rattle.grammar.specs.Ends.{token-in}
 use Rattle.grammar.specs.Each.{Each, gives, denies, either, never, is-digit}
 use Rattle.grammar.specs.Sound.{nodes-prefix, nodes-reach}
@@ -37,7 +37,7 @@ percent-after : {p : Bool} {s r : List ℕ} (x : Begun) → Percent s r p → af
 percent-after x without = refl
 percent-after x sign = refl
 
-group-after : {o : Carts} {s r : List ℕ} (x : Begun) → Group s r o → after x s ≡ after x r
+group-after : {o : Over} {s r : List ℕ} (x : Begun) → Group s r o → after x s ≡ after x r
 group-after x ungrouped = refl
 group-after x (grouped {b = b} {r = r} y h k) = spaces-after x y ∙ ap (λ (z : Begun). after z r) (quiet-digit b (is-digit b h (omega arith)) .same x)
 
@@ -213,9 +213,9 @@ begun-on s k (suc d) f =
 record StopsAt (s : List ℕ) (w k : ℕ) : Type 0 where
   hits : w ≡ 14 → Hits (begun s k) (drop k s)
   few : (w ≡ 14 → ⊥) → begun s k .lines ≡ 32 → ⊥
-  free : (j : ℕ) → j < k → Over s j → ⊥
+  free : (j : ℕ) → j < k → PastLimit s j → ⊥
 
-over-free : (s r : List ℕ) (y : Begun) → Track (Begin 0) s r y → (j : ℕ) → j < length s - length r → Over s j → ⊥
+over-free : (s r : List ℕ) (y : Begun) → Track (Begin 0) s r y → (j : ℕ) → j < length s - length r → PastLimit s j → ⊥
 over-free s r y t j h (inl o) = track-free t j h .0 (o .1)
 over-free s r y t j h (inr o) = track-free t j h .1 (o .1) _ (o .0 .token)
 
@@ -230,7 +230,7 @@ stops-at s w k q =
       free = λ j h. over-free s (q .rest) (v .at) (v .track) j (let i = q .at in omega arith);
     }
 
-pub past-14 : (s : List ℕ) (k : ℕ) → readSheet s ≡ refused 14 k → Over s k
+pub past-14 : (s : List ℕ) (k : ℕ) → readSheet s ≡ refused 14 k → PastLimit s k
 past-14 s k e =
     let v = hits-at s k (begun s k) (stops-at s 14 k (refusal s 14 k (λ z. omega arith) (λ z. omega arith) e) .hits refl) in
     ⊎-elim (λ h. inl (v .0, h))
@@ -238,19 +238,19 @@ past-14 s k e =
     (λ a. inl (v .0, let i = sheet-lines (a .1) (Begin 0) in let j = a .2 in omega arith)) (allowed-14 s k e)) (v .1)
 
 -- at an equal offset 14 comes first
-equal-offset : (s : List ℕ) (w k : ℕ) → InSheet w → readSheet s ≡ refused w k → StopsAt s w k → Over s k → w ≡ 14
+equal-offset : (s : List ℕ) (w k : ℕ) → InSheet w → readSheet s ≡ refused w k → StopsAt s w k → PastLimit s k → w ≡ 14
 equal-offset s w k (inl i) e q (inl o) = absurd (q .few (λ j. omega arith) (o .1))
 equal-offset s w k (inl i) e q (inr o) = absurd (never-allowed s k (stuck-13 s k (e ∙ ap (λ (n : ℕ). refused n k) i) .0) (o .0))
 equal-offset s w k (inr (inl i)) e q o = i
 equal-offset s w k (inr (inr i)) e q (inl o) = absurd (q .few (λ j. omega arith) (o .1))
 equal-offset s w k (inr (inr i)) e q (inr o) = absurd (large-number (out-15 s k (e ∙ ap (λ (n : ℕ). refused n k) i) .number) (o .0 .token))
 
-pub first-14 : (s : List ℕ) (w k j : ℕ) → InSheet w → readSheet s ≡ refused w k → j ≤ k → Over s j → (w ≡ 14) × (j ≡ k)
+pub first-14 : (s : List ℕ) (w k j : ℕ) → InSheet w → readSheet s ≡ refused w k → j ≤ k → PastLimit s j → (w ≡ 14) × (j ≡ k)
 first-14 s w k j c e h o =
     let q = stops-at s w k (refusal s w k (λ z. code-not 7 w (λ i j. omega arith) c z) (λ z. code-not 12 w (λ i j. omega arith) c z) e) in
     let f : j < k → ⊥ = λ z. q .free j z o in
     let i : j ≡ k = omega arith in
-    (equal-offset s w k c e q (subst (Over s) i o), i)
+    (equal-offset s w k c e q (subst (PastLimit s) i o), i)
 
 -- and what is accepted has none
 outcome-free : (s : List ℕ) (cs : List Clause) (len : ℕ) (g : Got (List Clause)) → Each (λ cs m r. (y : Begun) × Track (Begin 0) s [] y) (Stops (Begin 0) s) g
@@ -264,13 +264,13 @@ unfolding start
 start-free [] cs e = (Begin 0, here)
 start-free (b ∷ s) cs e = outcome-free (b ∷ s) cs (length (b ∷ s)) (lines 32 (b ∷ s)) (lines-tracked 32 0 (b ∷ s) refl) e
 
-over-in : (s : List ℕ) (j : ℕ) → Over s j → j < length s
+over-in : (s : List ℕ) (j : ℕ) → PastLimit s j → j < length s
 over-in s j (inl o) = o .0
 over-in s j (inr o) = allowed-in s j (o .0) .0
 
-pub none-over : (s : List ℕ) (cs : List Clause) → readSheet s ≡ accepted cs → (j : ℕ) → Over s j → ⊥
+pub none-over : (s : List ℕ) (cs : List Clause) → readSheet s ≡ accepted cs → (j : ℕ) → PastLimit s j → ⊥
 unfolding readSheet
 none-over s cs =
-    either (λ x. x ≡ accepted cs → (j : ℕ) → Over s j → ⊥) (ltb 16384 (length s)) (refused 12 0) (start s)
+    either (λ x. x ≡ accepted cs → (j : ℕ) → PastLimit s j → ⊥) (ltb 16384 (length s)) (refused 12 0) (start s)
     (λ h e. let z : _≡_ {A = ℕ} 0 1 = cc in absurd (omega arith))
     (λ h e j o. let t = start-free s cs e in over-free s [] (t .0) (t .1) j (let i = over-in s j o in omega arith) o)

@@ -11,7 +11,7 @@ use Rattle.grammar.specs.Nodes.{Node, flatClause, Stands, StandsCount}
 use Rattle.grammar.specs.Begun.{begun}
 use Rattle.grammar.specs.Standing.{clause-stands, clause-length}
 use Rattle.grammar.specs.Reader.{Read, accepted, refused, readSheet}
-use Rattle.grammar.specs.Answers.{AcceptedSheet, InSheet, RefusedBy, BeginsInRange, Never, Beyond, Allowed, Over, OutOfRange}
+use Rattle.grammar.specs.Answers.{AcceptedSheet, InSheet, RefusedBy, BeginsInRange, Never, Beyond, Allowed, PastLimit, OutOfRange}
 use Rattle.grammar.specs.Accepts.{sound, before-in-range, allowed-14, out-15}
 use Rattle.grammar.specs.First.{begun-nodes, begun-lines, past-14, first-14, none-over}
 use Rattle.grammar.specs.Full.{line-33}
@@ -39,9 +39,9 @@ pub record Lawful (s : List ℕ) (a : Read) : Type 0 where
   pub token-14 : (k : ℕ) → a ≡ refused 14 k → Allowed s k ⊎ ((cs : List Clause) × Sheet (take k s) cs × (length cs ≡ 32))
   pub over-14 : (k : ℕ) → a ≡ refused 14 k → (k < length s) × Beyond (take (suc k) s)
   -- it would be the 129th node or open level 33, or 32 lines stand before; the first such, "at an equal offset 14, 15, 13"; and what is accepted has none
-  pub past-14 : (k : ℕ) → a ≡ refused 14 k → Over s k
-  pub first-14 : (w k j : ℕ) → InSheet w → a ≡ refused w k → j ≤ k → Over s j → (w ≡ 14) × (j ≡ k)
-  pub none-over : (cs : List Clause) → a ≡ accepted cs → (j : ℕ) → Over s j → ⊥
+  pub past-14 : (k : ℕ) → a ≡ refused 14 k → PastLimit s k
+  pub first-14 : (w k j : ℕ) → InSheet w → a ≡ refused w k → j ≤ k → PastLimit s j → (w ≡ 14) × (j ≡ k)
+  pub none-over : (cs : List Clause) → a ≡ accepted cs → (j : ℕ) → PastLimit s j → ⊥
   -- the 33rd line, whatever byte it begins with
   pub line-33 : (k : ℕ) (cs : List Clause) (d : Sheet (take k s) cs) → Fits d → length cs ≡ 32 → k < length s → FewBytes s → a ≡ refused 14 k
   -- 15: the first byte of a number out of range, whole with its `%`, in a mark its first digit, that the grammar allows there
