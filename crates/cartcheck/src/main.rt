@@ -1,4 +1,5 @@
 // Checks the plan of this folder: reads the files floor, plan and rules, and prints the verdict's line.
+#![tactic(auto)]
 
 fn main() {
     // One byte more than a file may have, so that a longer one is seen.

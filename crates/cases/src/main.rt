@@ -1,4 +1,6 @@
 // Does what each data set asks for, and prints the verdicts and the buffers written to.
+#![tactic(auto)]
+
 mod tasks;
 
 use libc::STDOUT_FILENO;

@@ -1,4 +1,6 @@
 // The part of a sheet that a verdict picks.
+#![tactic(auto)]
+
 ghost use Rattle.std.specs.Prelude.{◌≡◌, ◌+◌, ◌-◌, ◌≤◌, ◌<◌, cond, length, drop};
 ghost use Rattle.refusal.specs.Codes.{word_at};
 ghost use Rattle.clause.specs.Clause.{names_clause, picks, is_end, line_start, line_length, empty_span, clause_in};
@@ -6,7 +8,7 @@ ghost use Rattle.clause.specs.Promises.{Picked, Shown};
 
 // A part of a sheet: where it begins, and how many bytes it has.
 #[repr(C)]
-#[derive(Drop)]
+#[derive(Clone, Copy)]
 pub struct Span {
     pub offset: usize,
     pub length: usize,

@@ -1,4 +1,6 @@
 // Narrow places: whether two carts can meet in one, or change places between two.
+#![tactic(auto)]
+
 mod above;
 mod carts;
 mod columns;
@@ -16,7 +18,7 @@ use plan::Head;
 use refusal::Verdict;
 
 // A cart's first meeting with those above it, by its own step there.
-#[derive(Drop)]
+#[derive(Clone, Copy)]
 pub enum Meeting {
     Clear,
     On(usize),

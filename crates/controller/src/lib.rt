@@ -1,4 +1,6 @@
 // The functions that the table controllers call from C: include/cartplan.h.
+#![tactic(auto)]
+
 ghost use Rattle.floor.specs.Numbers.{numbers};
 ghost use Rattle.plan.specs.Numbers.{head_of};
 ghost use Rattle.clause.specs.Promises.{Picked};

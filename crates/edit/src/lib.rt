@@ -1,4 +1,6 @@
 // Moving a plan on, and replacing a row.
+#![tactic(auto)]
+
 mod moving;
 mod replacing;
 
@@ -7,7 +9,7 @@ use refusal::Verdict;
 pub use replacing::replace_row;
 
 // A replacement judged: the verdict and, if it accepts, where the row's bytes lie in the plan.
-#[derive(Drop)]
+#[derive(Clone, Copy)]
 pub struct Replacement {
     pub verdict: Verdict,
     pub at: usize,

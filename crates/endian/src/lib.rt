@@ -1,4 +1,6 @@
 // Little-endian numbers and their bytes.
+#![tactic(auto)]
+
 ghost use Rattle.std.specs.Prelude.{◌≡◌, [], ◌∷◌};
 ghost use Rattle.endian.specs.Little.{bytes, value};
 

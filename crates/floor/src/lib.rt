@@ -1,4 +1,6 @@
 // Floors: places, lanes, carts, narrow places and groups.
+#![tactic(auto)]
+
 mod judging;
 mod offsets;
 mod reading;
@@ -11,7 +13,7 @@ use refusal::Refusal;
 pub use writing::write;
 
 // How many places, lanes, carts, narrow places and groups a floor has. What they are stays in the file's bytes.
-#[derive(Drop)]
+#[derive(Clone, Copy)]
 pub struct Floor {
     pub places: usize,
     pub lanes: usize,
@@ -21,21 +23,21 @@ pub struct Floor {
 }
 
 // A record judged: the floor with it counted in, or the number of its refusal.
-#[derive(Drop)]
+#[derive(Clone, Copy)]
 pub enum RecordAnswer {
     Good(Floor),
     Fault(u32),
 }
 
 // Records judged in order: the floor and the offset behind them, or the first refusal.
-#[derive(Drop)]
+#[derive(Clone, Copy)]
 pub enum Walked {
     At(Floor, usize),
     Stopped(Refusal),
 }
 
 // What reading a floor answers.
-#[derive(Drop)]
+#[derive(Clone, Copy)]
 pub enum FloorAnswer {
     Read(Floor),
     Refused(Refusal),

@@ -1,1 +1,2 @@
 // The grammar of a rule sheet: definitions and laws, and no code.
+#![tactic(auto)]

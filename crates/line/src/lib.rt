@@ -1,4 +1,6 @@
 // The line that document 01's program prints for a verdict.
+#![tactic(auto)]
+
 ghost use Rattle.std.specs.Prelude.{◌≡◌, ◌+◌, ◌≤◌, ◌<◌, ◌∷◌, length};
 ghost use Rattle.line.specs.Decimal.{digit_byte, decimal};
 ghost use Rattle.line.specs.Line.{ascii, spaced, file_name, line_of, done_line, answer_line};

@@ -1,4 +1,6 @@
 // The tables of the marks, made once for a plan: word s of a mark's table has bit i for cart i. And the words of the groups.
+#![tactic(auto)]
+
 mod fours;
 mod groups;
 mod tables;

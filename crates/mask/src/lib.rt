@@ -1,4 +1,6 @@
 // Truth rows over a lasso of h steps, whose lap begins at l, as masks: bit s is the truth at step s.
+#![tactic(auto)]
+
 mod until;
 
 ghost use Rattle.std.specs.Prelude.{true, not, ℕ, ◌<◌, ◌≤◌, ◌^◌};

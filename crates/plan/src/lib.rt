@@ -1,4 +1,6 @@
 // Plans: a head and a row of places for each cart.
+#![tactic(auto)]
+
 mod heads;
 mod reading;
 mod rows;
@@ -11,7 +13,7 @@ pub use rows::{judge_row, row_at};
 pub use writing::{put_numbers, write};
 
 // Document 01's h, l and d: the steps, those of the run-in (the lap begins at step `stem`), and the drift.
-#[derive(Drop)]
+#[derive(Clone, Copy)]
 pub struct Head {
     pub steps: usize,
     pub stem: usize,
@@ -19,14 +21,14 @@ pub struct Head {
 }
 
 // The first record judged.
-#[derive(Drop)]
+#[derive(Clone, Copy)]
 pub enum HeadAnswer {
     Good(Head),
     Refused(Refusal),
 }
 
 // A row judged on its body: every place is on the floor, or its length is wrong, or the lowest step whose place is absent.
-#[derive(Drop)]
+#[derive(Clone, Copy)]
 pub enum RowAnswer {
     Fits,
     WrongLength,
@@ -34,14 +36,14 @@ pub enum RowAnswer {
 }
 
 // A plan's numbers judged before they are written.
-#[derive(Drop)]
+#[derive(Clone, Copy)]
 pub enum NumbersAnswer {
     Good,
     Refused(Refusal),
 }
 
 // An accepted plan: cart n's row begins at byte 64 n of the block.
-#[derive(Drop)]
+#[derive(Clone, Copy)]
 pub struct Plan {
     pub head: Head,
     pub carts: usize,
@@ -49,7 +51,7 @@ pub struct Plan {
 }
 
 // What reading a plan answers: the verdict and, if it is accepted, floor and plan.
-#[derive(Drop)]
+#[derive(Clone, Copy)]
 pub struct PlanRead {
     pub verdict: Verdict,
     pub floor: Floor,

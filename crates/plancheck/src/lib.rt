@@ -1,4 +1,6 @@
 // Checking a plan.
+#![tactic(auto)]
+
 mod clauses;
 
 ghost use Rattle.std.specs.Prelude.{◌≡◌, ℕ, ◌<◌, ◌≤◌, leb, length};

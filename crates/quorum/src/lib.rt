@@ -1,4 +1,6 @@
 // The rule for a count, and its part on windows alone, on a table of truth by step and for all steps at once: a word a step, with bit i for cart i.
+#![tactic(auto)]
+
 mod along;
 mod counting;
 mod running;

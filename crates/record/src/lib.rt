@@ -1,4 +1,6 @@
 // Records of a file: a two-byte body length, a two-byte kind and the body.
+#![tactic(auto)]
+
 ghost use Rattle.std.specs.Prelude.{◌≡◌, ◌+◌, ◌-◌, ◌≤◌, ◌<◌, min, length};
 ghost use Rattle.record.specs.Record.{encoded};
 ghost use Rattle.record.specs.Parts.{of_kind, laid};
@@ -6,7 +8,7 @@ ghost use Rattle.record.specs.Found.{found_at};
 ghost use Rattle.record.specs.Buffer.{stored};
 
 // What stands at an offset of a file: nothing more, less than a record, or a record and where its body lies.
-#[derive(Drop)]
+#[derive(Clone, Copy)]
 pub enum Found {
     End,
     Cut,

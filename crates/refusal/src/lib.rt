@@ -1,10 +1,12 @@
 // Refusals and verdicts, and document 01's numbers of each.
+#![tactic(auto)]
+
 ghost use Rattle.std.specs.Prelude.{◌≡◌};
 ghost use Rattle.refusal.specs.Codes.{refused, at_offset, code_about, code_of, bytes_of};
 ghost use Rattle.refusal.specs.Stages.{is_accepted};
 
 // A refusal's number and its two further numbers.
-#[derive(Drop)]
+#[derive(Clone, Copy)]
 pub struct Refusal {
     pub number: u32,
     pub first: u32,
@@ -12,7 +14,7 @@ pub struct Refusal {
 }
 
 // What an operation answers: accepted, or a result of so many bytes written, or a refusal and the file that it is about.
-#[derive(Drop)]
+#[derive(Clone, Copy)]
 pub enum Verdict {
     Accepted,
     Written(u32),
@@ -23,7 +25,7 @@ pub enum Verdict {
 
 // A verdict as four numbers, in C's layout.
 #[repr(C)]
-#[derive(Drop)]
+#[derive(Clone, Copy)]
 pub struct Code {
     pub about: u32,
     pub number: u32,

@@ -1,4 +1,6 @@
 // The rule sheet: its bytes read into nodes.
+#![tactic(auto)]
+
 mod parts;
 mod reading;
 

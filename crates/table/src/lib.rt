@@ -1,4 +1,6 @@
 // Tables of truth by step: h words, one a step, with bit i for cart i. The tables of a check lie in one block; a table and those it is made from share no word.
+#![tactic(auto)]
+
 mod each;
 mod ever;
 mod until;

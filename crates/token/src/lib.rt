@@ -1,4 +1,6 @@
 // Tokens read where they stand: spaces, numbers, operators, leaves, the ends of counts; and nodes put into the block.
+#![tactic(auto)]
+
 mod counts;
 mod leaves;
 mod nodes;
@@ -11,7 +13,7 @@ pub use tokens::spaces;
 
 // What reading a part gives: the refusal's number, or 0; the offset behind the part, or the refused one; the nodes still
 // allowed; and how many nodes stand in the block, the last of them the part's own.
-#[derive(Drop)]
+#[derive(Clone, Copy)]
 pub struct PartRead {
     pub fault: u32,
     pub at: usize,
@@ -20,7 +22,7 @@ pub struct PartRead {
 }
 
 // What reading a number gives: its value, or 1,000 if it is more, and the offset behind it; or not ok, and the refused offset.
-#[derive(Drop)]
+#[derive(Clone, Copy)]
 pub struct Num {
     pub value: usize,
     pub at: usize,
@@ -29,7 +31,7 @@ pub struct Num {
 
 // What reading an amount gives: the refusal's number or 0, the offset behind it or the refused one, its number, whether it is a
 // percentage, and its carts: 0 for the whole fleet, 1 + g for group g.
-#[derive(Drop)]
+#[derive(Clone, Copy)]
 pub struct AmountRead {
     pub fault: u32,
     pub at: usize,
@@ -39,7 +41,7 @@ pub struct AmountRead {
 }
 
 // `U` or `R` behind a part: its offset and its node's kind, or the sheet's length.
-#[derive(Drop)]
+#[derive(Clone, Copy)]
 pub struct ReachAt {
     pub at: usize,
     pub kind: u8,

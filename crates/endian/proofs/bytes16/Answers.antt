@@ -1,0 +1,7 @@
+use Rattle.std.proofs.Common.{rules}
+use Rattle.endian.specs.Little.{bytes}
+use Rattle.endian.proofs.bytes16.Goals as goal
+
+pub returns : goal.returns
+unfolding bytes
+returns c = search rules
