@@ -1,5 +1,5 @@
 -- What follows from the promises of picking a clause's part alone, for a verdict's own bytes.
-use Rattle.std.specs.Prelude.{ℕ, ◌+◌, ◌≤◌, ◌<◌, ◌≡◌, refl, Bool, true, false, ◌&&◌, ◌||◌, List, eqb, length, take, drop}
+use Rattle.std.specs.Prelude.{ℕ, ◌≤◌, ◌<◌, ◌≡◌, refl, Bool, true, false, ◌&&◌, ◌||◌, List, eqb, length, take, drop}
 use Rattle.std.proofs.Common.{arith, sym, ap, ◌∙◌, length-take, length-drop, ne_eqb}
 use Rattle.std.proofs.Math.Bool.{or-false}
 use Rattle.endian.specs.Little.{bytes}
@@ -11,7 +11,7 @@ use Rattle.refusal.specs.declared.Code.{Code}
 use Rattle.refusal.specs.declared.Refusal.{Refusal}
 use Rattle.refusal.specs.declared.Verdict.{Verdict}
 use Rattle.refusal.specs.declared.Verdict.TheVariants.{Accepted, Written, Floor, Plan, Rules}
-use Rattle.clause.specs.Clause.{names_clause, picks, empty_span, span, part}
+use Rattle.clause.specs.Clause.{names_clause, picks, empty_span, span}
 use Rattle.clause.specs.Meaning.{line_ends, IsClause}
 use Rattle.clause.specs.Promises.{Picked, Shown}
 use Rattle.clause.specs.declared.Span.{Span}

@@ -20,6 +20,7 @@ Some Q (x ∷ xs) = Q x ⊎ Some Q xs
 
 pub some_map : {X : Type 0} (Q R : X → Type 0) → ((x : X) → Q x → R x) → (xs : List X) → Some Q xs → Some R xs
 some_map Q R f (x ∷ xs) y = ⊎_elim (λ z. inl (f x z)) (λ z. inr (some_map Q R f xs z)) y
+some_map Q R f [] y = elim y [ ]
 
 some_append : {X : Type 0} (Q : X → Type 0) (xs ys : List X) → Some Q (xs ++ ys) → Some Q xs ⊎ Some Q ys
 some_append Q [] ys z = inr z
@@ -28,6 +29,8 @@ some_append Q (x ∷ xs) ys z = ⊎_elim (λ u. inl (inl u)) (λ u. ⊎_elim (λ
 module _ {L : Type 0} (Q : Bool × L → Type 0) where
   pub some_both : (xs ys : List (Bool × L)) → Some Q (both xs ys) → Some Q xs ⊎ Some Q ys
   some_both (x ∷ xs) (y ∷ ys) z = some_append Q (x ∷ xs) (y ∷ ys) z
+  some_both [] ys z = elim z [ ]
+  some_both (x ∷ xs) [] z = elim z [ ]
 
 ---- A count of an or makes it true.
 module _ {L : Type 0} (Leaf : L → ℕ → Type 0) (t : ℕ) where
@@ -43,15 +46,18 @@ module _ {L : Type 0} (Leaf : L → ℕ → Type 0) (t : ℕ) where
       λ y.
       ⊎_elim (λ u. leaf_holds false a u y.0) (λ u. leaf_holds false b u y.1) (some_both LeafHolds (leaves false a) (leaves false b) z)
   leaf_holds true (or a b) z = ⊎_elim (λ u. inl (leaf_holds true a u)) (λ u. inr (leaf_holds true b u)) (some_both LeafHolds (leaves true a) (leaves true b) z)
+  leaf_holds _ _ z = elim z [ ]
 
   -- one side of it: only a | b and !(a & b) have counts
   pub or_side : (p : Bool) (a b : Form L) → Some LeafHolds (leaves p (or a b)) → T p × (Val p (Holds Leaf a t) ⊎ Val p (Holds Leaf b t))
   unfolding leaves
   or_side true a b z = (tt, ⊎_elim (λ u. inl (leaf_holds true a u)) (λ u. inr (leaf_holds true b u)) (some_both LeafHolds (leaves true a) (leaves true b) z))
+  or_side false a b z = elim z [ ]
 
   pub and_side : (p : Bool) (a b : Form L) → Some LeafHolds (leaves p (and a b)) → T (not p) × (Val p (Holds Leaf a t) ⊎ Val p (Holds Leaf b t))
   unfolding leaves
   and_side false a b z = (tt, ⊎_elim (λ u. inl (leaf_holds false a u)) (λ u. inr (leaf_holds false b u)) (some_both LeafHolds (leaves false a) (leaves false b) z))
+  and_side true a b z = elim z [ ]
 
 -- so it does by the rules
 module _ (h l : ℕ) {L : Type 0} (rule : Bool → L → ℕ → Bool) (also : Bool → Form L → ℕ → Bool) (s : ℕ) where
@@ -68,6 +74,7 @@ module _ (h l : ℕ) {L : Type 0} (rule : Bool → L → ℕ → Bool) (also : B
   leaf_ruled true (or a b) z =
       or_r (also true (or a b) s) _
       (⊎_elim (λ u. or_l (judge h l rule also true a s) _ (leaf_ruled true a u)) (λ u. or_r (judge h l rule also true a s) _ (leaf_ruled true b u)) (some_both LeafRuled (leaves true a) (leaves true b) z))
+  leaf_ruled _ _ z = elim z [ ]
 
 ---- The pigeonhole.
 module _ (P : Rows) where

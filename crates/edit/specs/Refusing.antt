@@ -1,5 +1,5 @@
 -- A refusal of moving on or of replacing a row has one of the numbers that document 01 lists.
-use Rattle.std.specs.Prelude.{ℕ, ◌≡◌, refl, Bool, true, false, cond, List, leb}
+use Rattle.std.specs.Prelude.{ℕ, refl, Bool, true, false, cond, List, leb}
 use Rattle.refusal.specs.Codes.{refused}
 use Rattle.refusal.specs.Given.{Refusals, Given, moving_on, replacing_row}
 use Rattle.refusal.specs.Numbered.{one_among}
@@ -17,7 +17,7 @@ use Rattle.plan.specs.declared.RowAnswer.TheVariants.{Fits, WrongLength, Absent}
 use Rattle.moves.specs.Carts.{cart_verdict, moves_verdict}
 use Rattle.moves.specs.Refusing.{row_given, carts_given}
 use Rattle.edit.specs.Moved.{moved, move_on}
-use Rattle.edit.specs.Replaced.{places_verdict, new_row_verdict, cart_row_verdict, replace_verdict, replaced_in, replace_row}
+use Rattle.edit.specs.Replaced.{places_verdict, new_row_verdict, cart_row_verdict, replace_verdict, replace_row}
 
 -- moving on: reading's, and 18
 pub moving_given : (floor plan : List ℕ) (s : ℕ) (out : List ℕ) → Given moving_on (move_on floor plan s out).answer

@@ -1,18 +1,18 @@
 -- What the promises of reading and writing a floor give: a reader of them alone can conclude this.
-use Rattle.std.specs.Prelude.{ℕ, ◌+◌, ◌*◌, ◌/◌, ◌%◌, ◌^◌, ◌≤◌, ◌<◌, ◌≡◌, refl, List, [], ◌∷◌, ◌++◌, length, take, drop, get_or}
-use Rattle.std.proofs.Common.{add-zero, arith, sym, ap, subst, ◌∙◌}
+use Rattle.std.specs.Prelude.{ℕ, ◌*◌, ◌/◌, ◌%◌, ◌^◌, ◌≤◌, ◌<◌, ◌≡◌, refl, List, [], ◌∷◌, ◌++◌, length, take, drop, get_or}
+use Rattle.std.proofs.Common.{add-zero, arith, sym, subst, ◌∙◌}
 use Rattle.endian.specs.Little.{value}
 use Rattle.refusal.specs.Codes.{refused, code_of}
 use Rattle.refusal.specs.Given.{OneOf, Given, floor_numbers, reading_floor, writing_floor}
 use Rattle.refusal.specs.Numbered.{zero_accepts, zero_writes}
-use Rattle.refusal.specs.Outcome.{Outcome, Gives, written}
+use Rattle.refusal.specs.Outcome.{Outcome, Gives}
 use Rattle.refusal.specs.Held.{with_room, without_room}
 use Rattle.refusal.specs.declared.Refusal.{Refusal}
 use Rattle.refusal.specs.declared.Verdict.{Verdict}
 use Rattle.refusal.specs.declared.Verdict.TheVariants.{Accepted, Written, Floor as AboutFloor}
 use Rattle.record.specs.Laid.{field_of}
-use Rattle.floor.specs.Floor.{read_floor, floor_verdict}
-use Rattle.floor.specs.Numbers.{FloorNumbers, floor_bytes, numbers_of, place_at, lane_at, cart_at, narrow_at, group_at, body_at, write_floor}
+use Rattle.floor.specs.Floor.{floor_verdict}
+use Rattle.floor.specs.Numbers.{FloorNumbers, floor_bytes, numbers_of, place_at, lane_at, cart_at, narrow_at, group_at, body_at}
 use Rattle.floor.specs.Valid.{ValidFloor}
 use Rattle.floor.specs.Promises.{FloorRead, FloorWritten}
 use Rattle.floor.specs.Absent.{only_present}

@@ -2,7 +2,7 @@
 use Rattle.std.specs.Prelude.{ℕ, ◌≡◌, refl, replicate}
 use mathlib.Core.List.{List, [], ◌∷◌, ◌++◌, flatten}
 use Rattle.endian.specs.Little.{bytes, value}
-use Rattle.refusal.specs.Codes.{at_offset, refused}
+use Rattle.refusal.specs.Codes.{refused}
 use Rattle.refusal.specs.Outcome.{Outcome, unchanged}
 use Rattle.refusal.specs.declared.Verdict.{Verdict}
 use Rattle.refusal.specs.declared.Verdict.TheVariants.{Accepted, Written, Floor as AboutFloor}

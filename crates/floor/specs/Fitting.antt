@@ -1,21 +1,20 @@
 -- Bodies of each kind, of its length, not too many, with fields in range: records in the table's order are counted, every one.
-use Prim.Native.Nat.{ℕ, suc, ◌+◌, ◌≤◌, ◌<◌}
+use Prim.Native.Nat.{ℕ, suc, ◌+◌, ◌≤◌}
 use native.Mathlib.Omega.{arith}
-use Rattle.std.specs.Prelude.{◌≡◌, refl, Bool, true, false, not, ◌||◌, ◌&&◌, ◌⊎◌, eqb}
-use Rattle.std.proofs.Common.{sym, ap₂, subst, ◌∙◌, inl, inr, eq-eqb}
+use Rattle.std.specs.Prelude.{◌≡◌, refl, Bool, true, false, not, ◌⊎◌, eqb}
+use Rattle.std.proofs.Common.{sym, ◌∙◌, inl, inr, eq-eqb}
 use Rattle.std.proofs.Math.Path.{ap}
 use Rattle.std.proofs.Math.Bool.{cond}
 use mathlib.Core.List.{List, [], ◌∷◌, ◌++◌, map, append_assoc}
 use Rattle.std.proofs.Math.ListN.{length, length-append}
 use Rattle.std.proofs.lemmas.Bool.{lt-leb, not-true}
-use Rattle.record.specs.Record.{Record}
 use Rattle.record.specs.Parts.{of_kind}
 use Rattle.record.specs.All.{All, AllOf}
 use Rattle.record.specs.Opened.{both_true}
-use Rattle.floor.specs.Floor.{Kind, kinds, counts, floor_of, seen, judged_as, judged_by, judged, onward, walk}
+use Rattle.floor.specs.Floor.{Kind, kinds, floor_of, seen, judged_as, judged_by, judged, onward, walk}
 use Rattle.floor.specs.Numbers.{in_order}
 use Rattle.floor.specs.Kinds.{unlisted, distinct, kinds-distinct, eqb_turned, counts_of, Passed}
-use Rattle.floor.specs.Sorted.{Group, Groups}
+use Rattle.floor.specs.Sorted.{Groups}
 use Rattle.floor.specs.InOrder.{none}
 use Rattle.floor.specs.Walked.{walk_on}
 use Rattle.floor.specs.Walk.{walk_append}

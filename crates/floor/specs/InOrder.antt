@@ -1,6 +1,6 @@
 -- Bodies of each kind in turn, laid out as records: found again by kind, their lengths, and where each lies. Over any table.
-use Rattle.std.specs.Prelude.{ℕ, zero, suc, ◌+◌, ◌*◌, ◌≤◌, ◌<◌, ◌≡◌, refl, Bool, true, false, cond, not, List, [], ◌∷◌, ◌++◌, map, eqb, length, take, drop, get_or}
-use Rattle.std.proofs.Common.{mul-zero, mul-suc, mul_comm, arith, sym, ap, ap₂, ◌∙◌, append_assoc, append-nil, length-append, take_at, eq-eqb}
+use Rattle.std.specs.Prelude.{ℕ, zero, suc, ◌+◌, ◌*◌, ◌<◌, ◌≡◌, refl, Bool, true, false, cond, not, List, [], ◌∷◌, ◌++◌, map, eqb, length, take, drop, get_or}
+use Rattle.std.proofs.Common.{mul-zero, mul-suc, mul_comm, arith, ap, ap₂, ◌∙◌, append_assoc, append-nil, length-append, take_at, eq-eqb}
 use Rattle.std.proofs.Math.Seq.{drop-append-add}
 use Rattle.std.proofs.lemmas.Bool.{not-true}
 use Rattle.endian.specs.Little.{bytes}

@@ -1,11 +1,10 @@
 -- The table of kinds: a floor and its counts, and, over any table, a record looked up and counted in.
-use Rattle.std.specs.Prelude.{ℕ, zero, suc, ◌+◌, ◌≤◌, ◌<◌, ◌≡◌, refl, Bool, true, false, cond, not, ◌||◌, ◌&&◌, ◌⊎◌, List, [], ◌∷◌, ◌++◌, eqb, leb, ltb, length, get_or}
+use Rattle.std.specs.Prelude.{ℕ, zero, suc, ◌+◌, ◌<◌, ◌≡◌, refl, Bool, true, false, cond, not, ◌||◌, ◌&&◌, ◌⊎◌, List, [], ◌∷◌, ◌++◌, eqb, leb, ltb, length, get_or}
 use Rattle.std.proofs.Common.{arith, sym, ap, ◌∙◌, inl, inr, append_assoc, eqb-true, ne_eqb, leb-false, lt-ltb}
 use Rattle.std.proofs.lemmas.Bool.{eqb-false}
 use Rattle.refusal.specs.Faults.{none_holds, no_fault, not-not, or-true}
 use Rattle.floor.specs.Floor.{Kind, kinds, counts, floor_of, seen, fault_of, judged_as, judged_by}
 use Rattle.floor.specs.declared.Floor.{Floor}
-use Rattle.floor.specs.declared.RecordAnswer.{RecordAnswer}
 use Rattle.floor.specs.declared.RecordAnswer.TheVariants.{Good, Fault}
 
 -- n numbers of a list, from the i-th on

@@ -1,13 +1,11 @@
 -- A refusal of a floor has one of the numbers that document 01 lists.
-use Rattle.std.specs.Prelude.{ℕ, zero, suc, ◌+◌, ◌≡◌, refl, Bool, true, false, cond, not, ◌||◌, ◌⊎◌, List, [], ◌∷◌, ◌++◌, eqb, leb, ltb, length}
-use Rattle.std.proofs.Common.{arith, ap, subst, ◌∙◌, inl, inr}
+use Rattle.std.specs.Prelude.{ℕ, ◌+◌, ◌≡◌, refl, Bool, true, false, cond, not, ◌||◌, List, [], ◌∷◌, ◌++◌, eqb, leb, ltb, length}
+use Rattle.std.proofs.Common.{subst}
 use Rattle.refusal.specs.Codes.{at_offset}
 use Rattle.refusal.specs.Given.{OneOf, Given, floor_numbers, reading_floor, writing_floor}
 use Rattle.refusal.specs.Numbered.{one_among, one_of_more, by_number}
-use Rattle.refusal.specs.Outcome.{Gives, Outcome}
 use Rattle.refusal.specs.Held.{given_written}
 use Rattle.refusal.specs.declared.Refusal.{Refusal}
-use Rattle.refusal.specs.declared.Verdict.{Verdict}
 use Rattle.refusal.specs.declared.Verdict.TheVariants.{Floor as AboutFloor}
 use Rattle.record.specs.Record.{Record, records_in}
 use Rattle.floor.specs.Floor.{Kind, kinds, counts, floor_of, seen, judged_as, judged_by, judged, onward, walk, at_end, empty_floor, read_on, read_floor, floor_verdict}

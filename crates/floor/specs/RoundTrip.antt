@@ -1,19 +1,18 @@
 -- What is written reads back as the same numbers, and what was read writes back as the same bytes.
 use Rattle.std.specs.Prelude.{ℕ, suc, ◌≤◌, ◌<◌, ◌≡◌, refl, Bool, true, false, cond, ◌||◌, eqb, ltb, length, take, get_or}
 use Rattle.std.proofs.Common.{arith, sym, ap, ap₂, subst, ◌∙◌, ltb-false}
-use mathlib.Core.List.{List, [], ◌∷◌, ◌++◌, map, flatten}
+use mathlib.Core.List.{List, [], ◌∷◌, map, flatten}
 use Rattle.std.proofs.lemmas.Bool.{eqb-false}
 use Rattle.endian.specs.Little.{bytes, value, Bytes}
 use Rattle.endian.specs.RoundTrip.{length-bytes, value-bytes, bytes-value}
 use Rattle.record.specs.Record.{Record, Split, layout, records_in}
-use Rattle.record.specs.Parts.{parts, of_kind}
+use Rattle.record.specs.Parts.{parts}
 use Rattle.record.specs.All.{All, AllOf}
 use Rattle.record.specs.Laid.{parts_encodable, flatten-parts, parts-flatten}
 use Rattle.record.specs.RoundTrip.{AllEncodable, records-layout, layout-records, AllBytes, records_bytes}
 use Rattle.refusal.specs.Codes.{at_offset}
 use Rattle.refusal.specs.Outcome.{Gives, written}
 use Rattle.refusal.specs.Held.{about_floor, written_front}
-use Rattle.refusal.specs.declared.Refusal.{Refusal}
 use Rattle.refusal.specs.declared.Verdict.{Verdict}
 use Rattle.refusal.specs.declared.Verdict.TheVariants.{Written, Floor as AboutFloor}
 use Rattle.floor.specs.Floor.{kinds, walk, at_end, empty_floor, read_on, read_floor}

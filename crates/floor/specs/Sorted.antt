@@ -1,5 +1,5 @@
 -- The records of an accepted floor: kind after kind in the table's order, each body of its kind's length, and as many as are counted.
-use Rattle.std.specs.Prelude.{ℕ, zero, suc, ◌+◌, ◌≤◌, ◌<◌, ◌≡◌, refl, Bool, true, false, not, ◌&&◌, ◌⊎◌, List, [], ◌∷◌, ◌++◌, map, eqb, length}
+use Rattle.std.specs.Prelude.{ℕ, ◌+◌, ◌≤◌, ◌≡◌, refl, Bool, true, false, not, List, [], ◌∷◌, ◌++◌, map, eqb, length}
 use Rattle.std.proofs.Common.{arith, sym, ap₂, subst, ◌∙◌, inl, inr, eq-eqb}
 use Rattle.std.proofs.Math.Path.{ap}
 use Rattle.std.proofs.Math.Bool.{cond}
@@ -8,7 +8,7 @@ use Rattle.record.specs.Record.{Record}
 use Rattle.record.specs.Parts.{of_kind}
 use Rattle.record.specs.All.{All, AllOf}
 use Rattle.record.specs.Opened.{both_true}
-use Rattle.floor.specs.Floor.{Kind, kinds, counts, floor_of, seen, judged, onward, walk}
+use Rattle.floor.specs.Floor.{Kind, kinds, counts, seen, judged, onward, walk}
 use Rattle.floor.specs.Numbers.{in_order, bodies_of}
 use Rattle.floor.specs.Kinds.{unlisted, distinct, kinds-distinct, Counted, counts_of, counted_in, counted_length, counted_seen}
 use Rattle.floor.specs.declared.Floor.{Floor}

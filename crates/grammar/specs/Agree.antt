@@ -238,27 +238,34 @@ module _ (u u' : List ℕ) (same : SameHead u u') where
   step {s' = s'} {c = c} x = near_step same x c s' refl
 
   -- a token's first byte, behind spaces
-  pub token : {s s' t' : List ℕ} {c : ℕ} → (c ≡ 32 → ⊥) → Near s s' → Spaces s' (c ∷ t') → ((t : List ℕ) × (skip s ≡ c ∷ t) × Close t t') ⊎ Past (skip s)
-  token {s} {c = c} h n none = let y = step n in inl (y.0, ap skip y.1 ∙ skip_at c y.0 h, y.2)
-  token h n (space x) =
+  token_at : {s' t' : List ℕ} {c : ℕ} → (c ≡ 32 → ⊥) → Spaces s' (c ∷ t') → {s : List ℕ} → Near s s'
+      → ((t : List ℕ) × (skip s ≡ c ∷ t) × Close t t') ⊎ Past (skip s)
+  token_at {c = c} h none n = let y = step n in inl (y.0, ap skip y.1 ∙ skip_at c y.0 h, y.2)
+  token_at h (space x) n =
       let y = step n in
       let e = ap skip y.1 ∙ skip_space y.0 in
       ⊎_elim
-      (λ m. ⊎_elim (λ z. inl (z.0, e ∙ z.1, z.2)) (λ z. inr (subst (λ (r : List ℕ). Past r) (sym e) z)) (token h m x))
+      (λ m. ⊎_elim (λ z. inl (z.0, e ∙ z.1, z.2)) (λ z. inr (subst (λ (r : List ℕ). Past r) (sym e) z)) (token_at h x m))
       (λ p. inr (subst (λ (r : List ℕ). Past r) (sym e) (let z = skip_short y.0 in omega arith)))
       y.2
 
+  pub token : {s s' t' : List ℕ} {c : ℕ} → (c ≡ 32 → ⊥) → Near s s' → Spaces s' (c ∷ t') → ((t : List ℕ) × (skip s ≡ c ∷ t) × Close t t') ⊎ Past (skip s)
+  token h n x = token_at h x n
+
   -- and with no byte but what stands there
-  pub arrive : {s s' t' : List ℕ} → HeadNot (λ b. eqb b 32) t' → Near s s' → Spaces s' t' → Close (skip s) t'
-  arrive {s} {t' = t'} h n none =
+  arrive_at : {s' t' : List ℕ} → HeadNot (λ b. eqb b 32) t' → Spaces s' t' → {s : List ℕ} → Near s s' → Close (skip s) t'
+  arrive_at {t' = t'} h none {s = s} n =
       let y = near_step same n h.0 h.1 h.2 in
       let e : skip s ≡ s = ap skip y.1 ∙ skip_at h.0 y.0 (eqb-false h.0 32 h.3) ∙ sym y.1 in
       inl (subst (λ (r : List ℕ). Near r t') (sym e) n)
-  arrive {t' = t'} h n (space x) =
+  arrive_at {t' = t'} h (space x) n =
       let y = step n in
       let e = ap skip y.1 ∙ skip_space y.0 in
-      ⊎_elim (λ m. subst (λ (r : List ℕ). Close r t') (sym e) (arrive h m x))
+      ⊎_elim (λ m. subst (λ (r : List ℕ). Close r t') (sym e) (arrive_at h x m))
       (λ p. inr (subst (λ (r : List ℕ). Past r) (sym e) (let z = skip_short y.0 in omega arith))) y.2
+
+  pub arrive : {s s' t' : List ℕ} → HeadNot (λ b. eqb b 32) t' → Near s s' → Spaces s' t' → Close (skip s) t'
+  arrive h n x = arrive_at h x n
 
   -- what is given is a, for c nodes, or the end's first byte is behind
   abbrev pub Match : {A : Type 0} → ℕ → A → ℕ → List ℕ → A → ℕ → List ℕ → Type 0

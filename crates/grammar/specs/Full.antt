@@ -42,9 +42,12 @@ unfolding frame_count
 count_level_lem s r x (count o p c d e g) t = ap suc (frame-level Mark mark_level frame_mark mark_level_lem p _)
 
 -- the text with u behind its end
+swap_append_at : {r e s t : List ℕ} (x : Swap r e s t) (u : List ℕ) → e ≡ r ++ u → t ≡ s ++ u
+swap_append_at here u h = h
+swap_append_at (there {c = c} x) u h = ap (λ (l : List ℕ). c ∷ l) (swap_append_at x u h)
+
 swap_append : {r s t : List ℕ} (u : List ℕ) → Swap r (r ++ u) s t → t ≡ s ++ u
-swap_append u here = refl
-swap_append u (there {c = c} x) = ap (λ (l : List ℕ). c ∷ l) (swap_append u x)
+swap_append u x = swap_append_at x u refl
 
 swap_same : {s t : List ℕ} → Swap [] [] s t → s ≡ t
 swap_same here = refl

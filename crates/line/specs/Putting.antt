@@ -1,6 +1,6 @@
 -- Texts put one behind the other are one text put, and a line's words are put in their order.
 use Rattle.std.specs.Prelude.{ℕ, ◌+◌, ◌/◌, ◌%◌, ◌≤◌, ◌<◌, ◌≡◌, refl, Bool, true, false, cond, List, [], ◌∷◌, ◌++◌, eqb, length, take, drop}
-use Rattle.std.proofs.Common.{arith, zero-add, sym, ap, ap₂, ◌∙◌, append_assoc, length-append, length-drop, eq-eqb, ne_eqb}
+use Rattle.std.proofs.Common.{arith, zero-add, sym, ap, ap₂, ◌∙◌, append_assoc, length-append, eq-eqb, ne_eqb}
 use Rattle.std.proofs.Math.Seq.{take-append_seam}
 use Rattle.refusal.specs.declared.Code.{Code}
 use Rattle.record.specs.Buffer.{stored}

@@ -1,6 +1,6 @@
 -- What the promise of checking moves alone gives a caller: a law for each field.
 use Rattle.std.specs.Prelude.{ℕ, ◌<◌, ◌≡◌, refl, ◌↔◌, List, [], get_or}
-use Rattle.std.proofs.Common.{arith, sym, subst, subst₂, ◌∙◌}
+use Rattle.std.proofs.Common.{sym, subst, subst₂, ◌∙◌}
 use Rattle.std.proofs.Math.Path.{ap}
 use Rattle.refusal.specs.Codes.{refused, code_of}
 use Rattle.refusal.specs.Given.{OneOf, Given, floor_numbers, moves_numbers, checking_moves}

@@ -1,13 +1,12 @@
 -- PlanNumbers of the table are accepted: what reading accepts is exactly what is valid.
 use Rattle.std.specs.Prelude.{ℕ, suc, ◌+◌, ◌*◌, ◌≤◌, ◌<◌, ◌≡◌, refl, Bool, false, cond, length, get_or}
-use Rattle.std.proofs.Common.{suc-mul, mul-le-mul, arith, sym, ap, subst, ◌∙◌, length-append, le-ltb, eq-eqb, ne_eqb}
+use Rattle.std.proofs.Common.{mul-le-mul, arith, sym, ap, subst, ◌∙◌, length-append, le-ltb, eq-eqb, ne_eqb}
 use mathlib.Core.List.{List, [], ◌∷◌, ◌++◌, map, flatten, append_assoc, append-nil}
 use Rattle.std.proofs.lemmas.Bool.{lt-leb}
-use Rattle.record.specs.Record.{encoded, layout}
+use Rattle.record.specs.Record.{layout}
 use Rattle.record.specs.Parts.{parts, of_kind, laid}
 use Rattle.record.specs.All.{All, AllOf, all_of}
 use Rattle.record.specs.Laid.{parts-flatten, length_bodies}
-use Rattle.record.specs.RoundTrip.{length-encoded}
 use Rattle.floor.specs.declared.Floor.{Floor}
 use Rattle.plan.specs.Plan.{PlanNumbers, accepted, out_of_range, judged_places, judged_row, row_fault_by, row_fault, onward, read_rows, read_plan}
 use Rattle.plan.specs.Numbers.{Narrow, plan_bytes, plan_file}

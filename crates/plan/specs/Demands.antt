@@ -1,12 +1,12 @@
 -- What the promises of reading and writing a plan give: a reader of them alone can conclude this.
-use Rattle.std.specs.Prelude.{ℕ, ◌+◌, ◌*◌, ◌≤◌, ◌<◌, ◌≡◌, refl, length, take, drop, get_or}
-use Rattle.std.proofs.Common.{sym, subst, ◌∙◌}
+use Rattle.std.specs.Prelude.{ℕ, ◌*◌, ◌≤◌, ◌<◌, ◌≡◌, refl, length, take, drop, get_or}
+use Rattle.std.proofs.Common.{subst, ◌∙◌}
 use Rattle.std.proofs.Math.Path.{ap}
 use mathlib.Core.List.{List, [], ◌∷◌, ◌++◌, flatten}
 use Rattle.refusal.specs.Codes.{refused, code_of}
 use Rattle.refusal.specs.Given.{OneOf, Given, floor_numbers, plan_numbers, reading_plan, writing_plan}
 use Rattle.refusal.specs.Numbered.{zero_accepts, zero_writes}
-use Rattle.refusal.specs.Outcome.{Outcome, Gives, written}
+use Rattle.refusal.specs.Outcome.{Outcome, Gives}
 use Rattle.refusal.specs.Held.{with_room, without_room}
 use Rattle.refusal.specs.declared.Refusal.{Refusal}
 use Rattle.refusal.specs.declared.Verdict.{Verdict}
@@ -16,9 +16,9 @@ use Rattle.floor.specs.Floor.{read_floor}
 use Rattle.floor.specs.declared.Floor.{Floor}
 use Rattle.floor.specs.declared.FloorAnswer.{FloorAnswer}
 use Rattle.floor.specs.declared.FloorAnswer.TheVariants.{Read as FloorAccepted}
-use Rattle.plan.specs.Plan.{PlanNumbers, PlanAnswer, accepted as acceptedNumbers, read_plan, plan_of, plan_read, on_floor, accepted_read, read_both}
+use Rattle.plan.specs.Plan.{PlanNumbers, plan_of, plan_read, on_floor, accepted_read, read_both}
 use Rattle.plan.specs.After.{ReadAs}
-use Rattle.plan.specs.Numbers.{plan_bytes, write_plan}
+use Rattle.plan.specs.Numbers.{plan_bytes}
 use Rattle.plan.specs.Valid.{ValidPlan}
 use Rattle.plan.specs.Promises.{PlanReads, PlanWritten}
 use Rattle.plan.specs.declared.Head.{Head}

@@ -9,7 +9,6 @@ use Rattle.refusal.specs.declared.Verdict.TheVariants.{Accepted, Written, Floor 
 use Rattle.record.specs.Record.{encoded, layout, split, records_in}
 use Rattle.record.specs.Parts.{parts_in, parts}
 use Rattle.floor.specs.Floor.{judged, walk, read_floor}
-use Rattle.floor.specs.declared.Floor.{Floor}
 use Rattle.plan.specs.Plan.{accepted, judged_head, judged_places, judged_row, read_rows, read_plan, zeros, block_of, block_rows, read_both}
 use Rattle.plan.specs.Numbers.{head_of, row_at, write_plan}
 

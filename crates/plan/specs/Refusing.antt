@@ -1,23 +1,23 @@
 -- A refusal of a plan has one of the numbers that document 01 lists.
-use Rattle.std.specs.Prelude.{ℕ, zero, suc, ◌+◌, ◌≡◌, Bool, true, false, cond, not, ◌⊎◌, List, [], ◌∷◌, ◌++◌, eqb, leb, ltb, length}
-use Rattle.std.proofs.Common.{arith, sym, subst, inl, inr}
+use Rattle.std.specs.Prelude.{ℕ, ◌+◌, ◌≡◌, Bool, true, false, cond, not, List, [], ◌∷◌, ◌++◌, eqb, leb, ltb, length}
+use Rattle.std.proofs.Common.{sym, subst}
 use Rattle.std.proofs.Math.Path.{refl}
 use Rattle.refusal.specs.Codes.{at_offset}
-use Rattle.refusal.specs.Given.{OneOf, Refusals, Given, accepts, floor_numbers, plan_numbers, reading_floor, reading_plan, writing_plan}
+use Rattle.refusal.specs.Given.{OneOf, Refusals, Given, floor_numbers, plan_numbers, reading_plan, writing_plan}
 use Rattle.refusal.specs.Numbered.{all_among, one_among, one_of_more, by_number}
 use Rattle.refusal.specs.Held.{given_written}
 use Rattle.refusal.specs.declared.Refusal.{Refusal}
 use Rattle.refusal.specs.declared.Verdict.{Verdict}
-use Rattle.refusal.specs.declared.Verdict.TheVariants.{Accepted, Floor as AboutFloor, Plan as AboutPlan}
+use Rattle.refusal.specs.declared.Verdict.TheVariants.{Floor as AboutFloor, Plan as AboutPlan}
 use Rattle.record.specs.Record.{Record, records_in}
-use Rattle.floor.specs.Floor.{read_floor, floor_verdict}
+use Rattle.floor.specs.Floor.{read_floor}
 use Rattle.floor.specs.Refusing.{refused_number as floor-number}
 use Rattle.floor.specs.declared.Floor.{Floor}
 use Rattle.floor.specs.declared.FloorAnswer.{FloorAnswer}
 use Rattle.floor.specs.declared.FloorAnswer.TheVariants.{Read as FloorAccepted, Refused as FloorRefused}
 use Rattle.plan.specs.Plan.{PlanNumbers, PlanAnswer, accepted, rejected, head_from, out_of_range, judged_head, first_head, judged_row, row_number, read_rows, behind_head, after_first, read_records, read_plan, after_plan, after_floor, refused_read, accepted_read, read_both}
 use Rattle.plan.specs.After.{after_reading, ReadAs}
-use Rattle.plan.specs.Numbers.{plan_bytes, by_reading, write_for, by_floor, write_plan}
+use Rattle.plan.specs.Numbers.{plan_bytes, by_reading, by_floor, write_plan}
 use Rattle.plan.specs.declared.Head.{Head}
 use Rattle.plan.specs.declared.HeadAnswer.{HeadAnswer}
 use Rattle.plan.specs.declared.HeadAnswer.TheVariants.{Good, Refused}

@@ -6,7 +6,6 @@ use mathlib.Core.List.{List, [], ◌∷◌, ◌++◌, map, flatten, append-nil, 
 use Rattle.endian.specs.Little.{bytes, value, Bytes}
 use Rattle.endian.specs.RoundTrip.{value-bytes, bytes-value, bytes_take, bytes_drop}
 use Rattle.refusal.specs.Codes.{at_offset}
-use Rattle.refusal.specs.declared.Refusal.{Refusal}
 use Rattle.record.specs.Record.{Record, Split, encoded, layout, records_in}
 use Rattle.record.specs.Parts.{parts, of_kind, laid}
 use Rattle.record.specs.All.{All, AllOf, each}

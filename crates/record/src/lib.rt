@@ -44,7 +44,7 @@ pub fn copy_at(out: &mut [u8], at: usize, src: &[u8])
     requires { at + length src.now ≤ length out.old }
     ensures { out.new ≡ stored out.old at src.now }
 {
-    bytes::copy(src, &mut out[at..]);
+    out[at..at + src.len()].copy_from_slice(src);
 }
 
 // Writes a record at an offset. Every other byte stays.
