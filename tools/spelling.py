@@ -107,7 +107,8 @@ def main():
         out = []
         for l in text(p).split("\n"):
             c, comment = code(l, mark)
-            c = WORD.sub(turn, c)
+            if not (p.endswith(".rt") and re.match(r"\s*(pub(\([a-z]+\))? )?fn ", c)):
+                c = WORD.sub(turn, c)
             comment = re.sub(r"`([^`]+)`", lambda m: "`" + WORD.sub(turn, m.group(1)) + "`", comment)
             comment = re.sub(r"\b[a-z]+[A-Z]\w*", lambda m: new.get(m.group(0), m.group(0)), comment)
             out.append(c + comment)

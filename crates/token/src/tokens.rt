@@ -19,7 +19,7 @@ pub fn spaces(s: &[u8], at: usize) -> usize
     i
 }
 
-fn is_digit_lem(b: u8) -> bool
+fn is_digit(b: u8) -> bool
     ensures { result ≡ is_digit b }
 {
     if 48 <= b {
