@@ -14,7 +14,7 @@ import sys
 
 BEGIN, END = "<!-- believed: made by tests/believed.py -->", "<!-- /believed -->"
 DECLARED = re.compile(r"^(\s*)((?:unfoldable |abbrev |pub )*)(data |record )?([^\s(){}.;,@\"«»:]+)((?:\s.*?)?)\s*(?::|where)")
-TOKEN = re.compile(r"(?P<dot>\s\.)?(?P<name>[^\s(){}.;,@\"«»]+)(?P<more>(?:\.[^\s(){}.;,@\"«»]+)*)")
+TOKEN = re.compile(r"(?P<dot>[\s)]\.)?(?P<name>[^\s(){}.;,@\"«»]+)(?P<more>(?:\.[^\s(){}.;,@\"«»]+)*)")
 
 
 def lines_of(path):
@@ -90,9 +90,9 @@ class Project:
         self.modules, self.reached, self.types = {}, {}, {}
 
     def module(self, path):
-        """The module of a path such as Rattle·floor.specs.Numbers, or None for the kit's."""
-        found = re.match(r"Rattle·(\w+?)(?:·specs)?\.specs\.(.+)$", path)
-        if not found:
+        """The module of a path such as Rattle.floor.specs.Numbers, or None for the kit's."""
+        found = re.match(r"Rattle\.(\w+)\.specs\.(.+)$", path)
+        if not found or not os.path.isdir(os.path.join("crates", found.group(1))):
             return None
         crate, name = found.groups()
         if name.startswith("declared."):
@@ -119,7 +119,7 @@ class Project:
         self.follow(module, module.texts[name])
 
     def follow(self, module, text):
-        own = f"Rattle·{module.crate}·specs.specs.{module.name}"
+        own = f"Rattle.{module.crate}.specs.{module.name}"
         for token in TOKEN.finditer(text):
             if token.group("dot"):
                 continue
@@ -166,7 +166,7 @@ def law_files(crate):
 def order():
     """The crates, lower layers first."""
     with open("crates.txt", encoding="utf-8") as text:
-        return [line.split(":")[0] for line in text if ":" in line and not line.startswith("#")]
+        return [line.split(":")[0].split()[0] for line in text if ":" in line and not line.startswith("#")]
 
 
 def listing(project, names):

@@ -2,7 +2,7 @@
 """Runs the program cartcheck on folders of files at the limits of its buffers, absent files and each file's refusal, and compares the line
 that it prints, also where standard input is closed, so that the first file has descriptor 0. The lines are written by hand from
 documents 01 and 02. Then sees that the lines due of the program cases name each refusal, 1 to 21. Run from the repository's root after
-`rt check cartcheck`."""
+`rt run` in crates/cartcheck."""
 import pathlib
 import re
 import subprocess
@@ -10,7 +10,7 @@ import sys
 import tempfile
 
 ROOT = pathlib.Path(__file__).resolve().parent.parent
-PROGRAM = ROOT / "target" / "bin" / "cartcheck"
+PROGRAM = ROOT / "crates" / "cartcheck" / "out" / "cartcheck"
 
 
 def read(example, name):

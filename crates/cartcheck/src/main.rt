@@ -1,13 +1,15 @@
 // Checks the plan of this folder: reads the files floor, plan and rules, and prints the verdict's line.
 #![tactic(auto)]
 
-fn main() {
+use std::io;
+
+fn main(rt: HostRuntime) -> io::Result<()> {
     // One byte more than a file may have, so that a longer one is seen.
     let mut floor = [0u8; 65537];
     let mut plan = [0u8; 65537];
     let mut rules = [0u8; 16385];
-    let f = report::load(b"floor", &mut floor);
-    let p = report::load(b"plan", &mut plan);
-    let r = report::load(b"rules", &mut rules);
-    report::print_line(plancheck::check(&floor[..f], &plan[..p], &rules[..r]));
+    let f = report::load(&rt, "floor", &mut floor);
+    let p = report::load(&rt, "plan", &mut plan);
+    let r = report::load(&rt, "rules", &mut rules);
+    report::print_line(&rt, plancheck::check(&floor[..f], &plan[..p], &rules[..r]))
 }

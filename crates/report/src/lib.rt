@@ -1,61 +1,76 @@
 // What the programs read and print.
 #![tactic(auto)]
 
-ghost use Rattle.io.specs.Counts.{IsPrefixLen};
+ghost use Rattle.std.specs.Counts.{IsPrefixLen};
 
-use libc::STDOUT_FILENO;
 use refusal::Verdict;
+use std::io::Read;
+use std::rt::Files;
+use std::{fs, io};
 
-// Reads the file, or nothing where it can't be opened.
-pub fn load(path: &[u8], buf: &mut [u8]) -> usize
+// Reads until the buffer is full, the file ends or a read fails, and returns how many bytes it put at the start of the buffer.
+fn fill(file: &mut impl Read, buf: &mut [u8]) -> usize
     ensures { IsPrefixLen result buf.new }
 {
-    let fd = os::open_read(path);
-    if fd < 0 {
-        return 0;
+    let mut done: usize = 0;
+    for _ in 0..buf.len() {
+        if done == buf.len() {
+            break;
+        }
+        match file.read(&mut buf[done..]) {
+            Ok(0) => break,
+            Ok(n) => done += n,
+            Err(_) => break,
+        }
     }
-    let n = io::read_full(fd, buf);
-    libc::close(fd);
-    n
+    done
+}
+
+// Reads the file, or nothing where it can't be opened.
+pub fn load(rt: &impl Files, path: &str, buf: &mut [u8]) -> usize
+    ensures { IsPrefixLen result buf.new }
+{
+    match fs::open(rt, path) {
+        Ok(mut file) => fill(&mut file, buf),
+        Err(_) => 0,
+    }
 }
 
 // Prints document 01's line for a verdict.
-pub fn print_line(v: Verdict) {
+pub fn print_line(rt: &impl Print, v: Verdict) -> io::Result<()> {
     let mut out = [0u8; 48];
     let n = line::verdict_line(refusal::code_of(v), &mut out);
-    io::write_all(STDOUT_FILENO, &out[..n]);
+    rt.write_all(&out[..n])
 }
 
 // Prints the line of an operation's answer but for its byte 10, since what was written or picked follows.
-pub fn print_answer(v: Verdict) {
+pub fn print_answer(rt: &impl Print, v: Verdict) -> io::Result<()> {
     let mut out = [0u8; 48];
     let n = line::answer_line(refusal::code_of(v), &mut out);
-    io::write_all(STDOUT_FILENO, &out[..n - 1]);
+    rt.write_all(&out[..n - 1])
 }
 
 // Prints a part of a sheet, in quotation marks.
-pub fn print_part(s: &[u8]) {
-    io::write_all(STDOUT_FILENO, b": \"");
-    io::write_all(STDOUT_FILENO, s);
-    io::write_all(STDOUT_FILENO, b"\"");
+pub fn print_part(rt: &impl Print, s: &[u8]) -> io::Result<()> {
+    rt.write_all(b": \"")?;
+    rt.write_all(s)?;
+    rt.write_all(b"\"")
 }
 
-fn print_byte(b: u8) {
-    io::write_all(STDOUT_FILENO, b" ");
-    io::print_decimal(STDOUT_FILENO, b as u64);
+fn print_byte(rt: &impl Print, b: u8) -> io::Result<()> {
+    print!(rt; " {b}")
 }
 
 // Prints a lent buffer as it is left, byte by byte.
-pub fn print_bytes(s: &[u8]) {
-    io::write_all(STDOUT_FILENO, b":");
-    let mut i: usize = 0;
-    while i < s.len() {
-        print_byte(s[i]);
-        i += 1;
+pub fn print_bytes(rt: &impl Print, s: &[u8]) -> io::Result<()> {
+    print!(rt; ":")?;
+    for b in s {
+        print_byte(rt, *b)?;
     }
+    Ok(())
 }
 
 // Ends the line.
-pub fn end_line() {
-    io::write_all(STDOUT_FILENO, b"\n");
+pub fn end_line(rt: &impl Print) -> io::Result<()> {
+    println!(rt;)
 }
