@@ -1,0 +1,8 @@
+use native.Mathlib.Omega.{arith}
+use Rattle.controller.specs.Told.{moved_on}
+use Rattle.controller.proofs.cartplan_move_on.Goals as goal
+
+pub returns : goal.returns
+returns c = let m = c.move_on.ensures in
+    moved_on _ _ (λ i. omega (arith, c.type_inv.floor i)) _ _ _ _
+    m m.numbers _ c.code_of.ensures
