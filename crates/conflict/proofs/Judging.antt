@@ -17,13 +17,13 @@ use Rattle.plan.specs.Read.{row_in}
 use Rattle.plan.specs.declared.Head.{Head}
 use Rattle.conflict.specs.Meaning.{Routes}
 use Rattle.conflict.specs.Search.{narrow_verdict}
-use Rattle.conflict.specs.Cleared.{apart}
-use Rattle.conflict.specs.Outcomes.{Told, Outcome, same_outcome}
-use Rattle.conflict.specs.Found.{found}
+use Rattle.conflict.proofs.Cleared.{apart}
+use Rattle.conflict.proofs.Outcomes.{Told, Outcome, same_outcome}
+use Rattle.conflict.proofs.Found.{found}
 use Rattle.conflict.specs.Table.{flag, block_place, table_routes, held_routes, Flags}
 use Rattle.conflict.specs.Above.{FirstMet, verdict_of}
-use Rattle.conflict.specs.Lowest.{FreeBelow, all_free, next_free, told}
-use Rattle.conflict.specs.Agree.{outcome_as}
+use Rattle.conflict.proofs.Lowest.{FreeBelow, all_free, next_free, told}
+use Rattle.conflict.proofs.Agree.{outcome_as}
 use Rattle.conflict.specs.declared.Meeting.{Meeting}
 use Rattle.conflict.specs.declared.Meeting.TheVariants.{Clear, On}
 

@@ -1,3 +1,16 @@
+-- laws that the definitions of specs/ have
+pub mod Agree
+pub mod Cleared
+pub mod Examples
+pub mod Found
+pub mod Lowest
+pub mod NoneNarrow
+pub mod Outcomes
+pub mod Reached
+pub mod Shift
+pub mod Smaller
+pub mod Symmetric
+pub mod JudgingLaws
 pub mod Marking
 pub mod Deciding
 pub mod Entering

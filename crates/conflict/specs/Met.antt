@@ -2,7 +2,7 @@
 use Rattle.std.specs.Prelude.{ℕ, suc, ◌+◌, ◌≤◌, ◌<◌, ◌≡◌, refl, Bool, true, false, ◌&&◌, ◌||◌, ◌⊎◌, T, eqb}
 use Rattle.std.proofs.Common.{arith, inl, inr, eqb→eq, eqb-true, eq-eqb}
 use Rattle.std.proofs.lemmas.Bool.{eqb-false}
-use Rattle.cltl.specs.Basics.{or_l, or_r, and_l, and_r, and_i}
+use Rattle.cltl.proofs.Basics.{or_l, or_r, and_l, and_r, and_i}
 use Rattle.conflict.specs.Meaning.{Routes, stands_on, Narrow}
 use Rattle.conflict.specs.Search.{meets}
 

@@ -23,8 +23,8 @@ use Rattle.moves.specs.Promises.{Moving, CartDeparts}
 use Rattle.moves.specs.Demands.{read_once}
 use Rattle.edit.specs.Moved.{moved, move_on}
 use Rattle.edit.specs.Replaced.{replaced}
-use Rattle.edit.specs.Refusing.{moving_given}
-use Rattle.edit.specs.MovedWritten.{result_read, one_result, held_too}
+use Rattle.edit.proofs.Refusing.{moving_given}
+use Rattle.edit.proofs.MovedWritten.{result_read, one_result, held_too}
 use Rattle.grammar.specs.Grammar.{top, Clause}
 use Rattle.grammar.specs.Groups.{groups}
 use Rattle.grammar.specs.Answers.{AcceptedSheet}

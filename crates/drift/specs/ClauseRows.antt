@@ -10,9 +10,9 @@ use Rattle.grammar.specs.Grammar.{Form, top, leaf, Amount, Counted, counted, Cla
 use Rattle.grammar.specs.Nodes.{count_n, Op₁, neg₁, next₁, ev₁, gl₁, Op₂, and₂, or₂, until₂, release₂}
 use Rattle.cltl.specs.Meaning.{Rows, Proper}
 use Rattle.cltl.specs.Rules.{both, leaves, judge, quorum, asked, text, count, uniform, joint, joined}
-use Rattle.cltl.specs.Basics.{lt_or_le}
-use Rattle.cltl.specs.Operators.{judge_plain}
-use Rattle.cltl.specs.Exact.{joining_plain}
+use Rattle.cltl.proofs.Basics.{lt_or_le}
+use Rattle.cltl.proofs.Operators.{judge_plain}
+use Rattle.cltl.proofs.Exact.{joining_plain}
 use Rattle.mask.specs.Mask.{on, Row}
 use Rattle.drift.specs.declared.Judged.{Judged}
 use Rattle.drift.specs.Tree.{kind_at, first_at, second_at, one, two, one_of, two_of, Ordered, inner_tree, clause_tree, amount_at}

@@ -10,11 +10,11 @@ use Rattle.std.proofs.Math.Dec.{T, ltb}
 use Rattle.grammar.specs.Grammar.{Over, Counted}
 use Rattle.cltl.specs.Meaning.{Rows, Proper, among}
 use Rattle.cltl.specs.Rules.{window, throughout, both, over, asked, text, slack, some_text, all_over, uniform, joint}
-use Rattle.cltl.specs.Basics.{bool_ext}
-use Rattle.cltl.specs.Tally.{tally_le}
-use Rattle.cltl.specs.Agree.{throughout_agrees}
-use Rattle.cltl.specs.Members.{SameCarts}
-use Rattle.cltl.specs.JointWording.{EachOver, each_over}
+use Rattle.cltl.proofs.Basics.{bool_ext}
+use Rattle.cltl.proofs.Tally.{tally_le}
+use Rattle.cltl.proofs.Agree.{throughout_agrees}
+use Rattle.cltl.proofs.Members.{SameCarts}
+use Rattle.cltl.proofs.JointWording.{EachOver, each_over}
 use Rattle.mask.specs.Mask.{on, Row, signed}
 use Rattle.table.specs.Table.{told, Table, Kept}
 use Rattle.table.specs.Keeping.{kept_told}

@@ -7,8 +7,8 @@ use Rattle.grammar.specs.Grammar.{Form, top, leaf, Over, Amount, amount, counted
 use Rattle.grammar.specs.Nodes.{Op₁, neg₁, next₁, ev₁, gl₁}
 use Rattle.cltl.specs.Meaning.{Rows, Proper, among}
 use Rattle.cltl.specs.Rules.{judge, nothing, mark, inner, over, text, quorum}
-use Rattle.cltl.specs.Inner.{inner_opp}
-use Rattle.cltl.specs.Agree.{quorum_agrees}
+use Rattle.cltl.proofs.Inner.{inner_opp}
+use Rattle.cltl.proofs.Agree.{quorum_agrees}
 use Rattle.mask.specs.Mask.{on, Row, signed}
 use Rattle.table.specs.Table.{told}
 use Rattle.quorum.specs.Words.{within}

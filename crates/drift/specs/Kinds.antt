@@ -2,7 +2,7 @@
 use Rattle.std.specs.Prelude.{ℕ, ◌+◌, ◌*◌, ◌≤◌, ◌<◌, ◌≡◌, Bool, true, false, ◌⊎◌, T, eqb, ltb}
 use Rattle.std.proofs.Common.{sym, subst, inl, inr, ⊎_elim, ltb→lt, lt→ltb, eq-eqb, ne_eqb, lt-ltb, le-ltb, arith}
 use Rattle.grammar.specs.Nodes.{top_n, mark_n, count_n, one_n, two_n}
-use Rattle.cltl.specs.Basics.{or_cases, or_l, or_r, lt_or_le}
+use Rattle.cltl.proofs.Basics.{or_cases, or_l, or_r, lt_or_le}
 use Rattle.drift.specs.Tree.{is_leaf, node_of, one_of, two_of, amount_of}
 
 module _ (kind x y z : ℕ) where

@@ -8,7 +8,7 @@ use Rattle.std.proofs.Math.Bool.{cond}
 use Rattle.grammar.specs.Grammar.{Over, amount}
 use Rattle.grammar.specs.Nodes.{Op₁, Op₂, top_n, mark_n, count_n, one_n, two_n}
 use Rattle.grammar.specs.Groups.{amount_groups, node_groups}
-use Rattle.cltl.specs.Basics.{lt_or_le}
+use Rattle.cltl.proofs.Basics.{lt_or_le}
 use Rattle.drift.specs.Tree.{one_of, two_of, over_of, amount_at, node_of, kind_at, second_at, third_at, node_at, Ordered}
 use Rattle.drift.specs.Kinds.{kind_count}
 use Rattle.drift.specs.Lacking.{groups_from, first_lacked}

@@ -5,7 +5,7 @@ use native.Mathlib.Omega.{arith}
 use Rattle.grammar.specs.Grammar.{Form, top, leaf, neg, and, or, next, until, release, ev, gl, Counted, counted, Clause}
 use Rattle.grammar.specs.Limits.{nodes, mark_nodes, count_nodes}
 use Rattle.grammar.specs.Nodes.{Node, top_n, mark_n, count_n, one_n, two_n}
-use Rattle.cltl.specs.Basics.{lt_or_le}
+use Rattle.cltl.proofs.Basics.{lt_or_le}
 use Rattle.drift.specs.Tree.{node_at, OperandsBelow, Ordered}
 use Rattle.drift.specs.Need.{more, need, mark_need, count_need, need_node, Needs}
 use Rattle.drift.specs.Lent.{ClauseNodes}

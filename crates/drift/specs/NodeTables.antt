@@ -2,7 +2,7 @@
 use Rattle.std.specs.Prelude.{ℕ, ◌+◌, ◌≤◌, ◌<◌, ◌≡◌, refl, Bool, true, false, cond, List}
 use Rattle.std.proofs.Common.{sym, subst, ◌∙◌, ⊎_elim, arith}
 use Rattle.cltl.specs.Meaning.{Rows, Proper}
-use Rattle.cltl.specs.Basics.{lt_or_le}
+use Rattle.cltl.proofs.Basics.{lt_or_le}
 use Rattle.table.specs.Table.{told, Table, Kept}
 use Rattle.table.specs.Layout.{Constants, Shown}
 use Rattle.table.specs.Keeping.{kept_told}

@@ -4,7 +4,7 @@ use Rattle.std.proofs.Common.{sym, ap, ap₂, subst, ◌∙◌, ⊎_elim, arith,
 use Rattle.grammar.specs.Grammar.{Form, Amount}
 use Rattle.grammar.specs.Nodes.{Node, top_n, mark_n, count_n, one_n, two_n, next₁, ev₁, gl₁}
 use Rattle.cltl.specs.Rules.{judge}
-use Rattle.cltl.specs.Basics.{lt_or_le}
+use Rattle.cltl.proofs.Basics.{lt_or_le}
 use Rattle.drift.specs.Tree.{kind_at, first_at, second_at, third_at, node_at, one_of, two_of, OperandsBelow, tree, Ordered, amount_at}
 use Rattle.drift.specs.Operator.{under, one_rule, two_rule, or_of}
 use Rattle.drift.specs.OperatorTruth.{Same, TruthIs, node_truth, one_truth, two_truth, top_truth}

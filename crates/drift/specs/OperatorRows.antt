@@ -6,8 +6,8 @@ use Rattle.std.specs.Int.Bits.{bit_or}
 use Rattle.grammar.specs.Nodes.{ev₁, gl₁, and₂, or₂, until₂, release₂}
 use Rattle.row.specs.Lasso.{next_step}
 use Rattle.cltl.specs.Rules.{join, fix}
-use Rattle.cltl.specs.Basics.{T_or_not}
-use Rattle.cltl.specs.Lap.{fix_cong}
+use Rattle.cltl.proofs.Basics.{T_or_not}
+use Rattle.cltl.proofs.Lap.{fix_cong}
 use Rattle.mask.specs.Mask.{on, Row}
 use Rattle.mask.specs.EachBit.{on_or}
 use Rattle.mask.specs.Combined.{either}

@@ -8,7 +8,7 @@ use Rattle.grammar.specs.Nodes.{Node, one_n, two_n, Op₁, neg₁, next₁, ev�
 use Rattle.row.specs.Lasso.{next_step}
 use Rattle.row.specs.Round.{next_below}
 use Rattle.cltl.specs.Rules.{judge}
-use Rattle.cltl.specs.Lap.{fix_cong}
+use Rattle.cltl.proofs.Lap.{fix_cong}
 use Rattle.drift.specs.Tree.{node_at, one, two, form_of, tree, Ordered}
 use Rattle.drift.specs.Operator.{under, one_rule, two_rule, or_of}
 

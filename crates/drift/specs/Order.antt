@@ -2,7 +2,7 @@
 use Rattle.std.specs.Prelude.{ℕ, ◌+◌, ◌≤◌, ◌<◌, ◌≡◌, refl, List, get_or}
 use Rattle.std.proofs.Common.{sym, ◌∙◌, ⊎_elim, arith, eq-eqb, ne_eqb}
 use Rattle.std.proofs.Math.Nat.{le-max_left, le-max_right}
-use Rattle.cltl.specs.Basics.{lt_or_le}
+use Rattle.cltl.proofs.Basics.{lt_or_le}
 use Rattle.drift.specs.Tree.{kind_at, first_at, second_at}
 use Rattle.drift.specs.Need.{more, need_node, Needs}
 use Rattle.drift.specs.NodeIs.{of_one, of_two, of_count}

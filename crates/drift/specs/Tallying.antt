@@ -3,8 +3,8 @@ use Rattle.std.specs.Prelude.{ℕ, ◌+◌, ◌-◌, ◌*◌, ◌^◌, ◌≤◌
 use Rattle.std.proofs.Common.{sym, ap, subst, ◌∙◌, inl, inr, ⊎_elim, arith}
 use Rattle.std.proofs.lemmas.List.{length-replicate, get_or-replicate}
 use Rattle.cltl.specs.Rules.{throughout}
-use Rattle.cltl.specs.Basics.{lt_or_le}
-use Rattle.cltl.specs.Agree.{throughout_agrees}
+use Rattle.cltl.proofs.Basics.{lt_or_le}
+use Rattle.cltl.proofs.Agree.{throughout_agrees}
 use Rattle.mask.specs.Mask.{on, signed}
 use Rattle.table.specs.Table.{told, Stored, Apart, Kept}
 use Rattle.table.specs.Layout.{pairs_at}

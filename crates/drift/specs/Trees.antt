@@ -9,7 +9,7 @@ use Rattle.grammar.specs.Grammar.{top, leaf, gl, counted, Clause}
 use Rattle.grammar.specs.Nodes.{Node, top_n, mark_n, count_n, one_n, two_n, Op₁, neg₁, next₁, ev₁, gl₁, Op₂, and₂, or₂, until₂, release₂}
 use Rattle.cltl.specs.Meaning.{Rows}
 use Rattle.cltl.specs.Rules.{has_next, rules}
-use Rattle.cltl.specs.Basics.{lt_or_le}
+use Rattle.cltl.proofs.Basics.{lt_or_le}
 use Rattle.cltl.specs.Step.{lowest, failing}
 use Rattle.drift.specs.Tree.{is_leaf, node_at, one, two, one_of, two_of, form_of, tree, inner_tree, clause_tree, Ordered, amount_at}
 use Rattle.drift.specs.Kinds.{kind_top, kind_mark, kind_one, kind_two, kind_count}

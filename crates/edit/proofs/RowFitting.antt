@@ -20,7 +20,7 @@ use Rattle.moves.specs.Further.{with_further}
 use Rattle.moves.specs.FurtherRow.{some_steps}
 use Rattle.edit.specs.Judgement.{fit_verdict}
 use Rattle.edit.specs.Replaced.{places_verdict, replace_verdict}
-use Rattle.edit.specs.ReplacedReads.{fits_if}
+use Rattle.edit.proofs.ReplacedReads.{fits_if}
 
 -- the row fits: the cart is there, and 4 and 9 are not given
 pub record Fitting (f : Floor) (p : PlanNumbers) (c : ℕ) (row : List ℕ) : Type 0 where

@@ -18,7 +18,7 @@ use Rattle.plan.specs.Read.{after_accepted, after_refused, held_head, held_numbe
 use Rattle.plan.specs.declared.Head.{Head}
 use Rattle.plan.specs.declared.PlanRead.{PlanRead}
 use Rattle.edit.specs.Replaced.{replace_verdict, replaced_in, replace_row}
-use Rattle.edit.specs.ReplacedReads.{replaces, stored_inside}
+use Rattle.edit.proofs.ReplacedReads.{replaces, stored_inside}
 use Rattle.edit.specs.Judgement.{ReplacementJudged}
 
 module _ (floor plan : List ℕ) (c : ℕ) (row : List ℕ) (r : PlanRead) where

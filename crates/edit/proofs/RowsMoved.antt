@@ -16,8 +16,8 @@ use Rattle.plan.specs.Valid.{HeadInRange}
 use Rattle.plan.specs.Read.{row_in, length_rows_in, rows_in_more, block_part, part_is, part_length}
 use Rattle.plan.specs.declared.Head.{Head}
 use Rattle.edit.specs.Moved.{turned, moved_row, moved_head, moved}
-use Rattle.edit.specs.Later.{row_early, row_late, row-length}
-use Rattle.edit.specs.MovedReads.{head_moved, row_of}
+use Rattle.edit.proofs.Later.{row_early, row_late, row-length}
+use Rattle.edit.proofs.MovedReads.{head_moved, row_of}
 
 -- what is left of a list from i on
 pub rest : (l : List ℕ) (i : ℕ) → take (length l - i) (drop i l) ≡ drop i l

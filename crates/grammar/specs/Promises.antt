@@ -1,17 +1,11 @@
 -- What the reader of a sheet promises, in the words of the grammar and the limits alone.
 use Rattle.std.specs.Prelude.{ℕ, suc, ◌+◌, ◌-◌, ◌≤◌, ◌<◌, ◌≡◌, ◌⊎◌, List, [], ◌++◌, length, take}
-use Rattle.std.proofs.Common.{arith, subst}
 use Rattle.grammar.specs.Grammar.{ors, Part, Count, Clause, Sheet}
 use Rattle.grammar.specs.Limits.{nodes, count_nodes, Fits, FewLines, FewBytes}
 use Rattle.grammar.specs.Nodes.{Node, flat_clause, Stands, StandsCount}
 use Rattle.grammar.specs.Begun.{begun}
-use Rattle.grammar.specs.Standing.{clause_stands, clause_length}
 use Rattle.grammar.specs.Reader.{Read, accepted, refused, read_sheet}
 use Rattle.grammar.specs.Answers.{AcceptedSheet, InSheet, RefusedBy, BeginsInRange, Never, Beyond, Allowed, PastLimit, OutOfRange}
-use Rattle.grammar.specs.Accepts.{sound, before_in_range, allowed_14, out_15}
-use Rattle.grammar.specs.First.{begun-nodes, begun_lines, past_14, first_14, none_over}
-use Rattle.grammar.specs.Full.{line_33}
-use Rattle.grammar.specs.Complete.{complete, stuck_13, over_14, codes, long_12}
 
 -- what an answer a to a sheet s has to meet
 pub record Lawful (s : List ℕ) (a : Read) : Type 0 where
@@ -46,26 +40,3 @@ pub record Lawful (s : List ℕ) (a : Read) : Type 0 where
 -- the reader's answers do; and, by `Only`, no others
 abbrev pub Promises : List ℕ → Type 0
 Promises s = Lawful s (read_sheet s)
-
-pub promises : (s : List ℕ) → Promises s
-promises s = record {
-  sound = sound s;
-  complete = complete s;
-  count = λ c. clause_length c 0;
-  standing =
-      λ c q. let e : 0 + nodes count_nodes c ≡ nodes count_nodes c = omega arith in subst
-      (λ (n : ℕ). Stands StandsCount (flat_clause c 0 ++ q) (n - 1) c) e (clause_stands c [] q);
-  begun-nodes = λ c p. begun-nodes p;
-  begun_lines = λ cs d. begun_lines d;
-  long_12 = long_12 s;
-  codes = codes s;
-  before = before_in_range s;
-  stuck_13 = stuck_13 s;
-  token_14 = allowed_14 s;
-  over_14 = over_14 s;
-  past_14 = past_14 s;
-  first_14 = first_14 s;
-  none_over = none_over s;
-  line_33 = line_33 s;
-  number_15 = out_15 s;
-}

@@ -6,7 +6,7 @@ use native.Mathlib.Omega.{arith}
 use lib.Bits.{bit_and, bit_or, bit_xor, and_lt, or_lt, xor_lt}
 use lib.Pow.{shr_le}
 use Rattle.cltl.specs.Rules.{fix}
-use Rattle.cltl.specs.Lap.{fix_cong}
+use Rattle.cltl.proofs.Lap.{fix_cong}
 use Rattle.mask.specs.Mask.{on, Row}
 use Rattle.mask.specs.EachBit.{on_or, on_except, on_shr, on_beyond}
 use Rattle.mask.specs.Straight.{holds, reaches}

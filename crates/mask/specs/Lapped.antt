@@ -7,7 +7,7 @@ use Rattle.std.proofs.Math.Bool.{true, false, and-true, and-false, and_assoc, or
 use native.Mathlib.Omega.{arith}
 use Rattle.row.specs.Round.{next_low, next_last}
 use Rattle.cltl.specs.Rules.{fix}
-use Rattle.cltl.specs.Lap.{enough, fix-not, fix_cong}
+use Rattle.cltl.proofs.Lap.{enough, fix-not, fix_cong}
 use Rattle.mask.specs.Mask.{on, Row, signed}
 use Rattle.mask.specs.Straight.{holds, reaches}
 

@@ -5,7 +5,7 @@ use Rattle.record.specs.Laid.{part_of, field_of}
 use Rattle.floor.specs.Numbers.{numbers_of, cart_at}
 use Rattle.floor.specs.Promises.{AcceptedFloor}
 use Rattle.floor.specs.declared.Floor.{Floor}
-use Rattle.row.specs.FloorBytes.{cart_byte}
+use Rattle.row.proofs.FloorBytes.{cart_byte}
 use Rattle.moves.specs.Carts.{class_of, start_of}
 
 module _ (s : List ℕ) (f : Floor) (w : AcceptedFloor s f) (c : ℕ) (l : c < f.carts) where

@@ -21,12 +21,12 @@ use Rattle.moves.specs.Promises.{Moving}
 use Rattle.moves.specs.Demands.{read_once}
 use Rattle.conflict.specs.Meaning.{Earliest}
 use Rattle.conflict.specs.OfPlan.{plan_routes}
-use Rattle.conflict.specs.Smaller.{smaller as less-conflicts}
+use Rattle.conflict.proofs.Smaller.{smaller as less-conflicts}
 use Rattle.grammar.specs.Grammar.{Clause}
 use Rattle.grammar.specs.Answers.{AcceptedSheet}
 use Rattle.cltl.specs.Meaning.{Rows, Run, TrueOf, TrueInStep}
 use Rattle.cltl.specs.Rules.{rules}
-use Rattle.cltl.specs.Promises as cltl
+use Rattle.cltl.proofs.Promises as cltl
 use Rattle.plancheck.specs.Check.{plan_rows, checked}
 use Rattle.plancheck.specs.Meaning.{drifted, Plain, Kept, Conflict20, Lacks21, ReadAndOpen}
 use Rattle.plancheck.specs.Promises.{Means, PlanChecked}

@@ -13,7 +13,7 @@ use Rattle.grammar.specs.Limits.{nodes, count_nodes, InRange, CountOk, Fits}
 use Rattle.grammar.specs.Nodes.{flat_count}
 use Rattle.grammar.specs.Reader.{Got, got, no, pick, bind, clause_line, lines, accepted, outcome, start, read_sheet}
 use Rattle.grammar.specs.Reader as reader
-use Rattle.grammar.specs.Promises.{promises}
+use Rattle.grammar.proofs.Promised.{promises}
 use Rattle.token.specs.Parts.{Held, PartIs}
 use Rattle.token.specs.declared.PartRead.{PartRead}
 use Rattle.sheet.specs.Rules.{rules_verdict}

@@ -12,9 +12,9 @@ use Rattle.plan.specs.Plan.{place_on_step, held_numbers}
 use Rattle.plan.specs.Read.{row_in}
 use Rattle.plan.specs.declared.Head.{Head}
 use Rattle.row.specs.Moves.{bit}
-use Rattle.row.specs.FloorBytes.{file_length_lem}
+use Rattle.row.proofs.FloorBytes.{file_length_lem}
 use Rattle.mask.specs.Mask.{on}
-use Rattle.cltl.specs.Basics.{lt_or_le}
+use Rattle.cltl.proofs.Basics.{lt_or_le}
 use Rattle.table.specs.Table.{Stored}
 use Rattle.table.specs.Layout.{Shown}
 use Rattle.quorum.specs.Words.{Bits}

@@ -8,7 +8,7 @@ use Rattle.grammar.specs.Grammar.{Form, top, leaf, neg, and, or, next, until, re
 use Rattle.grammar.specs.Limits.{nodes, mark_nodes, count_nodes, InRange, MarkOk, AmountOk, CountOk}
 use Rattle.grammar.specs.Nodes.{Node, top_n, mark_n, count_n, one_n, two_n, Op₁, neg₁, next₁, ev₁, gl₁, Op₂, and₂, or₂, until₂, release₂, flat, flat_mark, flat_inner, flat_count, flat_clause, node, Stands, StandsMark, StandsCount}
 use Rattle.grammar.specs.Groups.{groups, node_groups, nodes_groups, clause_groups}
-use Rattle.grammar.specs.Standing.{node_some, flat-length, clause_stands, clause_length}
+use Rattle.grammar.proofs.Standing.{node_some, flat-length, clause_stands, clause_length}
 use Rattle.token.specs.Block.{count_byte, over_number, node_bytes, nodes_bytes}
 use Rattle.token.specs.Joined.{length_nodes, nodes_one}
 use Rattle.drift.specs.Need.{SixPairsDo}

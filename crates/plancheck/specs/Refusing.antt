@@ -33,13 +33,13 @@ use Rattle.conflict.specs.OfPlan.{conflict_verdict, ConflictFree}
 use Rattle.grammar.specs.Grammar.{top, leaf, neg, and, or, next, until, release, ev, gl, Clause}
 use Rattle.grammar.specs.Reader.{Read, read_sheet}
 use Rattle.grammar.specs.Reader as reader
-use Rattle.grammar.specs.Promises.{promises}
+use Rattle.grammar.proofs.Promised.{promises}
 use Rattle.sheet.specs.Rules.{read_verdict, rules_verdict}
 use Rattle.sheet.specs.Reading.{rules_read_lem}
 use Rattle.cltl.specs.Meaning.{Rows, Proper}
 use Rattle.cltl.specs.Rules.{rules, has_next}
 use Rattle.cltl.specs.Step.{failing}
-use Rattle.cltl.specs.Lowest.{globally_fails}
+use Rattle.cltl.proofs.Lowest.{globally_fails}
 use Rattle.plancheck.specs.Check.{plan_rows, clauses_of, group_verdict, next_verdict, kept_verdict, clauses_verdict, stages, checked}
 use Rattle.plancheck.specs.Meaning.{HasGroups, Plain, Kept, LowestFailing, FailingStep, ReadAndOpen, NoneAhead, Conflict20, Lacks21, Next16, Fails17, PlanRefused, SheetRefused, NamesClause}
 use Rattle.plancheck.specs.Lacking.{first_low}

@@ -8,7 +8,7 @@ use mathlib.Core.List.{List, [], ◌∷◌, ◌++◌}
 use Rattle.std.proofs.Math.ListN.{drop}
 use Rattle.std.proofs.Math.Seq.{take-append_seam}
 use Rattle.grammar.specs.Grammar.{Form, top, Spaces, none, space, Digits, end, digit, Number, nought, other, Percent, without, sign, Over, Group, ungrouped, grouped, Amount, AmountText, written, Prefix, not, next, finally, globally, prefix_byte, Reach, U, R, reach_byte, Rank, ors, Part, word, parens, prefix, one_small, reach, one_until, one_and, Mark, mark, Counted, Count, count, Clause, Sheet, done, line}
-use Rattle.grammar.specs.Ends.{swap_trans, swap_parts, frame_spaces, frame, frame_count}
+use Rattle.grammar.proofs.Ends.{swap_trans, swap_parts, frame_spaces, frame, frame_count}
 use Rattle.clause.specs.Clause.{is_end, line_start, line_length}
 use Rattle.clause.specs.Meaning.{line_ends}
 use Rattle.clause.specs.Lines.{start_zero}

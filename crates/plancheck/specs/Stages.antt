@@ -21,12 +21,12 @@ use Rattle.moves.specs.Promises.{AllUnending}
 use Rattle.moves.specs.Unending.{all_unending, all_accepted}
 use Rattle.conflict.specs.OfPlan.{plan_routes, conflict_verdict, ConflictFree}
 use Rattle.conflict.specs.Promises.{Judged}
-use Rattle.conflict.specs.Judging.{judged as conflict-judged}
+use Rattle.conflict.proofs.JudgingLaws.{judged as conflict-judged}
 use Rattle.grammar.specs.Grammar.{Clause}
 use Rattle.grammar.specs.Reader.{Read, accepted, read_sheet}
 use Rattle.grammar.specs.Reader as reader
 use Rattle.grammar.specs.Answers.{AcceptedSheet}
-use Rattle.grammar.specs.Promises.{promises}
+use Rattle.grammar.proofs.Promised.{promises}
 use Rattle.sheet.specs.Rules.{read_verdict, rules_verdict}
 use Rattle.cltl.specs.Meaning.{Rows, Proper}
 use Rattle.plancheck.specs.Check.{plan_rows, clauses_of, group_verdict, next_verdict, kept_verdict, clauses_verdict, stages, checked}

@@ -8,10 +8,10 @@ use Rattle.row.specs.Lasso.{step_of}
 use Rattle.row.specs.Round.{step_below}
 use Rattle.cltl.specs.Counting.{every}
 use Rattle.cltl.specs.Rules.{window, throughout, quorum}
-use Rattle.cltl.specs.Basics.{bool_ext}
-use Rattle.cltl.specs.Tally.{every_agrees}
-use Rattle.cltl.specs.Quorum.{window_at}
-use Rattle.cltl.specs.Agree.{throughout_agrees}
+use Rattle.cltl.proofs.Basics.{bool_ext}
+use Rattle.cltl.proofs.Tally.{every_agrees}
+use Rattle.cltl.proofs.Quorum.{window_at}
+use Rattle.cltl.proofs.Agree.{throughout_agrees}
 use Rattle.mask.specs.Mask.{on, Row}
 use Rattle.mask.specs.EachBit.{on_or, on_beyond}
 use Rattle.mask.specs.Combined.{all_false}

@@ -7,9 +7,9 @@ use Rattle.std.proofs.lemmas.Nat.{ones-le}
 use Rattle.std.proofs.Math.Dec.{eqb_refl, not_T}
 use Rattle.row.specs.Round.{pick}
 use Rattle.cltl.specs.Counting.{tally, every}
-use Rattle.cltl.specs.Basics.{bool_ext}
-use Rattle.cltl.specs.Tally.{tally_le, tally_all, every_at}
-use Rattle.cltl.specs.Agree.{tally_agrees}
+use Rattle.cltl.proofs.Basics.{bool_ext}
+use Rattle.cltl.proofs.Tally.{tally_le, tally_all, every_at}
+use Rattle.cltl.proofs.Agree.{tally_agrees}
 use Rattle.mask.specs.Mask.{on, Row}
 use Rattle.mask.specs.EachBit.{on_shr}
 use Rattle.quorum.specs.Below.{lowest}

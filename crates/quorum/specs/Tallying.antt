@@ -7,7 +7,7 @@ use Rattle.std.specs.Int.Bits.{bit_or}
 use Rattle.std.proofs.Math.Dec.{leb}
 use Rattle.cltl.specs.Counting.{every}
 use Rattle.cltl.specs.Rules.{window, throughout, quorum}
-use Rattle.cltl.specs.Tally.{tally_le}
+use Rattle.cltl.proofs.Tally.{tally_le}
 use Rattle.mask.specs.Mask.{Row}
 use Rattle.quorum.specs.Tallies.{Tallied}
 use Rattle.quorum.specs.Counted.{either}

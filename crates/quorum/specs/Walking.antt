@@ -11,7 +11,7 @@ use Rattle.std.proofs.Math.ListN.{get_or, length-set}
 use Rattle.std.proofs.Math.Seq.{get_or-set_same}
 use Rattle.row.specs.Round.{pick}
 use Rattle.cltl.specs.Running.{back, walk}
-use Rattle.cltl.specs.AboveDrift.{above_none, above_more}
+use Rattle.cltl.proofs.AboveDrift.{above_none, above_more}
 use Rattle.mask.specs.Mask.{on}
 use Rattle.mask.specs.EachBit.{on_and}
 use Rattle.table.specs.Table.{Stored}

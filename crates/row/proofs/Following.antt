@@ -13,8 +13,8 @@ use Rattle.floor.specs.Promises.{AcceptedFloor}
 use Rattle.floor.specs.declared.Floor.{Floor}
 use Rattle.row.specs.Moves.{bit, opens, some_lane_opens, lanes_in}
 use Rattle.row.specs.Chain.{Leads}
-use Rattle.row.specs.Linked.{Linked, linked, ended, later}
-use Rattle.row.specs.FloorBytes.{lane_count, lane_byte}
+use Rattle.row.proofs.Linked.{Linked, linked, ended, later}
+use Rattle.row.proofs.FloorBytes.{lane_count, lane_byte}
 
 -- what is left to be followed from a link on
 unfoldable pub rank : ℕ → ℕ

@@ -10,8 +10,8 @@ use Rattle.floor.specs.Promises.{AcceptedFloor}
 use Rattle.floor.specs.declared.Floor.{Floor}
 use Rattle.row.specs.Moves.{lanes_in}
 use Rattle.row.specs.Chain.{leaves, Chained}
-use Rattle.row.specs.Linked.{chained_more}
-use Rattle.row.specs.FloorBytes.{lane_count, lane_byte}
+use Rattle.row.proofs.Linked.{chained_more}
+use Rattle.row.proofs.FloorBytes.{lane_count, lane_byte}
 
 -- the lanes from j on are linked, and what lies behind the links of lanes is as before
 pub record Linking (s : List ℕ) (f : Floor) (before first next : List ℕ) (j : ℕ) : Type 0 where

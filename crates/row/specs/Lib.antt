@@ -10,7 +10,5 @@ pub mod Round
 pub mod Judged
 pub mod Parking
 pub mod Unending
-pub mod Linked
-pub mod FloorBytes
 -- worked cases
 pub mod Examples

@@ -10,7 +10,7 @@ use Rattle.grammar.specs.Grammar.{Form}
 use Rattle.grammar.specs.Limits.{nodes}
 use Rattle.grammar.specs.Nodes.{Node, two_n, Op₂, flat}
 use Rattle.grammar.specs.Reader.{Got, got, no, Reader, bind, skip, chain_at, chain_more, chain}
-use Rattle.grammar.specs.Agree.{more_stop, more_out, more_go}
+use Rattle.grammar.proofs.Agree.{more_stop, more_out, more_go}
 use Rattle.token.specs.Block.{two_byte}
 use Rattle.token.specs.Parts.{Held, PartIs}
 use Rattle.token.specs.More.{WithNode}

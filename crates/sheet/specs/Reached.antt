@@ -9,7 +9,7 @@ use Rattle.grammar.specs.Grammar.{Form, Reach, U, R, reach_byte, reached}
 use Rattle.grammar.specs.Limits.{nodes}
 use Rattle.grammar.specs.Nodes.{Node, two_n, Op₂, until₂, release₂, flat}
 use Rattle.grammar.specs.Reader.{Got, got, no, Reader, pick, bind, skip, node, stop, reach, onward, until_at, deeper, smalls, untils}
-use Rattle.grammar.specs.Steps.{until_is, until_end, until_stop, until_none, until_on}
+use Rattle.grammar.proofs.Steps.{until_is, until_end, until_stop, until_none, until_on}
 use Rattle.token.specs.Block.{two_byte}
 use Rattle.token.specs.Leaves.{PartRefused}
 use Rattle.token.specs.Parts.{Held, PartIs}

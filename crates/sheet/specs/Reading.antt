@@ -5,7 +5,7 @@ use Rattle.refusal.specs.Given.{OneOf, sheet_numbers, Given, reading_sheet}
 use Rattle.refusal.specs.declared.Verdict.{Verdict}
 use Rattle.grammar.specs.Answers.{RefusedBy}
 use Rattle.grammar.specs.Reader.{Read, accepted, refused, read_sheet}
-use Rattle.grammar.specs.Promises.{promises}
+use Rattle.grammar.proofs.Promised.{promises}
 use Rattle.sheet.specs.Rules.{read_verdict, rules_verdict}
 use Rattle.sheet.specs.Promises.{RulesRead}
 

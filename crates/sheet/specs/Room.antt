@@ -4,7 +4,7 @@ use Rattle.std.proofs.Common.{arith, sym, subst}
 use Rattle.grammar.specs.Grammar.{Form, top, leaf, neg, and, or, next, until, release, ev, gl, counted}
 use Rattle.grammar.specs.Limits.{nodes}
 use Rattle.grammar.specs.Nodes.{flat}
-use Rattle.grammar.specs.Standing.{inner_flat, clause_flat}
+use Rattle.grammar.proofs.Standing.{inner_flat, clause_flat}
 use Rattle.grammar.specs.Reader.{Got, got, no}
 use Rattle.token.specs.Parts.{PartIs}
 use Rattle.sheet.specs.Ranks.{LeafOf, leaf_nodes, leaf_flat}

@@ -9,7 +9,7 @@ use Rattle.grammar.specs.Grammar.{Form, top, Prefix, not, next, finally, globall
 use Rattle.grammar.specs.Limits.{nodes}
 use Rattle.grammar.specs.Nodes.{Node, top_n, one_n, Op₁, neg₁, next₁, ev₁, gl₁, flat}
 use Rattle.grammar.specs.Reader.{Got, got, no, Reader, pick, bind, skip, node, literal, Kind, kind, smalls, ors}
-use Rattle.grammar.specs.Steps.{small_end, small_true, small_leaf, small_paren_none, small_paren, small_prefix_none, small_prefix}
+use Rattle.grammar.proofs.Steps.{small_end, small_true, small_leaf, small_paren_none, small_paren, small_prefix_none, small_prefix}
 use Rattle.token.specs.Block.{one_byte}
 use Rattle.token.specs.Leaves.{LeafIs, Expected, word_got}
 use Rattle.token.specs.Parts.{PartIs}

@@ -16,7 +16,7 @@ use Rattle.cltl.specs.Threshold.{threshold, quota}
 use Rattle.cltl.specs.Meaning.{Rows, Proper, TrueInStep}
 use Rattle.cltl.specs.Rules.{fix, window, quorum, judge, leaves, mark, inner, count, slack, some_text, same_carts, all_over, uniform, joint, joined, rules}
 use Rattle.cltl.specs.Suffix.{TrueOnStep}
-use Rattle.cltl.specs.Promises.{in_step, in_step_at}
+use Rattle.cltl.proofs.Promises.{in_step, in_step_at}
 use Rattle.plancheck.specs.Check.{plan_rows}
 
 -- place 0 with m0 only, place 1 with m1 only, two carts; group 0 is cart 1

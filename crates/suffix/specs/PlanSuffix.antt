@@ -11,10 +11,10 @@ use Rattle.row.specs.Moves.{bit}
 use Rattle.moves.specs.Demands.{read_once}
 use Rattle.edit.specs.Moved.{moved}
 use Rattle.edit.specs.Promises.{Later}
-use Rattle.edit.specs.MovedReads.{place_moved}
-use Rattle.edit.specs.MovedWritten.{result_read}
+use Rattle.edit.proofs.MovedReads.{place_moved}
+use Rattle.edit.proofs.MovedWritten.{result_read}
 use Rattle.cltl.specs.Suffix.{Suffix}
-use Rattle.cltl.specs.Promises.{suffix_start}
+use Rattle.cltl.proofs.Promises.{suffix_start}
 use Rattle.plancheck.specs.Check.{marks_at, plan_rows}
 use Rattle.plancheck.specs.Stages.{proper}
 use Rattle.suffix.specs.Promises.{TrueLater}

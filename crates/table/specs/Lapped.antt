@@ -8,9 +8,9 @@ use native.Mathlib.Omega.{arith}
 use Rattle.row.specs.Lasso.{next_step}
 use Rattle.row.specs.Round.{next_low, next_last}
 use Rattle.cltl.specs.Rules.{mix, fix}
-use Rattle.cltl.specs.Basics.{bool_ext}
+use Rattle.cltl.proofs.Basics.{bool_ext}
 use Rattle.mask.specs.Mask.{signed}
-use Rattle.cltl.specs.Lap.{enough, once, fix_law}
+use Rattle.cltl.proofs.Lap.{enough, once, fix_law}
 use Rattle.table.specs.Straight.{straight}
 
 module _ (h l : ℕ) (some : l < h) (p : Bool) (a b : ℕ → Bool) where

@@ -1,7 +1,7 @@
 -- Words stored one after the other, upwards or downwards.
 use Rattle.std.specs.Prelude.{ℕ, ◌+◌, ◌-◌, ◌≤◌, ◌<◌, ◌≡◌, refl, List, get_or, length, set}
 use Rattle.std.proofs.Common.{sym, ap, subst, ◌∙◌, inl, inr, ⊎_elim, arith, length-set, get_or-set_same, get_or-set_other}
-use Rattle.cltl.specs.Basics.{lt_or_le}
+use Rattle.cltl.proofs.Basics.{lt_or_le}
 use Rattle.table.specs.Table.{Stored, Apart}
 
 module _ (P : ℕ → ℕ → Type 0) (at : ℕ) where

@@ -10,7 +10,7 @@ use lib.ListN.{length, get_or, drop, drop_of_length-le}
 use lib.Seq.{drop-cons}
 use borrow.Author.Tests.{ne_eqb, lt-leb}
 use Rattle.grammar.specs.Grammar.{Over, fleet, group, Amount, amount}
-use Rattle.grammar.specs.Each.{is_group_lem}
+use Rattle.grammar.proofs.Each.{is_group_lem}
 use Rattle.grammar.specs.Reader.{Got, got, no, pick, bind, skip, is_group, group_digit, over_at, overs}
 use Rattle.token.specs.Block.{over_number}
 use Rattle.token.specs.Leaves.{ByteAt, over_of, DigitIs, AmountIs, grouped_got}

@@ -6,7 +6,7 @@ use mathlib.Core.List.{List}
 use lib.ListN.{length, drop}
 use lib.Dec.{leb}
 use borrow.Author.Tests.{leb-true}
-use Rattle.grammar.specs.Each.{both_left}
+use Rattle.grammar.proofs.Each.{both_left}
 use Rattle.grammar.specs.Reader.{Got, got, no, is_digit}
 use Rattle.token.specs.Tokens.{NumIs}
 use Rattle.token.specs.declared.Num.{Num}

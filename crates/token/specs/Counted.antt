@@ -11,7 +11,7 @@ use borrow.Author.Tests.{eqb-true, eqb-false}
 use Rattle.grammar.specs.Grammar.{Form, Inner, Amount, Counted, counted, Clause}
 use Rattle.grammar.specs.Limits.{nodes, mark_nodes, count_nodes}
 use Rattle.grammar.specs.Nodes.{count_n, flat, flat_mark, flat_inner, flat_count}
-use Rattle.grammar.specs.Standing.{clause_flat, inner_flat}
+use Rattle.grammar.proofs.Standing.{clause_flat, inner_flat}
 use Rattle.grammar.specs.Reader.{Got, got, no, pick, bind, skip, expect, expect_at, amounts, count_end}
 use Rattle.token.specs.Block.{node_bytes}
 use Rattle.token.specs.Leaves.{PartRefused, Expected, amount_of, AmountIs}

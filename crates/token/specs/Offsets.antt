@@ -3,9 +3,9 @@ use Rattle.std.specs.Prelude.{ℕ, suc, ◌+◌, ◌*◌, ◌-◌, ◌≤◌, �
 use Rattle.std.proofs.Math.Path.{ap, sym}
 use Rattle.std.proofs.Common.{◌∙◌, add-one, drop-cons, arith, leb-true}
 use Rattle.std.proofs.Math.ListN.{drop_of_length-le}
-use Rattle.grammar.specs.Each.{both_left, both_right}
+use Rattle.grammar.proofs.Each.{both_left, both_right}
 use Rattle.grammar.specs.Reader.{got, no, skip, is_digit, digits, number}
-use Rattle.grammar.specs.Agree.{skip_at, skip_space, digits_stop, digits_on, number_nought, number_on, number_off}
+use Rattle.grammar.proofs.Agree.{skip_at, skip_space, digits_stop, digits_on, number_nought, number_on, number_off}
 
 module _ (s : List ℕ) (i : ℕ) where
   pub skip_end : length s ≤ i → skip (drop i s) ≡ drop i s

@@ -3,7 +3,7 @@ use mathlib.Core.Path.{sym}
 use Rattle.floor.specs.Numbers.{numbers_of}
 use Rattle.plan.specs.Plan.{held_numbers}
 use Rattle.conflict.specs.OfPlan.{is_narrow, plan_routes}
-use Rattle.conflict.specs.NoneNarrow.{none_narrow, none_named}
+use Rattle.conflict.proofs.NoneNarrow.{none_narrow, none_named}
 use Rattle.conflict.proofs.judge_plan.Goals as goal
 
 pub returns-then-f-eq0 : goal.returns-then-f-eq0

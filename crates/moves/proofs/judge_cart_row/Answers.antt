@@ -4,7 +4,7 @@ use mathlib.Core.Path.{sym, ap, ap₂, subst, ◌∙◌}
 use lib.ListN.{length}
 use Rattle.row.specs.Unending.{refused_step}
 use Rattle.row.specs.Moves.{lanes_in, judged_moves}
-use Rattle.row.specs.FloorBytes.{file_length_lem}
+use Rattle.row.proofs.FloorBytes.{file_length_lem}
 use Rattle.moves.specs.CartBytes.{class_at, start_at, class_low}
 use Rattle.moves.specs.Carts.{verdict_of}
 use Rattle.moves.proofs.judge_cart_row.Goals as goal

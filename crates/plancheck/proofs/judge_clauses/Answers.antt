@@ -1,5 +1,5 @@
 use mathlib.Core.Path.{sym, ◌∙◌}
-use Rattle.row.specs.FloorBytes.{file_length_lem}
+use Rattle.row.proofs.FloorBytes.{file_length_lem}
 use native.Mathlib.Nat.{mul-le-mul}
 use Prim.Native.Nat.{◌+◌}
 use native.Mathlib.Omega.{arith}

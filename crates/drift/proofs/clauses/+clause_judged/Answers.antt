@@ -6,7 +6,7 @@ use mathlib.Core.List.{List, []}
 use mathlib.Core.Logic.{◌⊎◌, inl, ⊎_elim}
 use native.Mathlib.Nat.{le_refl}
 use lib.ListN.{get_or}
-use Rattle.cltl.specs.Basics.{lt_or_le}
+use Rattle.cltl.proofs.Basics.{lt_or_le}
 use Rattle.cltl.specs.Meaning.{Proper}
 use Rattle.table.specs.Keeping.{none_ends, kept_all, kept_then, kept_shown, kept_constants, shown_itself}
 use Rattle.drift.specs.Tree.{Ordered, kind_at, first_at, second_at, one_of, clause_tree}

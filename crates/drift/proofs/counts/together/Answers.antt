@@ -4,7 +4,7 @@ use native.Mathlib.Omega.{arith}
 use lib.Dec.{leb}
 use borrow.Author.Tests.{lt-leb}
 use Rattle.cltl.specs.Rules.{window, throughout}
-use Rattle.cltl.specs.Tally.{tally_le}
+use Rattle.cltl.proofs.Tally.{tally_le}
 use Rattle.mask.specs.Combined.{all_false}
 use Rattle.table.specs.Table.{told}
 use Rattle.quorum.specs.Words.{within}

@@ -2,7 +2,7 @@ use mathlib.Core.Path.{ap, ap₂, ◌∙◌}
 use Prim.Native.Nat.{ℕ, ◌<◌, max}
 use mathlib.Core.Logic.{⊎_elim}
 use lib.ListN.{get_or}
-use Rattle.cltl.specs.Basics.{lt_or_le}
+use Rattle.cltl.proofs.Basics.{lt_or_le}
 use Rattle.drift.specs.Need.{more, need_node}
 use Rattle.drift.specs.NodeIs.{of_top, of_mark, of_count, of_one, of_two}
 use Rattle.drift.specs.NodeTruth.{first_low, two_low}

@@ -1,6 +1,6 @@
 use mathlib.Core.Path.{sym, subst, ◌∙◌}
 use Rattle.cltl.specs.Rules.{rules}
-use Rattle.cltl.specs.Agree.{lowest_agrees}
+use Rattle.cltl.proofs.Agree.{lowest_agrees}
 use Rattle.table.specs.Keeping.{kept_all}
 use Rattle.drift.specs.Answer.{rows_on}
 use Rattle.drift.specs.Lent.{ClauseNodes}

@@ -10,7 +10,7 @@ use Rattle.plan.specs.Read.{accepts_if, after_accepted, after_refused, held_numb
 use Rattle.plan.specs.Promises.{AcceptedPlan}
 use Rattle.plan.specs.Numbers.{plan_file}
 use Rattle.plan.specs.Plan.{PlanNumbers}
-use Rattle.edit.specs.MovedWritten.{promise}
+use Rattle.edit.proofs.MovedWritten.{promise}
 use Rattle.edit.specs.Moved.{moved, move_on}
 use Rattle.edit.proofs.moving.move_on.Goals as goal
 

@@ -1,6 +1,6 @@
 use native.Mathlib.Omega.{arith}
 use mathlib.Core.Path.{sym}
-use Rattle.edit.specs.Later.{head_early, head_late}
+use Rattle.edit.proofs.Later.{head_early, head_late}
 use Rattle.edit.proofs.moving.moved_head.Goals as goal
 
 pub returns-then-s-h : goal.returns-then-s-h

@@ -3,7 +3,7 @@ use native.Mathlib.Omega.{arith}
 use mathlib.Core.Path.{ap, ◌∙◌}
 use lib.ListN.{length, take, drop}
 use Rattle.record.specs.Buffer.{stored}
-use Rattle.edit.specs.Later.{length-turned}
+use Rattle.edit.proofs.Later.{length-turned}
 use Rattle.edit.proofs.RowsMoved.{turn_below, early, late}
 use Rattle.edit.proofs.moving.moved_row.Goals as goal
 

@@ -7,7 +7,7 @@ use Rattle.refusal.specs.declared.Verdict.TheVariants.{Plan as AboutPlan}
 use Rattle.refusal.specs.Outcome.{Gives, written}
 use Rattle.plan.specs.declared.Head.{Head}
 use Rattle.plan.specs.Valid.{HeadInRange}
-use Rattle.edit.specs.MovedReads.{head_moved}
+use Rattle.edit.proofs.MovedReads.{head_moved}
 use Rattle.edit.proofs.RowsMoved.{rows_fit, same_file, file_fits}
 use Rattle.edit.proofs.moving.put_moved.Goals as goal
 

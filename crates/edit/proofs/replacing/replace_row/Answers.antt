@@ -3,7 +3,7 @@ use native.Mathlib.Omega.{arith}
 use mathlib.Core.Path.{◌≡◌, sym, ◌∙◌}
 use mathlib.Core.Bool.{true, false}
 use Rattle.refusal.specs.Stages.{is_accepted}
-use Rattle.edit.specs.ReplacedReads.{promise}
+use Rattle.edit.proofs.ReplacedReads.{promise}
 use Rattle.edit.proofs.replacing.replace_row.Goals as goal
 
 pub copy_at-requires : goal.copy_at-requires

@@ -10,7 +10,7 @@ use lib.ListN.{get_or, length, length-set}
 use Rattle.row.specs.Round.{pick}
 use Rattle.cltl.specs.Counting.{every}
 use Rattle.cltl.specs.Running.{lap_count}
-use Rattle.cltl.specs.AboveDrift.{lap_above}
+use Rattle.cltl.proofs.AboveDrift.{lap_above}
 use Rattle.mask.specs.Mask.{on}
 use Rattle.mask.specs.EachBit.{on_and}
 use Rattle.table.specs.Table.{Stored}

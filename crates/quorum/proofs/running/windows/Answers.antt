@@ -6,9 +6,9 @@ use lib.Dec.{ltb}
 use lib.ListN.{get_or}
 use Rattle.row.specs.Round.{step_low}
 use Rattle.cltl.specs.Rules.{window}
-use Rattle.cltl.specs.Quorum.{window_none}
+use Rattle.cltl.proofs.Quorum.{window_none}
 use Rattle.cltl.specs.Running.{walk, lap_count, running_count}
-use Rattle.cltl.specs.AboveDrift.{window_above}
+use Rattle.cltl.proofs.AboveDrift.{window_above}
 use Rattle.mask.specs.Mask.{on}
 use Rattle.table.specs.Table.{Stored}
 use Rattle.quorum.specs.Words.{has}

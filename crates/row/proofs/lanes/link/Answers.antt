@@ -5,8 +5,8 @@ use mathlib.Core.List.{List}
 use lib.ListN.{length, length-replicate}
 use Rattle.row.specs.Moves.{lanes_in}
 use Rattle.row.specs.Chain.{Chained}
-use Rattle.row.specs.Linked.{chained_none}
-use Rattle.row.specs.FloorBytes.{file_length_lem, lane_count}
+use Rattle.row.proofs.Linked.{chained_none}
+use Rattle.row.proofs.FloorBytes.{file_length_lem, lane_count}
 use Rattle.row.proofs.Linking.{again}
 use Rattle.row.proofs.lanes.link.Goals as goal
 

@@ -4,7 +4,7 @@ use mathlib.Core.Path.{◌≡◌, refl, sym, ap, subst, ◌∙◌}
 use lib.ListN.{get_or}
 use Rattle.row.specs.Chain.{Leads, Chained}
 use Rattle.row.specs.Moves.{lanes_in}
-use Rattle.row.specs.FloorBytes.{file_length_lem}
+use Rattle.row.proofs.FloorBytes.{file_length_lem}
 use Rattle.row.proofs.Following.{none_open, found, again, falls, lane_below}
 use Rattle.row.proofs.lanes.some_lane_opens.Goals as goal
 

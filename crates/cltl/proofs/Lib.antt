@@ -1,0 +1,25 @@
+-- laws that the definitions of specs/ have
+pub mod AboveDrift
+pub mod Agree
+pub mod Basics
+pub mod Complete
+pub mod Exact
+pub mod Globally
+pub mod Hindmost
+pub mod Inner
+pub mod Joint
+pub mod JointWording
+pub mod Lap
+pub mod Lowest
+pub mod Members
+pub mod Monotone
+pub mod Operators
+pub mod Pace
+pub mod Promises
+pub mod Quorum
+pub mod Sound
+pub mod Standing
+pub mod SuffixExamples
+pub mod SuffixTruth
+pub mod Tally
+pub mod Wording
