@@ -8,8 +8,8 @@ fn main(rt: HostRuntime) -> io::Result<()> {
     let mut floor = [0u8; 65537];
     let mut plan = [0u8; 65537];
     let mut rules = [0u8; 16385];
-    let f = report::load(&rt, "floor", &mut floor);
-    let p = report::load(&rt, "plan", &mut plan);
-    let r = report::load(&rt, "rules", &mut rules);
+    let f = report::load(&rt, b"floor", &mut floor);
+    let p = report::load(&rt, b"plan", &mut plan);
+    let r = report::load(&rt, b"rules", &mut rules);
     report::print_line(&rt, plancheck::check(&floor[..f], &plan[..p], &rules[..r]))
 }

@@ -1,9 +1,6 @@
 // Does what each data set asks for, and prints the verdicts and the buffers written to.
 #![tactic(auto)]
 
-ghost use Rattle.std.specs.Counts.{IsPrefixLen};
-ghost use Rattle.std.specs.Prelude.{IfOk};
-
 mod tasks;
 
 use std::io;
@@ -12,27 +9,36 @@ use std::rt::Files;
 // How many data sets there are: tests/make-cases.py writes them.
 const CASES: usize = 1194;
 
-// Reads a file of the data set n, or nothing where it can't be opened.
-fn load(rt: &(impl Files + Alloc), n: usize, name: &str, buf: &mut [u8]) -> io::Result<usize>
-    ensures { IfOk result (λ k. IsPrefixLen k buf.new) }
-{
-    let path = format!(in rt.alloc(); "{n:04}/{name}")?;
-    Ok(report::load(rt, path.as_str(), buf))
+// A digit as a byte of text.
+fn digit(n: usize) -> u8 {
+    48 + (n % 10) as u8
 }
 
 // Runs the data set in the folder whose name is n in four digits.
-fn run_case(rt: &(impl Files + Print + Alloc), n: usize) -> io::Result<()> {
+fn run_case(rt: &(impl Files + Print), n: usize) -> io::Result<()> {
     let mut floor = [0u8; 65537];
     let mut plan = [0u8; 65537];
     let mut rules = [0u8; 16385];
     let mut task = [0u8; 128];
     let mut out = [0u8; 4096];
-    let f = load(rt, n, "floor", &mut floor)?;
-    let p = load(rt, n, "plan", &mut plan)?;
-    let r = load(rt, n, "rules", &mut rules)?;
-    let t = load(rt, n, "task", &mut task)?;
-    let o = load(rt, n, "out", &mut out)?;
-    print!(rt; "{n:04} ")?;
+    let a = digit(n / 1000);
+    let b = digit(n / 100);
+    let c = digit(n / 10);
+    let d = digit(n);
+    let f = report::load(
+        rt,
+        &[a, b, c, d, b'/', b'f', b'l', b'o', b'o', b'r'],
+        &mut floor,
+    );
+    let p = report::load(rt, &[a, b, c, d, b'/', b'p', b'l', b'a', b'n'], &mut plan);
+    let r = report::load(
+        rt,
+        &[a, b, c, d, b'/', b'r', b'u', b'l', b'e', b's'],
+        &mut rules,
+    );
+    let t = report::load(rt, &[a, b, c, d, b'/', b't', b'a', b's', b'k'], &mut task);
+    let o = report::load(rt, &[a, b, c, d, b'/', b'o', b'u', b't'], &mut out);
+    rt.write_all(&[a, b, c, d, b' '])?;
     tasks::run(
         rt,
         &floor[..f],

@@ -26,11 +26,14 @@ fn fill(file: &mut impl Read, buf: &mut [u8]) -> usize
     done
 }
 
-// Reads the file, or nothing where it can't be opened.
-pub fn load(rt: &impl Files, path: &str, buf: &mut [u8]) -> usize
+// Reads the file, or nothing where it can't be opened. A path is text: any other bytes name no file that can be.
+pub fn load(rt: &impl Files, path: &[u8], buf: &mut [u8]) -> usize
     ensures { IsPrefixLen result buf.new }
 {
-    match fs::open(rt, path) {
+    let Ok(name) = str::from_utf8(path) else {
+        return 0;
+    };
+    match fs::open(rt, name) {
         Ok(mut file) => fill(&mut file, buf),
         Err(_) => 0,
     }
