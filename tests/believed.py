@@ -5,7 +5,7 @@ Starts at the names that the `ensures` of each exported function cites, follows 
 lists the files that hold them. Run at the repository's root:
 
     python3 tests/believed.py            prints the list; with --names each file's definitions too
-    python3 tests/believed.py --check    fails if README's list is another one, or if a definition stands in a law file
+    python3 tests/believed.py --check    fails if README's list is another one, or if a definition stands in a law file or in proofs/
     python3 tests/believed.py --write    puts the list into README
 """
 import os
@@ -87,7 +87,7 @@ class Project:
     """The project's modules, and what is reached."""
 
     def __init__(self):
-        self.modules, self.reached, self.types = {}, {}, {}
+        self.modules, self.reached, self.types, self.outside = {}, {}, {}, set()
 
     def module(self, path):
         """The module of a path such as Rattle.floor.specs.Numbers, or None for the kit's."""
@@ -105,6 +105,9 @@ class Project:
     def reach(self, path, name):
         module = self.module(path)
         if module is None:
+            found = re.match(r"Rattle\.(\w+)\.proofs\.", path)
+            if found and os.path.isdir(os.path.join("crates", found.group(1))):
+                self.outside.add(f"{path}.{name}")
             return
         if name in module.owner and name not in module.texts:
             name = module.owner[name]
@@ -207,6 +210,8 @@ def main():
         return
     if wrong:
         sys.exit(f"believed: definitions stand in law files: {', '.join(wrong)}")
+    if project.outside:
+        sys.exit(f"believed: definitions stand in proofs/: {', '.join(sorted(project.outside))}")
     if readme[begin:end].strip() != text:
         sys.exit("believed: README's list is not what `python3 tests/believed.py` prints")
     print(f"believed: {len(project.reached)} definition files, as README lists them")
