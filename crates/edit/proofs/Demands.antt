@@ -25,7 +25,7 @@ use Rattle.moves.specs.Unending.{sound}
 use Rattle.moves.specs.Demands.{read_once}
 use Rattle.edit.specs.Moved.{moved, move_on}
 use Rattle.edit.specs.Replaced.{replaced}
-use Rattle.edit.specs.Promises.{cart_place_at, file_length, Later, MovedOn, NewRow, RowReplaced}
+use Rattle.edit.specs.Promises.{cart_place_at, file_length, Later, MovedOn, MovesAddUp, NewRow, RowReplaced}
 use Rattle.edit.proofs.MovedReads.{length_moved}
 use Rattle.edit.proofs.MovedWritten.{read_moves, one_result, held_too}
 use Rattle.edit.proofs.ReplacedReads.{left}
@@ -95,10 +95,12 @@ module _ (floor plan : List ℕ) (s : ℕ) (before : List ℕ) (v : Verdict) (af
             },
           )
 
+---- Moving on, added up.
+module _ (floor plan : List ℕ) (s : ℕ) (before : List ℕ) (v : Verdict) (after : List ℕ) (a : MovesAddUp floor plan s before v after) where
   -- "moving on by 0 gives the plan back": with room enough its length, its very bytes, and every byte past them stays
   pub plan_back : (f : Floor) (p : PlanNumbers) → ReadAs floor plan f p → s ≡ 0 → length plan ≤ length before
       → (v ≡ Written (length plan)) × (after ≡ plan ++ drop (length plan) before)
-  plan_back f p r z enough = with_room AboutPlan plan before v after (w.by_0 z f p r) enough
+  plan_back f p r z enough = with_room AboutPlan plan before v after (a.by_0 z f p r) enough
 
   -- Moved on by s and then by u, and by s + u, whichever buffers are lent
   module _ (k : ℕ) (e : v ≡ Written k) (u : ℕ) (before' : List ℕ) (v' : Verdict) (after' : List ℕ) (w' : MovedOn floor (take k after) u before' v' after')
@@ -106,7 +108,7 @@ module _ (floor plan : List ℕ) (s : ℕ) (before : List ℕ) (v : Verdict) (af
     -- into buffers that are alike: the same answer and bytes, also where they are too short
     pub same_outcome : before' ≡ before'' → (v' ≡ v'') × (after' ≡ after'')
     same_outcome alike =
-        let q = ap (λ (out : List ℕ). move_on floor (take k after) u out) alike ∙ w.adds_up k e u before'' in (
+        let q = ap (λ (out : List ℕ). move_on floor (take k after) u out) alike ∙ a.adds_up k e u before'' in (
           w'.outcome.answer ∙ ap (λ (o : Outcome). o.answer) q ∙ sym w''.outcome.answer,
           w'.outcome.out ∙ ap (λ (o : Outcome). o.out) q ∙ sym w''.outcome.out,
         )
@@ -114,11 +116,11 @@ module _ (floor plan : List ℕ) (s : ℕ) (before : List ℕ) (v : Verdict) (af
     module _ (n : ℕ) (z : v'' ≡ Written n) where
       -- "the very bytes": if both are written
       pub same_bytes : (m : ℕ) → v' ≡ Written m → (m ≡ n) × (take m after' ≡ take n after'')
-      same_bytes = one_result floor (take k after) plan u (s + u) (w.adds_up k e u) before' v' after' w'.outcome before'' v'' after'' w''.outcome n z
+      same_bytes = one_result floor (take k after) plan u (s + u) (a.adds_up k e u) before' v' after' w'.outcome before'' v'' after'' w''.outcome n z
 
       -- and the second is, "as long as .. the buffers hold each result"
       pub second_written : n ≤ length before' → v' ≡ Written n
-      second_written = held_too floor (take k after) plan u (s + u) (w.adds_up k e u) before' v' after' w'.outcome before'' v'' after'' w''.outcome n z
+      second_written = held_too floor (take k after) plan u (s + u) (a.adds_up k e u) before' v' after' w'.outcome before'' v'' after'' w''.outcome n z
 
 ---- Replacing a row.
 not_accepted : (v : Verdict) → ((code_of v).number ≡ 0 → ⊥) → is_accepted v ≡ false

@@ -1,19 +1,30 @@
--- A moved plan's file reads as a plan, which goes on where the first one is after s moves.
+-- What moving on writes reads as a plan, which goes on where the first one is after s moves.
 use Rattle.std.specs.Prelude.{ℕ, zero, suc, ◌+◌, ◌*◌, ◌≤◌, ◌<◌, ◌≡◌, refl, List, [], ◌∷◌, map, length, get_or}
 use Rattle.std.proofs.Common.{arith, sym, ap, subst, ◌∙◌}
 use Rattle.std.proofs.lemmas.List.{length-map}
+use Rattle.endian.specs.Little.{Bytes}
+use Rattle.refusal.specs.Given.{Given, moving_on}
+use Rattle.refusal.specs.Outcome.{Outcome, Gives, unchanged, written}
+use Rattle.refusal.specs.Held.{about_floor, about_plan, written_front, written-length, written_if}
+use Rattle.refusal.specs.declared.Verdict.{Verdict}
+use Rattle.refusal.specs.declared.Verdict.TheVariants.{Written, Plan as AboutPlan}
+use Rattle.floor.specs.Located.{accepts}
 use Rattle.floor.specs.declared.Floor.{Floor}
 use Rattle.plan.specs.Plan.{PlanNumbers, accepted, read_plan}
 use Rattle.plan.specs.Numbers.{head_of, plan_file}
+use Rattle.plan.specs.After.{ReadAs}
 use Rattle.plan.specs.Valid.{HeadInRange, ValidPlan}
 use Rattle.plan.specs.Passed.{row_sizes}
+use Rattle.plan.specs.RoundTrip.{valid}
 use Rattle.plan.specs.Complete.{file_reads, file_length_lem}
+use Rattle.plan.specs.Read.{ReadingCases, floor_refused, plan_refused, both_read, reading_cases, read_on_lem}
 use Rattle.plan.specs.declared.Head.{Head}
 use Rattle.row.specs.Lasso.{step_of}
 use Rattle.row.specs.Round.{pick, step_low, step_below}
-use Rattle.edit.specs.Moved.{moved_row, moved_head, moved}
-use Rattle.edit.specs.Promises.{cart_place_at, file_length}
-use Rattle.edit.proofs.Later.{head_early, head_late, row-length, place_later}
+use Rattle.edit.specs.Moved.{moved_row, moved_head, moved, move_on}
+use Rattle.edit.specs.Promises.{cart_place_at, file_length, Later, MovedOn}
+use Rattle.edit.proofs.Refusing.{moving_given}
+use Rattle.edit.proofs.Later.{head_early, head_late, drift_stays, row-length, place_later}
 
 pub row_of : (f : List ℕ → List ℕ) (rows : List (List ℕ)) (c : ℕ) → c < length rows → get_or (map f rows) c [] ≡ f (get_or rows c [])
 row_of f [] c l = absurd (omega arith)
@@ -65,3 +76,45 @@ module _ (f : Floor) (p : PlanNumbers) (v : ValidPlan p f) (s : ℕ) where
       let v = valid_moved in
       let k = (moved s p).head.steps in
       file_length_lem (moved s p) v.head.some (row_sizes (moved s p) f v) ∙ ap (λ (n : ℕ). 10 + n * (4 + k)) v.carts
+
+module _ (floor plan : List ℕ) (b : Bytes floor) (s : ℕ) (before : List ℕ) (v : Verdict) (after : List ℕ) (g : Gives (move_on floor plan s before) v after) where
+  refuse : Verdict → Outcome
+  refuse v = unchanged v before
+
+  step : Floor → PlanNumbers → Outcome
+  step f p = written AboutPlan (plan_file (moved s p)) before
+
+  -- with floor and plan read: the moved plan is written if there is room
+  writes : (f : Floor) (n : PlanNumbers) → ReadAs floor plan f n → Gives (written AboutPlan (plan_file (moved s n)) before) v after
+  unfolding move_on refuse step
+  writes f n w = subst (λ (o : Outcome). Gives o v after) (read_on_lem refuse step floor plan f n w) g
+
+  later : (k : ℕ) → v ≡ Written k → Later floor plan s k after
+  unfolding move_on refuse step
+  later k e = go (reading_cases refuse step floor plan)
+    where
+      go : ReadingCases refuse step floor plan → Later floor plan s k after
+      go (floor_refused x q) = absurd (about_floor x k (sym (g.answer ∙ ap (λ (o : Outcome). o.answer) q) ∙ e))
+      go (plan_refused x q) = absurd (about_plan x k (sym (g.answer ∙ ap (λ (o : Outcome). o.answer) q) ∙ e))
+      go (both_read f n w r) =
+          let d = valid f plan n w.plan_read_lem in
+          let few : f.carts ≤ 32 = (accepts floor f b w.floor_read).valid.few_carts in
+          let front = written_front AboutPlan about_plan (plan_file (moved s n)) before v after k (writes f n w) e in
+          let size = written-length AboutPlan about_plan (plan_file (moved s n)) before v after k (writes f n w) e in
+          record {
+            floor_is = f;
+            numbers = n;
+            read = w;
+            reads = ap (read_plan f) front ∙ reads_moved f n d s few;
+            size = size ∙ length_moved f n d s;
+            drift = drift_stays s n.head;
+            place = λ c i l. place_moved f n d s c i l;
+          }
+
+  room : (f : Floor) (p : PlanNumbers) → ReadAs floor plan f p → file_length f (moved s p) ≤ length before → v ≡ Written (file_length f (moved s p))
+  room f p w enough =
+      let e = length_moved f p (valid f plan p w.plan_read_lem) s in
+      written_if AboutPlan (plan_file (moved s p)) before v after (writes f p w) (omega arith) ∙ ap Written e
+
+  pub promise : MovedOn floor plan s before v after
+  promise = record { outcome = g; numbers = subst (Given moving_on) (sym g.answer) (moving_given floor plan s before); later = later; room = room }

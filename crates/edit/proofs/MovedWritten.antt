@@ -1,26 +1,22 @@
--- What moving on writes, and what it promises of that.
+-- What moving on writes, and what it promises of a second move.
 use Rattle.std.specs.Prelude.{ℕ, ◌+◌, ◌≤◌, ◌≡◌, List, take}
 use Rattle.std.proofs.Common.{arith, sym, ◌∙◌}
 use Rattle.std.proofs.Math.Path.{ap, subst}
 use Rattle.std.proofs.Math.ListN.{length}
 use Rattle.endian.specs.Little.{Bytes}
-use Rattle.refusal.specs.Given.{Given, moving_on}
 use Rattle.refusal.specs.Outcome.{Outcome, Gives, unchanged, written}
 use Rattle.refusal.specs.Held.{about_floor, about_plan, written_front, written-length, written_if}
 use Rattle.refusal.specs.declared.Verdict.{Verdict}
 use Rattle.refusal.specs.declared.Verdict.TheVariants.{Written, Plan as AboutPlan}
-use Rattle.floor.specs.Located.{accepts}
 use Rattle.floor.specs.declared.Floor.{Floor}
-use Rattle.plan.specs.Plan.{PlanNumbers, read_plan}
+use Rattle.plan.specs.Plan.{PlanNumbers}
 use Rattle.plan.specs.Numbers.{plan_file}
 use Rattle.plan.specs.After.{ReadAs}
 use Rattle.plan.specs.RoundTrip.{valid, bytes_back}
 use Rattle.plan.specs.Read.{ReadingCases, floor_refused, plan_refused, both_read, reading_cases, read_on_lem}
 use Rattle.edit.specs.Moved.{moved, move_on}
-use Rattle.edit.specs.Promises.{file_length, Later, MovedOn}
-use Rattle.edit.proofs.Refusing.{moving_given}
-use Rattle.edit.proofs.Later.{drift_stays}
-use Rattle.edit.proofs.MovedReads.{place_moved, reads_moved, length_moved}
+use Rattle.edit.specs.Promises.{Later, MovesAddUp}
+use Rattle.edit.proofs.MovedReads.{promise}
 use Rattle.edit.proofs.AddedUp.{moved_added, moved_by_0}
 
 -- with floor and plan read the outcome is that of putting the moved plan
@@ -83,29 +79,6 @@ module _ (floor plan : List ℕ) (floor-bytes : Bytes floor) (plan-bytes : Bytes
   writes : (f : Floor) (n : PlanNumbers) → ReadAs floor plan f n → Gives (written AboutPlan (plan_file (moved s n)) before) v after
   writes f n w = subst (λ (o : Outcome). Gives o v after) (read_moves floor plan s before f n w) g
 
-  later : (k : ℕ) → v ≡ Written k → Later floor plan s k after
-  later k e =
-      let x = written_file floor plan s before v after g k e in
-      let f = x.0 in
-      let p = x.1 in
-      let read = x.2 in
-      let d = valid f plan p read.plan_read_lem in
-      let few : f.carts ≤ 32 = (accepts floor f floor-bytes read.floor_read).valid.few_carts in
-      record {
-        floor_is = f;
-        numbers = p;
-        read = read;
-        reads = ap (read_plan f) x.4 ∙ reads_moved f p d s few;
-        size = x.3 ∙ length_moved f p d s;
-        drift = drift_stays s p.head;
-        place = λ c i l. place_moved f p d s c i l;
-      }
-
-  room : (f : Floor) (p : PlanNumbers) → ReadAs floor plan f p → file_length f (moved s p) ≤ length before → v ≡ Written (file_length f (moved s p))
-  room f p w enough =
-      let e = length_moved f p (valid f plan p w.plan_read_lem) s in
-      written_if AboutPlan (plan_file (moved s p)) before v after (writes f p w) (omega arith) ∙ ap Written e
-
   by_0 : s ≡ 0 → (f : Floor) (p : PlanNumbers) → ReadAs floor plan f p → Gives (written AboutPlan plan before) v after
   by_0 z f p w =
       let back : plan_file (moved s p) ≡ plan =
@@ -114,19 +87,12 @@ module _ (floor plan : List ℕ) (floor-bytes : Bytes floor) (plan-bytes : Bytes
 
   adds_up : (k : ℕ) → v ≡ Written k → (u : ℕ) (out : List ℕ) → move_on floor (take k after) u out ≡ move_on floor plan (s + u) out
   adds_up k e u out =
-      let x = later k e in
+      let x = (promise floor plan floor-bytes s before v after g).later k e in
       let f = x.floor_is in
       let p = x.numbers in
       read_moves floor (take k after) u out f (moved s p) (result_read floor plan s k after x)
       ∙ ap (λ (q : PlanNumbers). written AboutPlan (plan_file q) out) (moved_added f p (valid f plan p x.read.plan_read_lem) s u)
       ∙ sym (read_moves floor plan (s + u) out f p x.read)
 
-  pub promise : MovedOn floor plan s before v after
-  promise = record {
-    outcome = g;
-    numbers = subst (Given moving_on) (sym g.answer) (moving_given floor plan s before);
-    later = later;
-    room = room;
-    by_0 = by_0;
-    adds_up = adds_up;
-  }
+  pub added_up : MovesAddUp floor plan s before v after
+  added_up = record { by_0 = by_0; adds_up = adds_up }

@@ -1,5 +1,5 @@
 -- Moving on and replacing from the bytes of floor and plan, by computation.
-use Rattle.std.specs.Prelude.{ℕ, ◌≡◌, refl, drop, replicate}
+use Rattle.std.specs.Prelude.{ℕ, ◌≡◌, refl}
 use mathlib.Core.List.{List, [], ◌∷◌, ◌++◌, flatten}
 use Rattle.endian.specs.Little.{value, bytes}
 use Rattle.refusal.specs.Codes.{refused}
@@ -16,18 +16,18 @@ use Rattle.plan.specs.After.{after_reading}
 use Rattle.row.specs.Lasso.{next_step}
 use Rattle.row.specs.Moves.{some_lane_opens, is_open, lowest_shut, judged_moves}
 use Rattle.moves.specs.Carts.{judged_carts}
-use Rattle.edit.specs.Moved.{turned, moved_row, moved_head, move_on}
+use Rattle.edit.specs.Moved.{moved_row, moved_head, move_on}
 use Rattle.edit.specs.Replaced.{replace_row}
 
 -- six steps, the lap from step 2 on
-abbrev six : List ℕ
+abbrev pub six : List ℕ
 six = 10 ∷ 11 ∷ 12 ∷ 13 ∷ 14 ∷ 15 ∷ []
 
-abbrev by : ℕ → List ℕ
+abbrev pub by : ℕ → List ℕ
 by s = moved_row 6 2 s six
 
 -- two places; lanes 0 to 1 and, for these classes, 1 to 0; two carts of class 0 from place 0
-abbrev floor : ℕ → List ℕ
+abbrev pub floor : ℕ → List ℕ
 floor classes =
     4 ∷ 0 ∷ 1 ∷ 0 ∷ 1 ∷ 0 ∷ 0 ∷ 0 ∷
     4 ∷ 0 ∷ 1 ∷ 0 ∷ 2 ∷ 0 ∷ 0 ∷ 0 ∷
@@ -37,41 +37,28 @@ floor classes =
     2 ∷ 0 ∷ 3 ∷ 0 ∷ 0 ∷ 0 ∷ []
 
 -- two steps, the lap from step 0 on, drift 3: 22 bytes
-abbrev plan : ℕ → ℕ → ℕ → ℕ → List ℕ
+abbrev pub plan : ℕ → ℕ → ℕ → ℕ → List ℕ
 plan a b c d =
     6 ∷ 0 ∷ 4 ∷ 0 ∷ 2 ∷ 0 ∷ 0 ∷ 0 ∷ 3 ∷ 0 ∷
     2 ∷ 0 ∷ 5 ∷ 0 ∷ a ∷ b ∷
     2 ∷ 0 ∷ 5 ∷ 0 ∷ c ∷ d ∷ []
 
 -- the same with the lap from step 1 on; and moved on by 1: one step is left, 20 bytes
-abbrev stemmed : List ℕ
+abbrev pub stemmed : List ℕ
 stemmed = 6 ∷ 0 ∷ 4 ∷ 0 ∷ 2 ∷ 0 ∷ 1 ∷ 0 ∷ 3 ∷ 0 ∷ 2 ∷ 0 ∷ 5 ∷ 0 ∷ 0 ∷ 1 ∷ 2 ∷ 0 ∷ 5 ∷ 0 ∷ 1 ∷ 0 ∷ []
 
-abbrev stemless : List ℕ
+abbrev pub stemless : List ℕ
 stemless = 6 ∷ 0 ∷ 4 ∷ 0 ∷ 1 ∷ 0 ∷ 0 ∷ 0 ∷ 3 ∷ 0 ∷ 1 ∷ 0 ∷ 5 ∷ 0 ∷ 1 ∷ 1 ∷ 0 ∷ 5 ∷ 0 ∷ 0 ∷ []
 
 -- a buffer of 23 bytes, the last of them 8
-abbrev buffer : List ℕ
+abbrev pub buffer : List ℕ
 buffer = 9 ∷ 9 ∷ 9 ∷ 9 ∷ 9 ∷ 9 ∷ 9 ∷ 9 ∷ 9 ∷ 9 ∷ 9 ∷ 9 ∷ 9 ∷ 9 ∷ 9 ∷ 9 ∷ 9 ∷ 9 ∷ 9 ∷ 9 ∷ 9 ∷ 9 ∷ 8 ∷ []
 
--- a run-in of one step and a lap of three; moved on by 2, and by 3
-abbrev bent : List ℕ
-bent = 6 ∷ 0 ∷ 4 ∷ 0 ∷ 4 ∷ 0 ∷ 1 ∷ 0 ∷ 3 ∷ 0 ∷ 4 ∷ 0 ∷ 5 ∷ 0 ∷ 0 ∷ 1 ∷ 1 ∷ 0 ∷ 4 ∷ 0 ∷ 5 ∷ 0 ∷ 1 ∷ 0 ∷ 0 ∷ 1 ∷ []
-
-abbrev bent_by2 : List ℕ
-bent_by2 = 6 ∷ 0 ∷ 4 ∷ 0 ∷ 3 ∷ 0 ∷ 0 ∷ 0 ∷ 3 ∷ 0 ∷ 3 ∷ 0 ∷ 5 ∷ 0 ∷ 1 ∷ 0 ∷ 1 ∷ 3 ∷ 0 ∷ 5 ∷ 0 ∷ 0 ∷ 1 ∷ 0 ∷ []
-
-abbrev bent_by3 : List ℕ
-bent_by3 = 6 ∷ 0 ∷ 4 ∷ 0 ∷ 3 ∷ 0 ∷ 0 ∷ 0 ∷ 3 ∷ 0 ∷ 3 ∷ 0 ∷ 5 ∷ 0 ∷ 0 ∷ 1 ∷ 1 ∷ 3 ∷ 0 ∷ 5 ∷ 0 ∷ 1 ∷ 0 ∷ 0 ∷ []
-
-abbrev nines : ℕ → List ℕ
-nines n = replicate n 9
-
-abbrev gives : Verdict → List ℕ → Outcome
+abbrev pub gives : Verdict → List ℕ → Outcome
 gives v out = record { answer = v; out = out }
 
 -- the definitions that both operations compute with, under one name
-computing : List ℕ → List ℕ → ℕ → List ℕ → Outcome × Outcome
+unfoldable pub computing : List ℕ → List ℕ → ℕ → List ℕ → Outcome × Outcome
 unfolding
     flatten value bytes split records_in encoded layout parts_in parts judged walk read_floor bodies_of
     judged_head judged_places judged_row read_rows read_plan after_reading
@@ -96,39 +83,11 @@ pub worked :
     × (by 65535 ≡ 13 ∷ 14 ∷ 15 ∷ 12 ∷ [])
     × (moved_head 1 (head_of 6 2 7) ≡ head_of 5 1 7)
     × (moved_head 65534 (head_of 6 2 7) ≡ head_of 4 0 7)
-    -- at l both formulas agree
-    × (by 2 ≡ turned 0 (drop 2 six))
-    × (moved_head 2 (head_of 6 2 7) ≡ head_of 4 0 7)
-    -- moved on again, within the run-in and from there into the lap
-    × (moved_row 5 1 1 (by 1) ≡ by 2)
-    × (moved_row 5 1 4 (by 1) ≡ by 5)
-    -- and from a plan without a run-in, where by 0 nothing is turned again
-    × (moved_row 4 0 0 (by 5) ≡ 15 ∷ 12 ∷ 13 ∷ 14 ∷ [])
-    × (moved_row 4 0 2 (by 5) ≡ 13 ∷ 14 ∷ 15 ∷ 12 ∷ [])
-    × (moved_row 4 0 2 (by 5) ≡ by 7)
-    × (moved_row 4 0 65530 (by 5) ≡ by 65535)
-    × (moved_head 65530 (head_of 4 0 7) ≡ head_of 4 0 7)
     -- a lap of two turned by one; "bytes past the result" stay
     × (move_on (floor 0) (plan 0 1 1 0) 1 buffer ≡ gives (Written 22) (plan 1 0 0 1 ++ (8 ∷ [])))
     -- neither starts nor lanes are compared
     × (move_on (floor 0) (plan 1 1 1 0) 65534 buffer ≡ gives (Written 22) (plan 1 1 1 0 ++ (8 ∷ [])))
     × (move_on (floor 0) stemmed 1 buffer ≡ gives (Written 20) (stemless ++ (9 ∷ 9 ∷ 8 ∷ [])))
-    -- by 0 the plan's own bytes; what was moved on by 1, moved on by 65,534, is the plan moved on by 65,535
-    × (move_on (floor 0) stemmed 0 buffer ≡ gives (Written 22) (stemmed ++ (8 ∷ [])))
-    × (move_on (floor 0) stemless 0 buffer ≡ gives (Written 20) (stemless ++ (9 ∷ 9 ∷ 8 ∷ [])))
-    × (move_on (floor 0) stemless 65534 buffer ≡ gives (Written 20) (stemless ++ (9 ∷ 9 ∷ 8 ∷ [])))
-    × (move_on (floor 0) stemmed 65535 buffer ≡ gives (Written 20) (stemless ++ (9 ∷ 9 ∷ 8 ∷ [])))
-    × (move_on (floor 0) (plan 1 0 0 1) 1 buffer ≡ move_on (floor 0) (plan 0 1 1 0) 2 buffer)
-    -- a run-in and a lap of three: by 2, by as many and 85 laps, then by 1, and by 3 at once
-    × (move_on (floor 0) bent 2 (nines 26) ≡ gives (Written 24) (bent_by2 ++ nines 2))
-    × (move_on (floor 0) bent 257 (nines 26) ≡ gives (Written 24) (bent_by2 ++ nines 2))
-    × (move_on (floor 0) bent_by2 1 (nines 26) ≡ gives (Written 24) (bent_by3 ++ nines 2))
-    × (move_on (floor 0) bent 3 (nines 26) ≡ gives (Written 24) (bent_by3 ++ nines 2))
-    -- with just room enough, and a byte short either way; by 0 into as many bytes as the plan has
-    × (move_on (floor 0) bent_by2 1 (nines 24) ≡ gives (Written 24) bent_by3)
-    × (move_on (floor 0) bent_by2 1 (nines 23) ≡ gives (AboutPlan (refused 18 24 0)) (nines 23))
-    × (move_on (floor 0) bent 3 (nines 23) ≡ gives (AboutPlan (refused 18 24 0)) (nines 23))
-    × (move_on (floor 0) bent 0 (nines 26) ≡ gives (Written 26) bent)
     -- 18 about the plan, with the needed length
     × (move_on (floor 0) (plan 0 0 0 0) 0 (7 ∷ []) ≡ gives (AboutPlan (refused 18 22 0)) (7 ∷ []))
     × (move_on (floor 0) stemmed 1 (7 ∷ []) ≡ gives (AboutPlan (refused 18 20 0)) (7 ∷ []))
@@ -154,28 +113,6 @@ pub worked :
     × (new 0 (plan 0 0 0 2) 1 (0 ∷ 0 ∷ []) ≡ refuses 9 16 0 (plan 0 0 0 2))
 unfolding computing
 worked = (
-  refl,
-  refl,
-  refl,
-  refl,
-  refl,
-  refl,
-  refl,
-  refl,
-  refl,
-  refl,
-  refl,
-  refl,
-  refl,
-  refl,
-  refl,
-  refl,
-  refl,
-  refl,
-  refl,
-  refl,
-  refl,
-  refl,
   refl,
   refl,
   refl,

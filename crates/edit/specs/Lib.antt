@@ -6,3 +6,4 @@ pub mod Judgement
 pub mod Promises
 -- worked cases
 pub mod Examples
+pub mod SumExamples

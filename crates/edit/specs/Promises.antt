@@ -43,6 +43,9 @@ pub record MovedOn (floor plan : List ℕ) (s : ℕ) (before : List ℕ) (v : Ve
   pub later : (k : ℕ) → v ≡ Written k → Later floor plan s k after
   -- a plan that is read is moved on if there is room
   pub room : (f : Floor) (p : PlanNumbers) → ReadAs floor plan f p → file_length f (moved s p) ≤ length before → v ≡ Written (file_length f (moved s p))
+
+-- what moving on promises of a second move, beside MovedOn
+pub record MovesAddUp (floor plan : List ℕ) (s : ℕ) (before : List ℕ) (v : Verdict) (after : List ℕ) : Type 0 where
   -- document 02, 7): "moving on by 0 gives the plan back": the outcome is that of putting the plan's own bytes
   pub by_0 : s ≡ 0 → (f : Floor) (p : PlanNumbers) → ReadAs floor plan f p → Gives (written AboutPlan plan before) v after
   -- "Moving on by s and then by u must give the very bytes of moving on by s + u": whatever the buffer, the result, moved on by u in turn, has the outcome of

@@ -8,7 +8,7 @@ ghost use Rattle.plan.specs.Numbers.{plan_file};
 ghost use Rattle.plan.specs.Plan.{block_rows, held_numbers};
 ghost use Rattle.plan.specs.Valid.{HeadInRange};
 ghost use Rattle.edit.specs.Moved.{turned, moved_row, moved_head, moved};
-ghost use Rattle.edit.specs.Promises.{MovedOn};
+ghost use Rattle.edit.specs.Promises.{MovedOn, MovesAddUp};
 
 use plan::Head;
 use refusal::Verdict;
@@ -93,7 +93,8 @@ fn put_moved(carts: usize, h: Head, block: &[u8], s: usize, out: &mut [u8]) -> V
 
 // Moves a plan on by s steps.
 pub fn move_on(floor: &[u8], plan: &[u8], s: u16, out: &mut [u8]) -> Verdict
-    ensures { MovedOn floor.now plan.now s out.old result out.new }
+    ensures moved { MovedOn floor.now plan.now s out.old result out.new }
+    ensures added_up { MovesAddUp floor.now plan.now s out.old result out.new }
 {
     let r = plan::read(floor, plan);
     let v = r.verdict;

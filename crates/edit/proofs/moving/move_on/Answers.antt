@@ -2,6 +2,7 @@ use Prim.Native.Nat.{ℕ}
 use native.Mathlib.Omega.{arith}
 use mathlib.Core.List.{List}
 use mathlib.Core.Path.{refl, sym, ap, subst, ◌∙◌}
+use Rattle.endian.specs.Little.{Bytes}
 use Rattle.refusal.specs.declared.Verdict.TheVariants.{Plan as AboutPlan}
 use Rattle.refusal.specs.Outcome.{Outcome, Gives, unchanged, written}
 use Rattle.floor.specs.declared.Floor.{Floor}
@@ -10,7 +11,8 @@ use Rattle.plan.specs.Read.{accepts_if, after_accepted, after_refused, held_numb
 use Rattle.plan.specs.Promises.{AcceptedPlan}
 use Rattle.plan.specs.Numbers.{plan_file}
 use Rattle.plan.specs.Plan.{PlanNumbers}
-use Rattle.edit.proofs.MovedWritten.{promise}
+use Rattle.edit.proofs.MovedReads.{promise}
+use Rattle.edit.proofs.MovedWritten.{added_up}
 use Rattle.edit.specs.Moved.{moved, move_on}
 use Rattle.edit.proofs.moving.move_on.Goals as goal
 
@@ -24,9 +26,10 @@ returns-then-not-accepts c = let a = c.args in
     let e =
     after_refused (λ v. unchanged v a.out.now) (go a.out.now a.s) a.floor.now a.plan.now _
     c.read-r.ensures.answer (sym c.accepts.ensures ∙ c.if-not-accepts.true) in
-    promise _ _ (λ i. omega (arith, c.type_inv.floor i))
-    (λ i. omega (arith, c.type_inv.plan i)) _ _ _ _
-    (subst (λ (o : Outcome). Gives o c.read-r.result.verdict a.out.now) (sym e) (record { answer = refl; out = refl }))
+    let g = subst (λ (o : Outcome). Gives o c.read-r.result.verdict a.out.now) (sym e) (record { answer = refl; out = refl }) in
+    let floor_bytes : Bytes a.floor.now = λ i. omega (arith, c.type_inv.floor i) in
+    let plan_bytes : Bytes a.plan.now = λ i. omega (arith, c.type_inv.plan i) in
+    record { moved = promise _ _ floor_bytes _ _ _ _ g; added_up = added_up _ _ floor_bytes plan_bytes _ _ _ _ g }
 
 pub put_moved-requires : goal.put_moved-requires
 put_moved-requires c = let read-it : AcceptedPlan c.args.floor.now
@@ -47,10 +50,7 @@ returns c = let read-it : AcceptedPlan c.args.floor.now
     ap (go a.out.now a.s c.read-r.result.floor)
     (held_numbers_lem _ _ _ w)
     ∙ sym (after_accepted (λ v. unchanged v a.out.now) (go a.out.now a.s) a.floor.now a.plan.now _ w) in
-    promise _ _
-    (λ i. omega
-    (arith, c.type_inv.floor i))
-    (λ i. omega
-    (arith, c.type_inv.plan i)) _ _ _ _
-    (subst (λ (o : Outcome). Gives o c.put_moved.result c.put_moved.new.out) e
-    c.put_moved.ensures)
+    let g = subst (λ (o : Outcome). Gives o c.put_moved.result c.put_moved.new.out) e c.put_moved.ensures in
+    let floor_bytes : Bytes a.floor.now = λ i. omega (arith, c.type_inv.floor i) in
+    let plan_bytes : Bytes a.plan.now = λ i. omega (arith, c.type_inv.plan i) in
+    record { moved = promise _ _ floor_bytes _ _ _ _ g; added_up = added_up _ _ floor_bytes plan_bytes _ _ _ _ g }
