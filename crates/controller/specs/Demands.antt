@@ -39,7 +39,7 @@ use Rattle.plancheck.specs.Stages.{same_clauses}
 use Rattle.plancheck.specs.Demands.{never_meet, never_exchanged}
 use Rattle.suffix.specs.Promises.{TrueLater}
 use Rattle.controller.specs.Told.{read_both_lem}
-use Rattle.controller.specs.Edge.{FloorReadCode, PlanReadCode, FloorWrittenCode, PlanWrittenCode, RulesReadCode, MovesCheckedCode, PlanCheckedCode, MovedOnCode, RowReplacedCode}
+use Rattle.controller.specs.Edge.{FloorReadCode, PlanReadCode, FloorWrittenCode, PlanWrittenCode, RulesReadCode, MovesCheckedCode, PlanCheckedCode, MovedOnCode, MovesAddUpCode, RowReplacedCode}
 
 ---- Files: "floor and plan files read and write back to the same bytes".
 -- cartplan_read_floor says 0: cartplan_write_floor of the numbers that the file holds says 0, with its length, and gives its bytes
@@ -105,12 +105,12 @@ moved_is floor plan s before after c w z =
     zero_writes moving_on refl refl (move_on floor plan s before).answer (moving_given floor plan s before) (ap (λ (x : Code). x.number) code ∙ z)
     ∙ ap (λ (x : Code). Written x.first) code
 
-module _ (floor plan : List ℕ) (s : ℕ) (before after : List ℕ) (c : Code) (w : MovedOnCode floor plan s before c after) where
+module _ (floor plan : List ℕ) (s : ℕ) (before after : List ℕ) (c : Code) (a : MovesAddUpCode floor plan s before c after) where
   -- by 0, into a buffer that holds it: 0, the plan's length and its very bytes, and behind them the buffer's own
   pub plan_back : s ≡ 0 → (f : Floor) (p : PlanNumbers) → ReadAs floor plan f p → length plan ≤ length before
       → (c.number ≡ 0) × (c.first ≡ length plan) × (after ≡ plan ++ drop (length plan) before)
   plan_back z f p files enough =
-      let x = w.by_0 z f p files in
+      let x = a.by_0 z f p files in
       let o = written AboutPlan plan before in
       let put = with_room AboutPlan plan before o.answer o.out (record { answer = refl; out = refl }) enough in
       let code = x.coded.code ∙ ap code_of put.0 in
@@ -118,12 +118,12 @@ module _ (floor plan : List ℕ) (s : ℕ) (before after : List ℕ) (c : Code) 
 
   module _ (z : c.number ≡ 0) where
     -- floor and plan can be read, and so can the result; a clause, and a sheet, is true in step at its start exactly if it was at the step of counter s
-    pub moved_truth : (f : Floor) × (p : PlanNumbers) × (q : PlanNumbers) × ReadAs floor plan f p × ReadAs floor (take c.first after) f q
-        × TrueLater (plan_rows floor f p) (plan_rows floor f q) s
-    moved_truth =
+    pub moved_truth : MovedOnCode floor plan s before c after → (f : Floor) × (p : PlanNumbers) × (q : PlanNumbers) × ReadAs floor plan f p
+        × ReadAs floor (take c.first after) f q × TrueLater (plan_rows floor f p) (plan_rows floor f q) s
+    moved_truth w =
         let x = w.later z in
         let result = result_read floor plan s c.first after x in
-        (x.floor_is, x.numbers, moved s x.numbers, x.read, result, w.truth z x.floor_is x.numbers (moved s x.numbers) x.read result)
+        (x.floor_is, x.numbers, moved s x.numbers, x.read, result, a.truth z x.floor_is x.numbers (moved s x.numbers) x.read result)
 
     -- the result has drift 0 and cartplan_check says 0 of it: every clause of the sheet was true in step at the step of counter s
     pub moved_checked : (rules : List ℕ) (c' : Code) → PlanCheckedCode floor (take c.first after) rules c' → c'.number ≡ 0
@@ -131,7 +131,7 @@ module _ (floor plan : List ℕ) (s : ℕ) (before after : List ℕ) (c : Code) 
         → (cs : List Clause) × AcceptedSheet rules cs × All (TrueOnStep (plan_rows floor f p) s) cs
     moved_checked rules c' k zero f p q files again none =
         let x = (k.means.in_step f q again none).0 zero in
-        (x.0, x.1.clauses, ((w.truth z f p q files again).sheet x.0).0 x.4)
+        (x.0, x.1.clauses, ((a.truth z f p q files again).sheet x.0).0 x.4)
 
     -- moved on by u once more, and the plan moved on by s + u at once
     module _ (u : ℕ) (before' after' : List ℕ) (c' : Code) (w' : MovedOnCode floor (take c.first after) u before' c' after')
@@ -139,7 +139,7 @@ module _ (floor plan : List ℕ) (s : ℕ) (before after : List ℕ) (c : Code) 
       -- both are written: "the very bytes"
       pub same_bytes : c'.number ≡ 0 → (c'.first ≡ c''.first) × (take c'.first after' ≡ take c''.first after'')
       same_bytes e =
-          one_result floor (take c.first after) plan u (s + u) (w.adds_up z u)
+          one_result floor (take c.first after) plan u (s + u) (a.adds_up z u)
           before' (move_on floor (take c.first after) u before').answer after' (record { answer = refl; out = w'.coded.out })
           before'' (move_on floor plan (s + u) before'').answer after'' (record { answer = refl; out = w''.coded.out }) c''.first
           (moved_is floor plan (s + u) before'' after'' c'' w'' zero) c'.first (moved_is floor (take c.first after) u before' after' c' w' e)
@@ -147,12 +147,12 @@ module _ (floor plan : List ℕ) (s : ℕ) (before after : List ℕ) (c : Code) 
       -- and they are "as long as .. the buffers hold each result"
       pub moves_add : c''.first ≤ length before' → (c'.number ≡ 0) × (c'.first ≡ c''.first) × (take c'.first after' ≡ take c''.first after'')
       moves_add enough =
-          let a =
-          held_too floor (take c.first after) plan u (s + u) (w.adds_up z u)
+          let held =
+          held_too floor (take c.first after) plan u (s + u) (a.adds_up z u)
           before' (move_on floor (take c.first after) u before').answer after' (record { answer = refl; out = w'.coded.out })
           before'' (move_on floor plan (s + u) before'').answer after'' (record { answer = refl; out = w''.coded.out }) c''.first
           (moved_is floor plan (s + u) before'' after'' c'' w'' zero) enough in
-          let e : c'.number ≡ 0 = ap (λ (x : Code). x.number) w'.coded.coded.code ∙ ap (λ (v : Verdict). (code_of v).number) a in
+          let e : c'.number ≡ 0 = ap (λ (x : Code). x.number) w'.coded.coded.code ∙ ap (λ (v : Verdict). (code_of v).number) held in
           (e, (same_bytes e).0, (same_bytes e).1)
 
 ---- 11: the cart leaves the step for another place, so that it is never given for a step on which a cart is parked.

@@ -144,6 +144,9 @@ pub record MovedOnCode (floor plan : List ℕ) (s : ℕ) (before : List ℕ) (c 
   -- a plan that is read is moved on if there is room
   pub room : (f : Floor) (p : PlanNumbers) → ReadAs floor plan f p → file_length f (moved s p) ≤ length before
       → (c.number ≡ 0) × (c.first ≡ file_length f (moved s p))
+
+-- cartplan_move_on: what it promises of a second move and of clauses, beside MovedOnCode
+pub record MovesAddUpCode (floor plan : List ℕ) (s : ℕ) (before : List ℕ) (c : Code) (after : List ℕ) : Type 0 where
   -- document 02, 7): "moving on by 0 gives the plan back": answer and bytes are those of putting the plan itself
   pub by_0 : s ≡ 0 → (f : Floor) (p : PlanNumbers) → ReadAs floor plan f p → CodedOut moving_on (written AboutPlan plan before) before c after
   -- "Moving on by s and then by u must give the very bytes of moving on by s + u": whatever the buffer, the result, moved on by u in turn, has the outcome of

@@ -38,14 +38,14 @@ use Rattle.moves.specs.Promises.{FirstRefused, MovesChecked}
 use Rattle.moves.specs.Demands.{lowest_left}
 use Rattle.edit.specs.Moved.{moved, move_on}
 use Rattle.edit.specs.Replaced.{replace_row}
-use Rattle.edit.specs.Promises.{MovedOn, RowReplaced}
+use Rattle.edit.specs.Promises.{MovedOn, MovesAddUp, RowReplaced}
 use Rattle.plancheck.specs.Check.{checked}
 use Rattle.plancheck.specs.Claims.{means_as}
 use Rattle.plancheck.specs.Promises.{PlanChecked}
 use Rattle.plancheck.specs.Demands.{check_11}
 use Rattle.plancheck.specs.ShownClause.{shown_clause}
 use Rattle.suffix.specs.PlanSuffix.{true_of_result}
-use Rattle.controller.specs.Edge.{Coded, CodedOut, refusal_in, FloorReadCode, PlanReadCode, FloorWrittenCode, PlanWrittenCode, RulesReadCode, MovesCheckedCode, PlanCheckedCode, MovedOnCode, RowReplacedCode}
+use Rattle.controller.specs.Edge.{Coded, CodedOut, refusal_in, FloorReadCode, PlanReadCode, FloorWrittenCode, PlanWrittenCode, RulesReadCode, MovesCheckedCode, PlanCheckedCode, MovedOnCode, MovesAddUpCode, RowReplacedCode}
 
 abbrev num : Verdict → ℕ
 num v = (code_of v).number
@@ -252,9 +252,9 @@ move_writes floor s k before = go (reading_cases (λ v. unchanged v before) (λ 
     go (plan_refused r e) = ([], subst (Writes before []) (sym e) (stays (AboutPlan r) (about_plan r)))
     go (both_read f p w e) = (plan_file (moved k p), subst (Writes before (plan_file (moved k p))) (sym e) (puts AboutPlan about_plan))
 
-pub moved_on : (floor s : List ℕ) → Bytes floor → (k : ℕ) (before : List ℕ) (v : Verdict) (after : List ℕ) → MovedOn floor s k before v after
-    → Given moving_on v → (c : Code) → c ≡ code_of v → MovedOnCode floor s k before c after
-moved_on floor s b k before v after w g c q =
+pub moved_on : (floor s : List ℕ) (k : ℕ) (before : List ℕ) (v : Verdict) (after : List ℕ) → MovedOn floor s k before v after → Given moving_on v
+    → (c : Code) → c ≡ code_of v → MovedOnCode floor s k before c after
+moved_on floor s k before v after w g c q =
     let o = move_on floor s k before in
     let m = move_writes floor s k before in
     let done : num v ≡ 0 → v ≡ Written (code_of v).first = zero_writes moving_on refl refl v g in
@@ -264,9 +264,17 @@ moved_on floor s b k before v after w g c q =
       stays = λ z. let p = put_out before m.0 m.1 (code_of v).first (sym w.outcome.answer ∙ done z) in
           ap₂ drop p.0 (w.outcome.out ∙ p.1) ∙ drop-append_seam m.0 (drop (code_of v).first before);
       room = λ f p files fits. let e = w.room f p files fits in (ap num e, ap (λ (u : Verdict). (code_of u).first) e);
-      by_0 = λ z f p files. coded_out moving_on refl (written AboutPlan s before) before after v (w.by_0 z f p files) g
+    })
+
+-- and of a second move and of clauses
+pub moves_added : (floor s : List ℕ) → Bytes floor → (k : ℕ) (before : List ℕ) (v : Verdict) (after : List ℕ) → MovedOn floor s k before v after
+    → MovesAddUp floor s k before v after → Given moving_on v → (c : Code) → c ≡ code_of v → MovesAddUpCode floor s k before c after
+moves_added floor s b k before v after w a g c q =
+    let done : num v ≡ 0 → v ≡ Written (code_of v).first = zero_writes moving_on refl refl v g in
+    subst (λ (x : Code). MovesAddUpCode floor s k before x after) (sym q) (record {
+      by_0 = λ z f p files. coded_out moving_on refl (written AboutPlan s before) before after v (a.by_0 z f p files) g
           (kept_out before s (puts AboutPlan about_plan));
-      adds_up = λ z. w.adds_up (code_of v).first (done z);
+      adds_up = λ z. a.adds_up (code_of v).first (done z);
       truth = λ z. true_of_result floor s b k (code_of v).first after (w.later (code_of v).first (done z));
     })
 

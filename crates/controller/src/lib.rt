@@ -4,7 +4,7 @@
 ghost use Rattle.floor.specs.Numbers.{numbers};
 ghost use Rattle.plan.specs.Numbers.{head_of};
 ghost use Rattle.clause.specs.Promises.{Picked};
-ghost use Rattle.controller.specs.Edge.{FloorReadCode, PlanReadCode, FloorWrittenCode, PlanWrittenCode, RulesReadCode, MovesCheckedCode, PlanCheckedCode, MovedOnCode, RowReplacedCode};
+ghost use Rattle.controller.specs.Edge.{FloorReadCode, PlanReadCode, FloorWrittenCode, PlanWrittenCode, RulesReadCode, MovesCheckedCode, PlanCheckedCode, MovedOnCode, MovesAddUpCode, RowReplacedCode};
 
 use clause::Span;
 use refusal::Code;
@@ -85,7 +85,8 @@ pub extern "C" fn cartplan_check(floor: &[u8], plan: &[u8], rules: &[u8]) -> Cod
 // Moves a plan on by s steps.
 #[unsafe(no_mangle)]
 pub extern "C" fn cartplan_move_on(floor: &[u8], plan: &[u8], s: u16, out: &mut [u8]) -> Code
-    ensures { MovedOnCode floor.now plan.now s out.old result out.new }
+    ensures moved { MovedOnCode floor.now plan.now s out.old result out.new }
+    ensures added_up { MovesAddUpCode floor.now plan.now s out.old result out.new }
 {
     refusal::code_of(edit::move_on(floor, plan, s, out))
 }
