@@ -6,8 +6,8 @@ mod tasks;
 use std::io;
 use std::rt::Files;
 
-// How many data sets there are: tests/make-cases.py writes them.
-const CASES: usize = 1194;
+// How many data sets are run: tests/make-cases.py writes them. Those of moving on added up follow them in data/.
+const CASES: usize = 1125;
 
 // A digit as a byte of text.
 fn digit(n: usize) -> u8 {
