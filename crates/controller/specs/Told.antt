@@ -44,7 +44,7 @@ use Rattle.plancheck.specs.Claims.{means_as}
 use Rattle.plancheck.specs.Promises.{PlanChecked}
 use Rattle.plancheck.specs.Demands.{check_11}
 use Rattle.plancheck.specs.ShownClause.{shown_clause}
-use Rattle.suffix.specs.PlanSuffix.{true_of_result}
+use Rattle.suffix.proofs.PlanSuffix.{true_of_result}
 use Rattle.controller.specs.Edge.{Coded, CodedOut, refusal_in, FloorReadCode, PlanReadCode, FloorWrittenCode, PlanWrittenCode, RulesReadCode, MovesCheckedCode, PlanCheckedCode, MovedOnCode, MovesAddUpCode, RowReplacedCode}
 
 abbrev num : Verdict → ℕ

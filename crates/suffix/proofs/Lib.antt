@@ -1,0 +1,2 @@
+-- laws that the definitions of specs/ have
+pub mod PlanSuffix
