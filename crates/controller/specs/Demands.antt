@@ -34,9 +34,9 @@ use Rattle.conflict.specs.Meaning.{Vertex, Swap, Conflict, Earliest}
 use Rattle.conflict.specs.OfPlan.{plan_routes, ConflictFree}
 use Rattle.plancheck.specs.Check.{plan_rows}
 use Rattle.plancheck.specs.Meaning.{HasGroups, FirstLacking, Plain, Kept, ReadAndOpen, NoneAhead}
-use Rattle.plancheck.specs.FirstClause.{first_21}
-use Rattle.plancheck.specs.Stages.{same_clauses}
-use Rattle.plancheck.specs.Demands.{never_meet, never_exchanged}
+use Rattle.plancheck.proofs.FirstClause.{first_21}
+use Rattle.plancheck.proofs.Stages.{same_clauses}
+use Rattle.plancheck.proofs.Demands.{never_meet, never_exchanged}
 use Rattle.suffix.specs.Promises.{TrueLater}
 use Rattle.controller.specs.Told.{read_both_lem}
 use Rattle.controller.specs.Edge.{FloorReadCode, PlanReadCode, FloorWrittenCode, PlanWrittenCode, RulesReadCode, MovesCheckedCode, PlanCheckedCode, MovedOnCode, MovesAddUpCode, RowReplacedCode}

@@ -40,10 +40,10 @@ use Rattle.edit.specs.Moved.{moved, move_on}
 use Rattle.edit.specs.Replaced.{replace_row}
 use Rattle.edit.specs.Promises.{MovedOn, MovesAddUp, RowReplaced}
 use Rattle.plancheck.specs.Check.{checked}
-use Rattle.plancheck.specs.Claims.{means_as}
+use Rattle.plancheck.proofs.Claims.{means_as}
 use Rattle.plancheck.specs.Promises.{PlanChecked}
-use Rattle.plancheck.specs.Demands.{check_11}
-use Rattle.plancheck.specs.ShownClause.{shown_clause}
+use Rattle.plancheck.proofs.Demands.{check_11}
+use Rattle.plancheck.proofs.ShownClause.{shown_clause}
 use Rattle.suffix.proofs.PlanSuffix.{true_of_result}
 use Rattle.controller.specs.Edge.{Coded, CodedOut, refusal_in, FloorReadCode, PlanReadCode, FloorWrittenCode, PlanWrittenCode, RulesReadCode, MovesCheckedCode, PlanCheckedCode, MovedOnCode, MovesAddUpCode, RowReplacedCode}
 

@@ -16,7 +16,7 @@ use Rattle.edit.proofs.MovedWritten.{result_read}
 use Rattle.cltl.specs.Suffix.{Suffix}
 use Rattle.cltl.proofs.Promises.{suffix_start}
 use Rattle.plancheck.specs.Check.{marks_at, plan_rows}
-use Rattle.plancheck.specs.Stages.{proper}
+use Rattle.plancheck.proofs.Stages.{proper}
 use Rattle.suffix.specs.Promises.{TrueLater}
 
 module _ (floor plan : List ℕ) (f : Floor) (p : PlanNumbers) (files : ReadAs floor plan f p) (s : ℕ) where

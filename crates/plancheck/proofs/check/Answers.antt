@@ -13,9 +13,9 @@ use Rattle.plan.specs.Read.{held_length, accepts_if, after_accepted, after_refus
 use Rattle.plan.specs.Promises.{AcceptedPlan}
 use Rattle.plan.specs.Plan.{PlanNumbers, place_on_step, held_numbers}
 use Rattle.plancheck.specs.Check.{stages, checked}
-use Rattle.plancheck.specs.Stages.{stage_moves, stage_conflict, stage_sheet, stage_clauses}
+use Rattle.plancheck.proofs.Stages.{stage_moves, stage_conflict, stage_sheet, stage_clauses}
 use Rattle.plancheck.specs.Promises.{PlanChecked}
-use Rattle.plancheck.specs.Claims.{claims}
+use Rattle.plancheck.proofs.Claims.{claims}
 use Rattle.plancheck.proofs.check.Goals as goal
 
 pub returns-then-not-accepts : goal.returns-then-not-accepts

@@ -9,7 +9,7 @@ use Rattle.table.specs.Keeping.{kept_all, kept_then, kept_shown}
 use Rattle.drift.specs.Tree.{clause_tree}
 use Rattle.drift.specs.Answer.{rows_on}
 use Rattle.drift.specs.Lending.{still_lent}
-use Rattle.plancheck.specs.Turns.{clause_kept, clause_fails}
+use Rattle.plancheck.proofs.Turns.{clause_kept, clause_fails}
 use native.Mathlib.Omega.{arith}
 use Rattle.plancheck.proofs.clauses.first_found.Goals as goal
 

@@ -4,7 +4,7 @@ use Rattle.refusal.specs.Faults.{not_is}
 use Rattle.refusal.specs.Accepting.{stops, goes_on}
 use Rattle.refusal.specs.declared.Verdict.TheVariants.{Rules as AboutRules}
 use Rattle.drift.specs.Tree.{clause_tree}
-use Rattle.plancheck.specs.Turns.{next_told, next_none}
+use Rattle.plancheck.proofs.Turns.{next_told, next_none}
 use Rattle.plancheck.proofs.clauses.first_next.Goals as goal
 
 pub returns-then-not-accepts : goal.returns-then-not-accepts

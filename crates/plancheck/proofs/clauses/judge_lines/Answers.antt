@@ -17,11 +17,12 @@ use Rattle.drift.specs.Lacked.{fewer_nodes}
 use Rattle.drift.specs.Tallying.{no_tallies}
 use Rattle.drift.specs.Lending.{still_lent}
 use Rattle.drift.specs.Placing.{six_end}
-use Rattle.plancheck.specs.Lines.{accepted_short}
-use Rattle.plancheck.specs.LineHeld.{Ready, ready}
+use Rattle.plancheck.proofs.Lines.{accepted_short}
+use Rattle.plancheck.proofs.LineHeld.{Ready, ready}
 use Rattle.plancheck.specs.Check.{clause_verdict}
 use Rattle.plancheck.specs.Marked.{placed, unborne, shown, bits_kept, fleet_word, few_words, rows_are}
-use Rattle.plancheck.specs.Turns.{next_of, going_start, going_end, going_21, going_on, none_lacked, some_lacked}
+use Rattle.plancheck.specs.Turns.{next_of}
+use Rattle.plancheck.proofs.Turns.{going_start, going_end, going_21, going_on, none_lacked, some_lacked}
 use native.Mathlib.Omega.{arith}
 use Rattle.plancheck.proofs.clauses.judge_lines.Invariants.{rows}
 use Rattle.plancheck.proofs.clauses.judge_lines.Goals as goal

@@ -10,7 +10,7 @@ use Rattle.table.specs.Layout.{Shown}
 use Rattle.drift.specs.Lent.{Lent}
 use Rattle.drift.specs.Tallies.{Tallies}
 use Rattle.plancheck.specs.Check.{plan_rows}
-use Rattle.plancheck.specs.Turns.{Going}
+use Rattle.plancheck.proofs.Turns.{Going}
 use Rattle.plancheck.proofs.clauses.judge_lines.Given as goal
 
 -- the plan's rows

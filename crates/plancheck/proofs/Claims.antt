@@ -30,9 +30,9 @@ use Rattle.cltl.proofs.Promises as cltl
 use Rattle.plancheck.specs.Check.{plan_rows, checked}
 use Rattle.plancheck.specs.Meaning.{drifted, Plain, Kept, Conflict20, Lacks21, ReadAndOpen}
 use Rattle.plancheck.specs.Promises.{Means, PlanChecked}
-use Rattle.plancheck.specs.FirstClause.{told_lacking}
-use Rattle.plancheck.specs.Stages.{same_clauses, proper, on_routes, accepted_as, as_accepted, as_20, as_21, accepted_read_lem}
-use Rattle.plancheck.specs.Refusing.{Meant, meant, given, is_plan, is_20, is_21, is_16, is_17, is_clause, is_sheet}
+use Rattle.plancheck.proofs.FirstClause.{told_lacking}
+use Rattle.plancheck.proofs.Stages.{same_clauses, proper, on_routes, accepted_as, as_accepted, as_20, as_21, accepted_read_lem}
+use Rattle.plancheck.proofs.Refusing.{Meant, meant, given, is_plan, is_20, is_21, is_16, is_17, is_clause, is_sheet}
 
 drifted_file : (p : PlanNumbers) (d : ℕ) → stored (plan_file p) 8 (bytes 2 d) ≡ plan_file (drifted p d)
 unfolding layout encoded bytes

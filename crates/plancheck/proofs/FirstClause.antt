@@ -17,7 +17,7 @@ use Rattle.cltl.specs.Rules.{rules, has_next}
 use Rattle.cltl.specs.Step.{failing}
 use Rattle.plancheck.specs.Check.{lacked, lack_verdict, group_verdict, next_verdict, kept_verdict}
 use Rattle.plancheck.specs.Meaning.{HasGroups, FirstLacking, Plain, Kept}
-use Rattle.plancheck.specs.Lacking.{neither_less, Lacked, none, some, lacks, not_lacking, one_first}
+use Rattle.plancheck.proofs.Lacking.{neither_less, Lacked, none, some, lacks, not_lacking, one_first}
 
 pub not_refused : {x : Refusal} → AboutRules x ≡ Accepted → ⊥
 not_refused e = let z : ◌≡◌ {A = ℕ} 0 1 = cc in omega arith

@@ -24,8 +24,8 @@ use Rattle.cltl.specs.Rules.{has_next}
 use Rattle.plancheck.specs.Check.{plan_rows, checked}
 use Rattle.plancheck.specs.Meaning.{drifted, HasGroups, FirstLacking, Plain, Kept, FailingStep, ReadAndOpen, NoneAhead}
 use Rattle.plancheck.specs.Promises.{Means, PlanChecked}
-use Rattle.plancheck.specs.FirstClause.{FirstClause, first_lacked, Lacks, first_21}
-use Rattle.plancheck.specs.Stages.{same_clauses}
+use Rattle.plancheck.proofs.FirstClause.{FirstClause, first_lacked, Lacks, first_21}
+use Rattle.plancheck.proofs.Stages.{same_clauses}
 
 ---- Accepted, by the verdict or by C's number.
 module _ (floor plan sheet : List ℕ) (yes : Type 0) (w : Means floor plan sheet yes) where

@@ -42,9 +42,9 @@ use Rattle.cltl.specs.Step.{failing}
 use Rattle.cltl.proofs.Lowest.{globally_fails}
 use Rattle.plancheck.specs.Check.{plan_rows, clauses_of, group_verdict, next_verdict, kept_verdict, clauses_verdict, stages, checked}
 use Rattle.plancheck.specs.Meaning.{HasGroups, Plain, Kept, LowestFailing, FailingStep, ReadAndOpen, NoneAhead, Conflict20, Lacks21, Next16, Fails17, PlanRefused, SheetRefused, NamesClause}
-use Rattle.plancheck.specs.Lacking.{first_low}
-use Rattle.plancheck.specs.FirstClause.{FirstClause, first_lacked, Lacks, first_21, first_16, first_17}
-use Rattle.plancheck.specs.Stages.{proper, on_routes}
+use Rattle.plancheck.proofs.Lacking.{first_low}
+use Rattle.plancheck.proofs.FirstClause.{FirstClause, first_lacked, Lacks, first_21, first_16, first_17}
+use Rattle.plancheck.proofs.Stages.{proper, on_routes}
 
 ---- The step that 17 gives.
 abbrev is_globally : Clause → Bool

@@ -16,7 +16,7 @@ use Rattle.grammar.specs.Grammar.{top, Clause, Sheet}
 use Rattle.grammar.specs.Answers.{AcceptedSheet}
 use Rattle.plancheck.specs.Meaning.{IsLineOf}
 use Rattle.plancheck.specs.Promises.{PlanChecked}
-use Rattle.plancheck.specs.Stages.{same_clauses}
+use Rattle.plancheck.proofs.Stages.{same_clauses}
 use Rattle.plancheck.specs.SheetLines.{sheet_ends, line_alone}
 
 -- line k of a sheet is its k-th clause

@@ -31,8 +31,8 @@ use Rattle.sheet.specs.Rules.{read_verdict, rules_verdict}
 use Rattle.cltl.specs.Meaning.{Rows, Proper}
 use Rattle.plancheck.specs.Check.{plan_rows, clauses_of, group_verdict, next_verdict, kept_verdict, clauses_verdict, stages, checked}
 use Rattle.plancheck.specs.Meaning.{HasGroups, Plain, Kept, ReadAndOpen, NoneAhead}
-use Rattle.plancheck.specs.Lacking.{not_lacking}
-use Rattle.plancheck.specs.FirstClause.{not_refused, accepted_pass, pass_accepted, first_21, first_16, first_17}
+use Rattle.plancheck.proofs.Lacking.{not_lacking}
+use Rattle.plancheck.proofs.FirstClause.{not_refused, accepted_pass, pass_accepted, first_21, first_16, first_17}
 
 module _ (P : Rows) (d : ℕ) where
   -- no refusal 16

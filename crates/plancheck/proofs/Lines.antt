@@ -18,7 +18,7 @@ use Rattle.token.specs.Parts.{Held, PartIs}
 use Rattle.token.specs.declared.PartRead.{PartRead}
 use Rattle.sheet.specs.Rules.{rules_verdict}
 use Rattle.plancheck.specs.Check.{clauses_of}
-use Rattle.plancheck.specs.Stages.{sheet_read}
+use Rattle.plancheck.proofs.Stages.{sheet_read}
 
 -- a clause within the limits
 abbrev pub Good : Clause → Type 0

@@ -13,7 +13,7 @@ use Rattle.token.specs.declared.PartRead.{PartRead}
 use Rattle.drift.specs.Lacking.{groups_from}
 use Rattle.drift.specs.Tree.{Ordered, clause_tree}
 use Rattle.drift.specs.Need.{SixPairsDo}
-use Rattle.plancheck.specs.Lines.{Left, Line, next_line}
+use Rattle.plancheck.proofs.Lines.{Left, Line, next_line}
 use Rattle.plancheck.specs.NodesHeld.{held}
 
 -- a block whose n nodes are clause c's
