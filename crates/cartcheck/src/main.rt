@@ -11,5 +11,8 @@ fn main(rt: HostRuntime) -> io::Result<()> {
     let f = report::load(&rt, b"floor", &mut floor);
     let p = report::load(&rt, b"plan", &mut plan);
     let r = report::load(&rt, b"rules", &mut rules);
-    report::print_line(&rt, plancheck::check(&floor[..f], &plan[..p], &rules[..r]))
+    report::print_line(
+        &rt,
+        plancheck::check(&floor[..f], &plan[..p], &rules[..r]).into(),
+    )
 }

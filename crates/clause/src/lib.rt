@@ -65,32 +65,28 @@ fn line_start(s: &[u8], k: usize) -> usize
     ensures { result ≡ line_start k s.now }
 {
     let mut left = k;
-    let mut i: usize = 0;
-    while i < s.len() {
+    for (i, b) in s.iter().enumerate() {
         if left == 0 {
             return i;
         }
-        left = ends_left(s[i], left);
-        i += 1;
+        left = ends_left(*b, left);
     }
-    i
+    s.len()
 }
 
 // Where the line that begins at an offset ends: at its byte 10, or at the text's end where none follows.
 fn line_end(s: &[u8], at: usize) -> usize
     ensures { result ≡ at + line_length (drop at s.now) }
 {
-    let mut i = at;
-    while i < s.len() {
+    for i in at..s.len() {
         if s[i] == 10 {
             return i;
         }
-        i += 1;
     }
-    i
+    at.max(s.len())
 }
 
-// The clause with a number. A line that byte 10 does not end is none.
+// The clause with a number. A line that byte 10 does not end is none. No Option: C wants the empty part at offset 0, and `clause_in` gives that.
 fn find_clause(s: &[u8], k: usize) -> Span
     ensures { result ≡ clause_in k s.now }
 {

@@ -2,13 +2,15 @@
 use Prim.Native.Nat.{ℕ, ◌+◌, ◌*◌, ◌≤◌, ◌<◌}
 use native.Mathlib.Omega.{arith}
 use mathlib.Core.Path.{◌≡◌, refl, sym, ap, subst, ◌∙◌}
-use mathlib.Core.Bool.{Bool, true, false, not}
+use mathlib.Core.Bool.{Bool, true, false}
 use mathlib.Core.List.{List, []}
 use mathlib.Core.Logic.{inl, inr}
 use lib.ListN.{get_or}
 use lib.Seq.{get_or-take, get_or-drop}
 use Rattle.refusal.specs.Stages.{is_accepted}
-use Rattle.refusal.specs.Faults.{not_is}
+use Rattle.refusal.specs.Accepting.{refused_stops}
+use Rattle.refusal.specs.Results.{told as told_of, checked}
+use Rattle.refusal.specs.declared.Refused.{Refused}
 use Rattle.refusal.specs.declared.Verdict.{Verdict}
 use Rattle.refusal.specs.declared.Verdict.TheVariants.{Accepted}
 use Rattle.row.specs.Round.{step_below}
@@ -24,8 +26,7 @@ use Rattle.conflict.specs.Table.{flag, block_place, table_routes, held_routes, F
 use Rattle.conflict.specs.Above.{FirstMet, verdict_of}
 use Rattle.conflict.proofs.Lowest.{FreeBelow, all_free, next_free, told}
 use Rattle.conflict.proofs.Agree.{outcome_as}
-use Rattle.conflict.specs.declared.Meeting.{Meeting}
-use Rattle.conflict.specs.declared.Meeting.TheVariants.{Clear, On}
+use Rattle.std.specs.Prelude.{Option, Some, None, Result, Ok, Err}
 
 -- no cart below c is in a conflict
 pub record Judging (P : Routes) (d c : ℕ) : Type 0 where
@@ -38,29 +39,28 @@ begun P d lap = record { lap = lap; within = omega arith; free = λ i v p. absur
 
 module _ {P : Routes} {d c : ℕ} (w : Judging P d c) where
   -- the step of a meeting is one of the plan's
-  pub on_step : (m : Meeting) (s : ℕ) → FirstMet P d c m → m ≡ On s → s < P.h
+  pub on_step : (m : Option ℕ) (s : ℕ) → FirstMet P d c m → m ≡ Some s → s < P.h
   on_step m s f e =
       let x = subst (FirstMet P d c) e f in
       subst (λ (n : ℕ). n < P.h) (sym x.step) (step_below P.h P.l w.lap x.counter)
 
-  refused_by : (m : Meeting) → FirstMet P d c m → is_accepted (verdict_of c m) ≡ false → Told P d (verdict_of c m)
-  refused_by Clear f e = absurd (apart true refl e)
-  refused_by (On s) f e = told P d w.lap c w.free s f
+  refused_by : (m : Option ℕ) → FirstMet P d c m → is_accepted (verdict_of c m) ≡ false → Told P d (verdict_of c m)
+  refused_by None f e = absurd (apart true refl e)
+  refused_by (Some s) f e = told P d w.lap c w.free s f
 
-  passed_by : (m : Meeting) → FirstMet P d c m → is_accepted (verdict_of c m) ≡ true → FreeBelow P d (c + 1)
-  passed_by Clear f e = next_free P d w.lap c w.free f
-  passed_by (On s) f e = absurd (apart false e refl)
+  passed_by : (m : Option ℕ) → FirstMet P d c m → is_accepted (verdict_of c m) ≡ true → FreeBelow P d (c + 1)
+  passed_by None f e = next_free P d w.lap c w.free f
+  passed_by (Some s) f e = absurd (apart false e refl)
 
-  -- the cart judged, by its verdict
-  module _ (m : Meeting) {v : Verdict} {t : Bool} (f : FirstMet P d c m) (e : v ≡ verdict_of c m) (q : t ≡ is_accepted v) where
-    by : (b : Bool) → not t ≡ b → is_accepted (verdict_of c m) ≡ not b
-    by b z = ap is_accepted (sym e) ∙ sym q ∙ not_is t b z
+  -- the cart judged, by what is told of it
+  module _ (m : Option ℕ) {r : Result (Unit {0}) Refused} (f : FirstMet P d c m) (e : checked r ≡ verdict_of c m) where
+    pub refused : (x : Refused) → r ≡ Err x → Outcome P d (told_of x)
+    refused x q =
+        let v : told_of x ≡ verdict_of c m = ap checked (sym q) ∙ e in
+        inr (subst (Told P d) (sym v) (refused_by m f (ap is_accepted (sym v) ∙ refused_stops x)))
 
-    pub refused : not t ≡ true → Outcome P d v
-    refused z = inr (subst (Told P d) (sym e) (refused_by m f (by true z)))
-
-    pub onward : not t ≡ false → c < P.carts → Judging P d (c + 1)
-    onward z more = record { lap = w.lap; within = omega arith; free = passed_by m f (by false z) }
+    pub onward : r ≡ Ok tt → c < P.carts → Judging P d (c + 1)
+    onward q more = record { lap = w.lap; within = omega arith; free = passed_by m f (ap is_accepted (sym e ∙ ap checked q)) }
 
   pub accepted : P.carts ≤ c → Outcome P d Accepted
   accepted p = let e : c ≡ P.carts = omega (arith, w.within) in inl (all_free P d (subst (FreeBelow P d) e w.free), refl)

@@ -1,6 +1,6 @@
 -- Where nothing is narrow there is no conflict.
-use Rattle.std.specs.Prelude.{ℕ, ◌<◌, ◌≡◌, refl, false, ◌⊎◌, List, [], ◌∷◌, T, length}
-use Rattle.std.proofs.Common.{arith, ap, subst, inl, inr}
+use Rattle.std.specs.Prelude.{ℕ, ◌<◌, ◌≡◌, refl, false, List, [], ◌∷◌, T, length}
+use Rattle.std.proofs.Common.{arith, subst, inl, inr}
 use Rattle.refusal.specs.declared.Verdict.TheVariants.{Accepted}
 use Rattle.conflict.specs.Meaning.{Routes, Conflicting, Free}
 use Rattle.conflict.specs.Search.{narrow_verdict}

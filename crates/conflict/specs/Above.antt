@@ -1,11 +1,9 @@
 -- A cart's meetings with those above it.
-use Rattle.std.specs.Prelude.{ℕ, ◌+◌, ◌<◌, ◌≡◌}
+use Rattle.std.specs.Prelude.{ℕ, ◌+◌, ◌<◌, ◌≡◌, Option, Some, None}
 use Rattle.row.specs.Lasso.{step_of}
 use Rattle.refusal.specs.Codes.{refused}
 use Rattle.refusal.specs.declared.Verdict.{Verdict}
 use Rattle.refusal.specs.declared.Verdict.TheVariants.{Accepted, Plan as AboutPlan}
-use Rattle.conflict.specs.declared.Meeting.{Meeting}
-use Rattle.conflict.specs.declared.Meeting.TheVariants.{Clear, On}
 use Rattle.conflict.specs.Meaning.{Routes}
 use Rattle.conflict.specs.Met.{Met}
 
@@ -23,11 +21,11 @@ module _ (P : Routes) (d a : ℕ) where
     pub above : Above counter
     pub before : (u : ℕ) → u < counter → Above u → ⊥
 
-  abbrev pub FirstMet : Meeting → Type 0
-  FirstMet Clear = (v : ℕ) → v < P.h + d → Above v → ⊥
-  FirstMet (On s) = FirstAbove s
+  abbrev pub FirstMet : Option ℕ → Type 0
+  FirstMet None = (v : ℕ) → v < P.h + d → Above v → ⊥
+  FirstMet (Some s) = FirstAbove s
 
 -- as a verdict
-abbrev pub verdict_of : ℕ → Meeting → Verdict
-verdict_of a Clear = Accepted
-verdict_of a (On s) = AboutPlan (refused 20 a s)
+abbrev pub verdict_of : ℕ → Option ℕ → Verdict
+verdict_of a None = Accepted
+verdict_of a (Some s) = AboutPlan (refused 20 a s)

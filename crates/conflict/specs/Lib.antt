@@ -10,3 +10,4 @@ pub mod Met
 pub mod Columns
 pub mod Table
 pub mod Above
+pub mod OfRows

@@ -11,11 +11,9 @@ pub(crate) fn marked(floor: &[u8], f: Floor) -> [u8; 256]
     ensures { Flags result (is_narrow floor.now) }
 {
     let mut bays = [0u8; 256];
-    let mut i: usize = 0;
-    while i < f.narrow {
+    for i in 0..f.narrow {
         let at = floor::narrow_at(f, i) + 4;
-        bays[endian::wide(floor[at])] = 1;
-        i += 1;
+        bays[usize::from(floor[at])] = 1;
     }
     bays
 }

@@ -1,6 +1,8 @@
 -- What the functions for C promise, in the four numbers that C sees: `number` is 0 exactly if the operation accepted or was done.
-use Rattle.std.specs.Prelude.{ℕ, ◌+◌, ◌≤◌, ◌<◌, ◌≡◌, ◌⊎◌, ◌↔◌, length, take, drop, get_or}
+use Rattle.std.specs.Prelude.{ℕ, ◌+◌, ◌≤◌, ◌<◌, ◌≡◌, ◌⊎◌, ◌↔◌, length, take, drop, get_or, Ok, Err}
 use mathlib.Core.List.{List, ◌++◌, flatten}
+use Rattle.plan.specs.declared.PlanRead.{PlanRead}
+use Rattle.refusal.specs.Results.{checked}
 use Rattle.refusal.specs.Codes.{code_of, bytes_of}
 use Rattle.refusal.specs.Given.{OneOf, Refusals, Answered, reading_floor, reading_plan, writing_floor, writing_plan, checking_moves, reading_sheet, clause_numbers, checking_plan, moving_on, replacing_row}
 use Rattle.refusal.specs.Outcome.{Outcome, written}
@@ -14,7 +16,6 @@ use Rattle.floor.specs.Numbers.{FloorNumbers, floor_bytes, numbers_of, write_flo
 use Rattle.floor.specs.Valid.{ValidFloor}
 use Rattle.floor.specs.Promises.{FloorRead}
 use Rattle.floor.specs.declared.Floor.{Floor}
-use Rattle.floor.specs.declared.FloorAnswer.TheVariants.{Read as FloorAccepted, Refused as FloorRefused}
 use Rattle.plan.specs.Plan.{PlanNumbers, accepted as acceptedNumbers, read_plan, read_both}
 use Rattle.plan.specs.Numbers.{plan_bytes, write_plan}
 use Rattle.plan.specs.Valid.{ValidPlan, RowFits}
@@ -35,7 +36,7 @@ use Rattle.edit.specs.Replaced.{replaced, replace_row}
 use Rattle.edit.specs.Promises.{file_length, Later, NewRow}
 use Rattle.conflict.specs.Meaning.{Conflict}
 use Rattle.conflict.specs.OfPlan.{plan_routes}
-use Rattle.plancheck.specs.Check.{plan_rows, checked}
+use Rattle.plancheck.specs.Check.{plan_rows, checked as checked_plan}
 use Rattle.plancheck.specs.Meaning.{IsLineOf, Conflict20, Lacks21, Next16, Fails17, PlanRefused, SheetRefused}
 use Rattle.plancheck.specs.Promises.{Means}
 use Rattle.suffix.specs.Promises.{TrueLater}
@@ -59,14 +60,14 @@ pub record CodedOut (t : Refusals) (o : Outcome) (before : List ℕ) (c : Code) 
 pub record FloorReadCode (floor : List ℕ) (c : Code) : Type 0 where
   pub coded : Coded reading_floor (floor_verdict (read_floor floor)) c
   -- number 0 exactly if the floor is read; and what was read: numbers of the table, which write back as the same bytes
-  pub accepted : (c.number ≡ 0) ↔ ((f : Floor) × (read_floor floor ≡ FloorAccepted f))
+  pub accepted : (c.number ≡ 0) ↔ ((f : Floor) × (read_floor floor ≡ Ok f))
   pub read : FloorRead floor (read_floor floor)
 
 -- cartplan_read_plan
 pub record PlanReadCode (floor plan : List ℕ) (c : Code) : Type 0 where
-  pub coded : Coded reading_plan (read_both floor plan).verdict c
+  pub coded : Coded reading_plan (checked (read_both floor plan)) c
   -- number 0 exactly if floor and plan are read, as numbers of the table, which write back as the same bytes
-  pub accepted : (c.number ≡ 0) ↔ AcceptedPlan floor plan (read_both floor plan)
+  pub accepted : (c.number ≡ 0) ↔ ((r : PlanRead) × (read_both floor plan ≡ Ok r) × AcceptedPlan floor plan r)
   pub read : PlanReads floor plan (read_both floor plan)
 
 -- cartplan_write_floor
@@ -76,15 +77,15 @@ pub record FloorWrittenCode (n : FloorNumbers) (before : List ℕ) (c : Code) (a
   pub complete : (f : Floor) → ValidFloor n f → length (floor_bytes n) ≤ length before → c.number ≡ 0
   -- number 0: the floor's bytes, `first` of them, and behind them the buffer's own
   pub written : c.number ≡ 0 → (c.first ≡ length (floor_bytes n)) × (after ≡ floor_bytes n ++ drop c.first before)
-  pub reads_back : c.number ≡ 0 → (f : Floor) × (read_floor (take c.first after) ≡ FloorAccepted f) × (numbers_of (take c.first after) ≡ n)
+  pub reads_back : c.number ≡ 0 → (f : Floor) × (read_floor (take c.first after) ≡ Ok f) × (numbers_of (take c.first after) ≡ n)
 
 -- cartplan_write_plan
 pub record PlanWrittenCode (floor : List ℕ) (h : Head) (rows before : List ℕ) (c : Code) (after : List ℕ) : Type 0 where
   pub coded : CodedOut writing_plan (write_plan floor h rows before) before c after
-  pub complete : (f : Floor) → read_floor floor ≡ FloorAccepted f → ValidPlan (record { head = h; rows = parts h.steps rows }) f
+  pub complete : (f : Floor) → read_floor floor ≡ Ok f → ValidPlan (record { head = h; rows = parts h.steps rows }) f
       → length (plan_bytes h rows) ≤ length before → c.number ≡ 0
   pub written : c.number ≡ 0 → (c.first ≡ length (plan_bytes h rows)) × (after ≡ plan_bytes h rows ++ drop c.first before)
-  pub reads_back : c.number ≡ 0 → (f : Floor) × (n : PlanNumbers) × (read_floor floor ≡ FloorAccepted f)
+  pub reads_back : c.number ≡ 0 → (f : Floor) × (n : PlanNumbers) × (read_floor floor ≡ Ok f)
       × (read_plan f (take c.first after) ≡ acceptedNumbers n) × (n.head ≡ h) × (flatten n.rows ≡ rows)
 
 -- cartplan_read_rules
@@ -108,7 +109,7 @@ pub record MovesCheckedCode (floor plan : List ℕ) (c : Code) : Type 0 where
 
 -- cartplan_check
 pub record PlanCheckedCode (floor plan rules : List ℕ) (c : Code) : Type 0 where
-  pub coded : Coded checking_plan (checked floor plan rules) c
+  pub coded : Coded checking_plan (checked_plan floor plan rules) c
   -- demands 2 and 3, from number 0
   pub means : Means floor plan rules (c.number ≡ 0)
   -- 11, by the cart in `first` and the step in `second`, as for cartplan_check_moves
@@ -131,7 +132,7 @@ pub record PlanCheckedCode (floor plan rules : List ℕ) (c : Code) : Type 0 whe
   pub shown : OneOf clause_numbers c.number → (cs : List Clause) → AcceptedSheet rules cs → (p : Span) → Picked rules (bytes_of c) p
       → (c.first < length cs) × IsLineOf rules c.first (get_or cs c.first top) p
   -- every other refusal is that of the floor, the plan, its moves or the sheet, in this order
-  pub floor_refused : c.about ≡ 1 → read_floor floor ≡ FloorRefused (refusal_in c)
+  pub floor_refused : c.about ≡ 1 → read_floor floor ≡ Err (refusal_in c)
   pub plan_refused : c.about ≡ 2 → (c.number ≡ 20 → ⊥) → PlanRefused floor plan (refusal_in c)
   pub sheet_refused : c.about ≡ 3 → (OneOf clause_numbers c.number → ⊥) → SheetRefused floor plan rules (refusal_in c)
 

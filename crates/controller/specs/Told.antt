@@ -1,8 +1,11 @@
 -- What the operations promise of a verdict, told by its four numbers.
-use Rattle.std.specs.Prelude.{ℕ, ◌≡◌, refl, Bool, true, false, cond, List, [], ◌∷◌, ◌++◌, ltb, length, drop}
+use Rattle.std.specs.Prelude.{ℕ, ◌≡◌, refl, Bool, true, false, cond, List, [], ◌∷◌, ◌++◌, ltb, length, drop, Result, Ok, Err}
 use Rattle.std.proofs.Common.{arith, sym, ap, ap₂, subst, ◌∙◌, inl, inr}
 use Rattle.std.proofs.Math.Seq.{drop-append_seam}
 use Rattle.endian.specs.Little.{Bytes}
+use Rattle.refusal.specs.declared.Refused.{Refused}
+use Rattle.refusal.specs.Accepting.{accepted_gives}
+use Rattle.refusal.specs.Results.{told, checked}
 use Rattle.refusal.specs.Codes.{refused, code_of}
 use Rattle.refusal.specs.Given.{OneOf, Refusals, Given, reading_floor, reading_plan, writing_floor, writing_plan, checking_moves, reading_sheet, clause_numbers, checking_plan, moving_on, replacing_row}
 use Rattle.refusal.specs.Numbered.{among, not_among, apart, not_both, numbered, zero_accepts, zero_writes, answered}
@@ -17,15 +20,13 @@ use Rattle.floor.specs.Floor.{read_floor, floor_verdict}
 use Rattle.floor.specs.Numbers.{FloorNumbers, floor_bytes, by_reading, write_floor}
 use Rattle.floor.specs.Promises.{FloorRead, FloorWritten}
 use Rattle.floor.specs.declared.Floor.{Floor}
-use Rattle.floor.specs.declared.FloorAnswer.{FloorAnswer}
-use Rattle.floor.specs.declared.FloorAnswer.TheVariants.{Read as FloorAccepted, Refused as FloorRefused}
-use Rattle.plan.specs.Plan.{PlanNumbers, PlanAnswer, read_plan, refused_read, accepted_read, read_both}
+use Rattle.plan.specs.Plan.{PlanNumbers, PlanAnswer, read_plan, accepted_read, read_both}
 use Rattle.plan.specs.Plan as plan
 use Rattle.plan.specs.Numbers.{plan_bytes, plan_file, by_floor, write_plan}
 use Rattle.plan.specs.Numbers as numbers
 use Rattle.plan.specs.After.{after_reading, ReadAs}
 use Rattle.plan.specs.Read.{ReadingCases, floor_refused, plan_refused, both_read, reading_cases, read_on_lem}
-use Rattle.plan.specs.Promises.{PlanReads, AcceptedPlan, PlanWritten}
+use Rattle.plan.specs.Promises.{PlanReads, PlanWritten, AcceptedPlan}
 use Rattle.plan.specs.declared.Head.{Head}
 use Rattle.plan.specs.declared.PlanRead.{PlanRead}
 use Rattle.grammar.specs.Grammar.{Clause}
@@ -39,7 +40,7 @@ use Rattle.moves.specs.Demands.{lowest_left}
 use Rattle.edit.specs.Moved.{moved, move_on}
 use Rattle.edit.specs.Replaced.{replace_row}
 use Rattle.edit.specs.Promises.{MovedOn, MovesAddUp, RowReplaced}
-use Rattle.plancheck.specs.Check.{checked}
+use Rattle.plancheck.specs.Check.{checked as checked_plan}
 use Rattle.plancheck.proofs.Claims.{means_as}
 use Rattle.plancheck.specs.Promises.{PlanChecked}
 use Rattle.plancheck.proofs.Demands.{check_11}
@@ -98,42 +99,43 @@ module _ (t : Refusals) (ok : numbered t ≡ true) (o : Outcome) (before after :
   }
 
 ---- Reading.
-floor_read_as : (s : List ℕ) (r : FloorAnswer) → FloorRead s r → Given reading_floor (floor_verdict r) → FloorReadCode s (code_of (floor_verdict r))
+floor_read_as : (s : List ℕ) (r : Result Floor Refusal) → FloorRead s r → Given reading_floor (floor_verdict r) → FloorReadCode s (code_of (floor_verdict r))
 floor_read_as s r w g = record {
   coded = coded_as reading_floor refl (floor_verdict r) (floor_verdict (read_floor s)) (ap floor_verdict w.answer) g;
   accepted = (
     λ z. let f = by r (zero_accepts reading_floor refl refl (floor_verdict r) g z) in (f.0, sym w.answer ∙ f.1),
-    λ f. ap (λ (a : FloorAnswer). num (floor_verdict a)) (w.answer ∙ f.1),
+    λ f. ap (λ (a : Result Floor Refusal). num (floor_verdict a)) (w.answer ∙ f.1),
   );
   read = subst (FloorRead s) w.answer w;
 }
   where
-    by : (r : FloorAnswer) → floor_verdict r ≡ Accepted → (f : Floor) × (r ≡ FloorAccepted f)
-    by (FloorAccepted f) e = (f, refl)
-    by (FloorRefused x) e = let z : ◌≡◌ {A = ℕ} 0 1 = cc in absurd (omega arith)
+    by : (r : Result Floor Refusal) → floor_verdict r ≡ Accepted → (f : Floor) × (r ≡ Ok f)
+    by (Ok f) e = (f, refl)
+    by (Err x) e = let z : ◌≡◌ {A = ℕ} 0 1 = cc in absurd (omega arith)
 
-pub floor_read : (s : List ℕ) (r : FloorAnswer) → FloorRead s r → Given reading_floor (floor_verdict r) → (v : Verdict) → v ≡ floor_verdict r → (c : Code)
-    → c ≡ code_of v → FloorReadCode s c
+pub floor_read : (s : List ℕ) (r : Result Floor Refusal) → FloorRead s r → Given reading_floor (floor_verdict r) → (v : Verdict) → v ≡ floor_verdict r
+    → (c : Code) → c ≡ code_of v → FloorReadCode s c
 floor_read s r w g v e c q = subst (FloorReadCode s) (sym (q ∙ ap code_of e)) (floor_read_as s r w g)
 
 -- what reading gives of a floor and a plan that are read
 pub read_both_lem : (floor s : List ℕ) (f : Floor) (n : PlanNumbers) → ReadAs floor s f n → read_both floor s ≡ accepted_read f n
 unfolding read_both after_reading
-read_both_lem floor s f n w = read_on_lem refused_read accepted_read floor s f n w
+read_both_lem floor s f n w = read_on_lem Err accepted_read floor s f n w
 
-read_accepts : (floor s : List ℕ) → AcceptedPlan floor s (read_both floor s) → (read_both floor s).verdict ≡ Accepted
-read_accepts floor s a =
-    ap (λ (x : PlanRead). x.verdict)
-    (read_both_lem floor s (read_both floor s).floor a.numbers (record { floor_read = a.floor_read; plan_read_lem = a.plan_read_lem }))
+read_accepts : (floor s : List ℕ) (r : PlanRead) → AcceptedPlan floor s r → checked (read_both floor s) ≡ Accepted
+read_accepts floor s r a = ap checked (read_both_lem floor s r.floor a.numbers (record { floor_read = a.floor_read; plan_read_lem = a.plan_read_lem }))
 
-pub plan_read_lem : (floor s : List ℕ) (r : PlanRead) → PlanReads floor s r → Given reading_plan r.verdict → (c : Code) → c ≡ code_of r.verdict
-    → PlanReadCode floor s c
+pub plan_read_lem : (floor s : List ℕ) (r : Result PlanRead Refused) → PlanReads floor s r → Given reading_plan (checked r) → (c : Code)
+    → c ≡ code_of (checked r) → PlanReadCode floor s c
 plan_read_lem floor s r w g c q =
-    let e : r.verdict ≡ (read_both floor s).verdict = ap (λ (x : PlanRead). x.verdict) w.answer in
+    let e : checked r ≡ checked (read_both floor s) = ap checked w.answer in
     let whole : PlanReads floor s (read_both floor s) = subst (PlanReads floor s) w.answer w in
     subst (PlanReadCode floor s) (sym q) (record {
-      coded = coded_as reading_plan refl r.verdict (read_both floor s).verdict e g;
-      accepted = (λ z. whole.accepted (sym e ∙ zero_accepts reading_plan refl refl r.verdict g z), λ a. ap num (e ∙ read_accepts floor s a));
+      coded = coded_as reading_plan refl (checked r) (checked (read_both floor s)) e g;
+      accepted = (
+        λ z. let x = accepted_gives (read_both floor s) (sym e ∙ zero_accepts reading_plan refl refl (checked r) g z) in (x.0, x.1, whole.accepted x.0 x.1),
+        λ a. ap num (e ∙ read_accepts floor s a.0 a.2),
+      );
       read = whole;
     })
 
@@ -142,9 +144,9 @@ floor_writes : (n : FloorNumbers) (before : List ℕ) → Writes before (floor_b
 unfolding write_floor
 floor_writes n before = go (read_floor (floor_bytes n))
   where
-    go : (a : FloorAnswer) → Writes before (floor_bytes n) (by_reading a (floor_bytes n) before)
-    go (FloorRefused r) = stays (AboutFloor r) (about_floor r)
-    go (FloorAccepted f) = puts AboutFloor about_floor
+    go : (a : Result Floor Refusal) → Writes before (floor_bytes n) (by_reading a (floor_bytes n) before)
+    go (Err r) = stays (AboutFloor r) (about_floor r)
+    go (Ok f) = puts AboutFloor about_floor
 
 pub floor_written : (n : FloorNumbers) (before : List ℕ) (v : Verdict) (after : List ℕ) → FloorWritten n before v after → Given writing_floor v → (c : Code)
     → c ≡ code_of v → FloorWrittenCode n before c after
@@ -167,9 +169,9 @@ plan_writes floor h rows before = on_floor_lem (read_floor floor)
     on_plan (plan.accepted n) = puts AboutPlan about_plan
     on_plan (plan.rejected r) = stays (AboutPlan r) (about_plan r)
 
-    on_floor_lem : (a : FloorAnswer) → Writes before (plan_bytes h rows) (by_floor a h rows before)
-    on_floor_lem (FloorAccepted f) = on_plan (read_plan f (plan_bytes h rows))
-    on_floor_lem (FloorRefused r) = stays (AboutFloor r) (about_floor r)
+    on_floor_lem : (a : Result Floor Refusal) → Writes before (plan_bytes h rows) (by_floor a h rows before)
+    on_floor_lem (Ok f) = on_plan (read_plan f (plan_bytes h rows))
+    on_floor_lem (Err r) = stays (AboutFloor r) (about_floor r)
 
 pub plan_written : (floor : List ℕ) (h : Head) (rows before : List ℕ) (v : Verdict) (after : List ℕ) → PlanWritten floor h rows before v after
     → Given writing_plan v → (c : Code) → c ≡ code_of v → PlanWrittenCode floor h rows before c after
@@ -243,11 +245,11 @@ moves_checked floor s v w g c q = subst (MovesCheckedCode floor s) (sym q) (reco
 
 move_writes : (floor s : List ℕ) (k : ℕ) (before : List ℕ) → (file : List ℕ) × Writes before file (move_on floor s k before)
 unfolding move_on
-move_writes floor s k before = go (reading_cases (λ v. unchanged v before) (λ f p. written AboutPlan (plan_file (moved k p)) before) floor s)
+move_writes floor s k before = go (reading_cases (λ e. unchanged (told e) before) (λ f p. written AboutPlan (plan_file (moved k p)) before) floor s)
   where
-    go : ReadingCases (λ v. unchanged v before) (λ f p. written AboutPlan (plan_file (moved k p)) before) floor s
+    go : ReadingCases (λ e. unchanged (told e) before) (λ f p. written AboutPlan (plan_file (moved k p)) before) floor s
         → (file : List ℕ) × Writes before file
-        (after_reading (λ v. unchanged v before) (λ f p. written AboutPlan (plan_file (moved k p)) before) floor s)
+        (after_reading (λ e. unchanged (told e) before) (λ f p. written AboutPlan (plan_file (moved k p)) before) floor s)
     go (floor_refused r e) = ([], subst (Writes before []) (sym e) (stays (AboutFloor r) (about_floor r)))
     go (plan_refused r e) = ([], subst (Writes before []) (sym e) (stays (AboutPlan r) (about_plan r)))
     go (both_read f p w e) = (plan_file (moved k p), subst (Writes before (plan_file (moved k p))) (sym e) (puts AboutPlan about_plan))
@@ -317,7 +319,7 @@ of_rules (AboutRules r) e = refl
 pub plan_checked : (floor s sheet : List ℕ) (v : Verdict) → PlanChecked floor s sheet v → Given checking_plan v → (c : Code) → c ≡ code_of v
     → PlanCheckedCode floor s sheet c
 plan_checked floor s sheet v w g c q = subst (PlanCheckedCode floor s sheet) (sym q) (record {
-  coded = coded_as checking_plan refl v (checked floor s sheet) w.verdict g;
+  coded = coded_as checking_plan refl v (checked_plan floor s sheet) w.verdict g;
   means = means_as floor s sheet (λ e. ap num e, zero_accepts checking_plan refl refl v g) w.means;
   shut_11 = λ f p files e. check_11 floor s sheet v w f p files (code_of v).first (code_of v).second ((of_number checking_plan 11 refl v g e).0 refl);
   conflict_20 = λ e. (w.conflict_20 (code_of v).first (code_of v).second).0 ((of_number checking_plan 20 refl v g e).0 refl);

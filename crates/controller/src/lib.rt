@@ -22,9 +22,7 @@ pub extern "C" fn cartplan_read_floor(floor: &[u8]) -> Code
 pub extern "C" fn cartplan_read_plan(floor: &[u8], plan: &[u8]) -> Code
     ensures { PlanReadCode floor.now plan.now result }
 {
-    let r = plan::read(floor, plan);
-    let v = r.verdict;
-    refusal::code_of(v)
+    refusal::code_of(plan::read(floor, plan).map(|_| ()).into())
 }
 
 // Writes a floor.
@@ -40,7 +38,7 @@ pub extern "C" fn cartplan_write_floor(
     ensures { FloorWrittenCode (numbers places.now lanes.now carts.now narrow.now groups.now)
         out.old result out.new }
 {
-    refusal::code_of(floor::write(places, lanes, carts, narrow, groups, out))
+    refusal::code_of(floor::write(places, lanes, carts, narrow, groups, out).into())
 }
 
 // Writes a plan for a floor.
@@ -55,7 +53,7 @@ pub extern "C" fn cartplan_write_plan(
 ) -> Code
     ensures { PlanWrittenCode floor.now (head_of h l d) rows.now out.old result out.new }
 {
-    refusal::code_of(plan::write(floor, h, l, d, rows, out))
+    refusal::code_of(plan::write(floor, h, l, d, rows, out).into())
 }
 
 // Reads a rule sheet.
@@ -63,7 +61,7 @@ pub extern "C" fn cartplan_write_plan(
 pub extern "C" fn cartplan_read_rules(rules: &[u8]) -> Code
     ensures { RulesReadCode rules.now result }
 {
-    refusal::code_of(sheet::read(rules))
+    refusal::code_of(sheet::read(rules).into())
 }
 
 // Checks the moves of a plan.
@@ -71,7 +69,7 @@ pub extern "C" fn cartplan_read_rules(rules: &[u8]) -> Code
 pub extern "C" fn cartplan_check_moves(floor: &[u8], plan: &[u8]) -> Code
     ensures { MovesCheckedCode floor.now plan.now result }
 {
-    refusal::code_of(moves::check(floor, plan))
+    refusal::code_of(moves::check(floor, plan).into())
 }
 
 // Checks a plan.
@@ -79,7 +77,7 @@ pub extern "C" fn cartplan_check_moves(floor: &[u8], plan: &[u8]) -> Code
 pub extern "C" fn cartplan_check(floor: &[u8], plan: &[u8], rules: &[u8]) -> Code
     ensures { PlanCheckedCode floor.now plan.now rules.now result }
 {
-    refusal::code_of(plancheck::check(floor, plan, rules))
+    refusal::code_of(plancheck::check(floor, plan, rules).into())
 }
 
 // Moves a plan on by s steps.
@@ -88,7 +86,7 @@ pub extern "C" fn cartplan_move_on(floor: &[u8], plan: &[u8], s: u16, out: &mut 
     ensures moved { MovedOnCode floor.now plan.now s out.old result out.new }
     ensures added_up { MovesAddUpCode floor.now plan.now s out.old result out.new }
 {
-    refusal::code_of(edit::move_on(floor, plan, s, out))
+    refusal::code_of(edit::move_on(floor, plan, s, out).into())
 }
 
 // Replaces a cart's row in a plan.
@@ -96,7 +94,7 @@ pub extern "C" fn cartplan_move_on(floor: &[u8], plan: &[u8], s: u16, out: &mut 
 pub extern "C" fn cartplan_replace_row(floor: &[u8], plan: &mut [u8], cart: u32, row: &[u8]) -> Code
     ensures { RowReplacedCode floor.now plan.old cart row.now result plan.new }
 {
-    refusal::code_of(edit::replace_row(floor, plan, cart, row))
+    refusal::code_of(edit::replace_row(floor, plan, cart, row).into())
 }
 
 // Where the clause that a verdict picks lies in a sheet.

@@ -1,12 +1,14 @@
 -- What judging a node gives, however deep its tree is looked up: the table of inner text; a clause's row, or its negation's, and its counts to join.
-use Rattle.std.specs.Prelude.{ℕ, suc, ◌^◌, ◌≤◌, ◌<◌, min, ◌≡◌, Bool, true, false, cond, ◌&&◌, List, [], ◌∷◌, eqb}
+use Rattle.std.specs.Prelude.{ℕ, suc, ◌+◌, ◌^◌, ◌≤◌, ◌<◌, min, ◌≡◌, Bool, true, cond, ◌&&◌, List, [], ◌∷◌, eqb, length, Option, is_some, IfSome}
 use Rattle.grammar.specs.Grammar.{Counted, Clause}
 use Rattle.cltl.specs.Meaning.{Rows, among}
 use Rattle.cltl.specs.Rules.{leaves, judge, inner, over, count, slack, some_text, uniform, joint, joined}
 use Rattle.mask.specs.Mask.{on, Row, signed}
 use Rattle.table.specs.Table.{told}
-use Rattle.table.specs.Layout.{none_at}
+use Rattle.drift.specs.declared.Ground.{Ground}
+use Rattle.drift.specs.declared.Joined.{Joined}
 use Rattle.drift.specs.declared.Judged.{Judged}
+use Rattle.drift.specs.Places.{Placed}
 use Rattle.drift.specs.Tree.{inner_tree, clause_tree}
 use Rattle.drift.specs.Lent.{who_of}
 
@@ -37,25 +39,24 @@ OverWord P who (x ∷ xs) = ((i : ℕ) → i < P.carts → on who i ≡ among P 
 
 -- what was told of the counts of an or that are all over the same carts: these carts, the or of their texts by a table, or its negation, and the sum of
 -- (threshold − 1), 32 at most
-pub record Told (P : Rows) (xs : List (Bool × Counted)) (t : List ℕ) (r : Judged) : Type 0 where
+pub record Told (P : Rows) (xs : List (Bool × Counted)) (t : List ℕ) (r : Joined) : Type 0 where
+  pub low : r.who < 2 ^ P.carts
   pub word : OverWord P r.who xs
   pub sum : r.slack ≡ min 32 (slack P xs)
   pub each : (i s : ℕ) → i < P.carts → s < P.h → (on r.who i && signed r.sign (told t r.at i s)) ≡ some_text P xs i s
 
 -- there are counts to join if they are all over the same carts
-pub record Gathered (P : Rows) (xs : List (Bool × Counted)) (t : List ℕ) (r : Judged) : Type 0 where
-  pub joins_is : r.joins ≡ uniform P xs
-  pub low : r.who < 2 ^ P.carts
-  pub few : r.slack ≤ 32
-  pub told_of : r.joins ≡ true → Told P xs t r
+pub record Gathered (P : Rows) (xs : List (Bool × Counted)) (t : List ℕ) (r : Option Joined) : Type 0 where
+  pub joins_is : is_some r ≡ uniform P xs
+  pub told_of : IfSome r (λ j. Told P xs t j)
 
--- a row with no counts to join
-pub record Alone (marks h row : ℕ) (r : Judged) : Type 0 where
-  pub row_is : r.row ≡ row
-  pub joins_not : r.joins ≡ false
-  pub at_none : r.at ≡ none_at marks h
-  pub no_slack : r.slack ≡ 0
-  pub no_cart : r.who ≡ 0
+-- where their table lies, of pairs of places from an offset on
+abbrev pub TableAt : Ground → ℕ → List ℕ → Joined → Type 0
+TableAt g at t j = Placed g.marks g.lasso.h at j.at × (j.at + g.lasso.h ≤ length t)
+
+-- their carts are those of the floor, and their sum is 32 at most
+abbrev pub Fits : Ground → Joined → Type 0
+Fits g j = (j.slack ≤ 32) × (j.who < 2 ^ g.carts)
 
 -- a part of a clause: its row, and its counts
 abbrev pub PartRow : Rows → ℕ → List ℕ → Bool → ℕ → ℕ → Type 0
@@ -63,4 +64,4 @@ PartRow P d nodes p k r = (n : ℕ) → k < n → Row P.h r (judge P.h P.l (coun
 
 pub record ClauseJudged (P : Rows) (d : ℕ) (nodes : List ℕ) (p : Bool) (k : ℕ) (t : List ℕ) (r : Judged) : Type 0 where
   pub rows : PartRow P d nodes p k r.row
-  pub counts : (n : ℕ) → k < n → Gathered P (joinable d p (clause_tree nodes n k)) t r
+  pub counts : (n : ℕ) → k < n → Gathered P (joinable d p (clause_tree nodes n k)) t r.joined

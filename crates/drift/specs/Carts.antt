@@ -8,7 +8,7 @@ use Rattle.cltl.specs.Counting.{tally}
 use Rattle.cltl.specs.Threshold.{threshold, quota}
 use Rattle.cltl.specs.Meaning.{Rows, among, size}
 use Rattle.cltl.specs.Rules.{asked}
-use Rattle.mask.specs.Mask.{on, Row}
+use Rattle.mask.specs.Mask.{on}
 use Rattle.mask.specs.EachBit.{on_ones}
 use Rattle.quorum.specs.Ones.{counted as counted-ones}
 use Rattle.drift.specs.declared.Ground.{Ground}
@@ -17,10 +17,10 @@ use Rattle.drift.specs.Lent.{who_of, Lent}
 use Rattle.drift.specs.Answer.{rows_on}
 
 -- the words of the table are those of the fleet and of the groups
-pub who_is : (g : Ground) (t w b : List ℕ) → Lent g t w b → (bears : ℕ → ℕ → ℕ → Bool) (o i : ℕ) → i < g.carts
-    → on (who_of b o) i ≡ among (rows_on g.carts g.h g.l bears b) (over_of o) i
-who_is g t w b lent bears zero i p = ap (λ (x : ℕ). on x i) lent.fleet ∙ on_ones g.carts i p
-who_is g t w b lent bears (suc n) i p = refl
+pub who_is : (g : Ground) (t b : List ℕ) → Lent g t b → (bears : ℕ → ℕ → ℕ → Bool) (o i : ℕ) → i < g.carts
+    → on (who_of b o) i ≡ among (rows_on g.carts g.lasso.h g.lasso.l bears b) (over_of o) i
+who_is g t b lent bears zero i p = ap (λ (x : ℕ). on x i) lent.fleet ∙ on_ones g.carts i p
+who_is g t b lent bears (suc n) i p = refl
 
 -- a word of carts has as many bits
 module _ (P : Rows) (who carts o : ℕ) (low : who < 2 ^ carts) (all : P.carts ≡ carts) (is : (i : ℕ) → i < carts → on who i ≡ among P (over_of o) i) where

@@ -1,5 +1,5 @@
 -- A part of a clause, node by node: its row, and its counts.
-use Rattle.std.specs.Prelude.{ℕ, zero, suc, ◌+◌, ◌*◌, ◌≤◌, ◌<◌, ◌≡◌, refl, Bool, true, false, not, eqb, ltb, length}
+use Rattle.std.specs.Prelude.{ℕ, zero, suc, ◌+◌, ◌≤◌, ◌<◌, ◌≡◌, refl, Bool, true, false, not, eqb, ltb, length}
 use Rattle.std.proofs.Common.{sym, subst, ◌∙◌, arith, ne_eqb}
 use Rattle.std.proofs.Math.Path.{ap, ap₂}
 use Rattle.std.proofs.Math.Bool.{cond}
@@ -115,12 +115,13 @@ module _ (P : Rows) (d : ℕ) (nodes : List ℕ) (proper : Proper P) (p : Bool) 
   counts i x = leaf (counted (inner_tree nodes (length nodes) i) x)
 
   -- by the tree of the node, however deep the look
-  gathered : (xs : ℕ → List (Bool × Counted)) → ((n : ℕ) → k ≤ n → joinable d p (clause_tree nodes (suc n) k) ≡ xs n) → ((n : ℕ) → k ≤ n → Gathered P (xs n) t r)
-      → (n : ℕ) → k < n → Gathered P (joinable d p (clause_tree nodes n k)) t r
+  gathered : (xs : ℕ → List (Bool × Counted)) → ((n : ℕ) → k ≤ n → joinable d p (clause_tree nodes (suc n) k) ≡ xs n)
+      → ((n : ℕ) → k ≤ n → Gathered P (xs n) t r.joined)
+      → (n : ℕ) → k < n → Gathered P (joinable d p (clause_tree nodes n k)) t r.joined
   gathered xs e f zero q = absurd (omega arith)
-  gathered xs e f (suc n) q = subst (λ ys. Gathered P ys t r) (sym (e n (omega arith))) (f n (omega arith))
+  gathered xs e f (suc n) q = subst (λ ys. Gathered P ys t r.joined) (sym (e n (omega arith))) (f n (omega arith))
 
-  pub top_judged : kind < 2 → Row P.h r.row (λ s. p) → Gathered P [] t r → ClauseJudged P d nodes p k t r
+  pub top_judged : kind < 2 → Row P.h r.row (λ s. p) → Gathered P [] t r.joined → ClauseJudged P d nodes p k t r
   unfolding clause_tree judge leaves
   top_judged q g f = record {
     rows = λ n z. record { low = g.low; at = ⊎_elim top_at mark_at_lem (lt_or_le kind 1) n z };
@@ -143,7 +144,7 @@ module _ (P : Rows) (d : ℕ) (nodes : List ℕ) (proper : Proper P) (p : Bool) 
         ∙ ap (λ (i : ℕ). counts i (amount_at nodes k)) (sym ex)
 
     pub count_judged : Row P.h r.row (quorum P.h P.l P.carts d (asked P (p, this)) (λ i. text P i (p, this)))
-        → Gathered P (cond (eqb d 0) [] ((p, this) ∷ [])) t r
+        → Gathered P (cond (eqb d 0) [] ((p, this) ∷ [])) t r.joined
         → ClauseJudged P d nodes p k t r
     unfolding clause_tree judge count leaves
     count_judged g f = record {
@@ -180,7 +181,7 @@ module _ (P : Rows) (d : ℕ) (nodes : List ℕ) (proper : Proper P) (p : Bool) 
           }
 
       pub one_judged : (a : ℕ) → (kind ≡ 2 → ⊥) → PartRow P d nodes p x a → Row P.h r.row (one_rule P.h P.l p (one_of kind) (on a))
-          → Gathered P [] t r
+          → Gathered P [] t r.joined
           → ClauseJudged P d nodes p k t r
       unfolding clause_tree
       one_judged a n f g f' = record {
@@ -203,7 +204,7 @@ module _ (P : Rows) (d : ℕ) (nodes : List ℕ) (proper : Proper P) (p : Bool) 
 
       pub two_judged : (a b : ℕ) → PartRow P d nodes p x a → PartRow P d nodes p y b
           → ((n : ℕ) → x < n → y < n
-          → Row P.h r.row (two_rule P.h P.l p (two_of kind) (joint P d (zs n)) (on a) (on b)) × Gathered P (cond (ltb kind 8) (zs n) []) t r)
+          → Row P.h r.row (two_rule P.h P.l p (two_of kind) (joint P d (zs n)) (on a) (on b)) × Gathered P (cond (ltb kind 8) (zs n) []) t r.joined)
           → ClauseJudged P d nodes p k t r
       unfolding clause_tree
       two_judged a b ra rb g =

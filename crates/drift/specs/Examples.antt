@@ -1,6 +1,7 @@
 -- Worked cases, by computation: which nodes are leaves, which operators are ors, and where tables lie.
 use Rattle.std.specs.Prelude.{◌≡◌, refl, true, false, [], ◌∷◌}
-use Rattle.grammar.specs.Grammar.{leaf, or, fleet, group, amount, counted, Clause}
+use Rattle.std.proofs.Common.{leb-true, ltb-true}
+use Rattle.grammar.specs.Grammar.{leaf, or, fleet, amount, counted, Clause}
 use Rattle.grammar.specs.Nodes.{top_n, mark_n, count_n, and₂, or₂, until₂, release₂}
 use Rattle.cltl.specs.Rules.{leaves}
 use Rattle.drift.specs.Tree.{is_leaf}
@@ -44,10 +45,28 @@ ors = (refl, refl, refl, refl, refl, refl, refl, refl, refl, refl, refl)
 
 -- two carts with two marks, and as many of all as there can be
 abbrev small : Ground
-small = record { carts = 2; h = 3; l = 0; d = 1; marks = 2 }
+small = record {
+  carts = 2;
+  lasso = record { h = 3; l = 0; lap = ltb-true 0 3 refl; short = leb-true 3 64 refl };
+  drift = 1;
+  marks = 2;
+  some = ltb-true 0 2 refl;
+  few = leb-true 2 32 refl;
+  drift_bound = leb-true 1 16 refl;
+  marks_bound = leb-true 2 32 refl;
+}
 
 abbrev full : Ground
-full = record { carts = 32; h = 64; l = 0; d = 16; marks = 32 }
+full = record {
+  carts = 32;
+  lasso = record { h = 64; l = 0; lap = ltb-true 0 64 refl; short = leb-true 64 64 refl };
+  drift = 16;
+  marks = 32;
+  some = ltb-true 0 32 refl;
+  few = leb-true 32 32 refl;
+  drift_bound = leb-true 16 16 refl;
+  marks_bound = leb-true 32 32 refl;
+}
 
 -- with two marks and three steps: two tables of marks, that of all, that of none, and twelve places
 pub worked :

@@ -1,7 +1,7 @@
 -- The counts of an or, gathered from its sides.
-use Rattle.std.specs.Prelude.{ℕ, suc, ◌+◌, ◌-◌, ◌^◌, ◌≤◌, ◌<◌, min, ◌≡◌, Bool, not, cond, ◌&&◌, ◌||◌, eqb}
+use Rattle.std.specs.Prelude.{ℕ, suc, ◌+◌, ◌-◌, ◌^◌, ◌≤◌, ◌<◌, min, ◌≡◌, Bool, not, cond, ◌&&◌, ◌||◌, Option, None, Some, IfSome}
 use Rattle.std.proofs.Math.Path.{refl, sym, ap, ap₂}
-use Rattle.std.proofs.Common.{subst, ◌∙◌, leb→le, le→leb, pow_pos, eq-eqb}
+use Rattle.std.proofs.Common.{subst, ◌∙◌, leb→le, le→leb}
 use Rattle.std.proofs.Math.Bool.{true, false, or-false, or_comm, or_assoc, true≢false}
 use Rattle.std.proofs.lemmas.Bool.{false≢true}
 use mathlib.Core.List.{List, [], ◌∷◌, ◌++◌}
@@ -20,9 +20,10 @@ use Rattle.table.specs.Table.{told, Table, Kept}
 use Rattle.table.specs.Keeping.{kept_told}
 use Rattle.quorum.specs.Words.{within}
 use Rattle.quorum.specs.Below.{same_word}
+use Rattle.drift.specs.declared.Joined.{Joined}
 use Rattle.drift.specs.declared.Judged.{Judged}
 use Rattle.drift.specs.Tree.{clause_tree}
-use Rattle.drift.specs.Answer.{Alone, OverWord, Gathered, joinable, PartRow, ClauseJudged}
+use Rattle.drift.specs.Answer.{OverWord, Told, Gathered, joinable, PartRow, ClauseJudged}
 use Rattle.drift.specs.OperatorRows.{row_of}
 
 abbrev CountList : Type 0
@@ -53,7 +54,8 @@ module _ (P : Rows) where
   text_append : (xs ys : CountList) (i s : ℕ) → some_text P (xs ++ ys) i s ≡ (some_text P xs i s || some_text P ys i s)
   unfolding some_text
   text_append [] ys i s = refl
-  text_append (x ∷ xs) ys i s = ap (λ (b : Bool). text P i x s || b) (text_append xs ys i s) ∙ sym (or_assoc (text P i x s) (some_text P xs i s) (some_text P ys i s))
+  text_append (x ∷ xs) ys i s =
+      ap (λ (b : Bool). text P i x s || b) (text_append xs ys i s) ∙ sym (or_assoc (text P i x s) (some_text P xs i s) (some_text P ys i s))
 
   word_append : (who : ℕ) (xs ys : CountList) → OverWord P who xs → OverWord P who ys → OverWord P who (xs ++ ys)
   word_append who [] ys a b = b
@@ -103,47 +105,40 @@ module _ (P : Rows) where
 ---- Gathered.
 module _ (P : Rows) (few : P.carts ≤ 32) where
   -- what has no counts to join
-  pub alone_gathered : (xs : CountList) → uniform P xs ≡ false → (marks row : ℕ) (t : List ℕ) (r : Judged) → Alone marks P.h row r → Gathered P xs t r
-  alone_gathered xs e marks row t r a = record {
-    joins_is = a.joins_not ∙ sym e;
-    low = omega (arith, a.no_cart, pow_pos P.carts);
-    few = omega (arith, a.no_slack);
-    told_of = λ f. absurd (false≢true (sym a.joins_not ∙ f));
-  }
+  pub alone_gathered : (xs : CountList) → uniform P xs ≡ false → (t : List ℕ) → Gathered P xs t None
+  alone_gathered xs e t = record { joins_is = sym e; told_of = tt }
 
   -- one count
-  pub count_gathered : (x : Bool × Counted) (t : List ℕ) (r : Judged) → r.joins ≡ true → r.slack ≡ min 32 (asked P x - 1) → r.who < 2 ^ P.carts
+  pub count_gathered : (x : Bool × Counted) (t : List ℕ) (r : Joined) → r.slack ≡ min 32 (asked P x - 1) → r.who < 2 ^ P.carts
       → ((i : ℕ) → i < P.carts → on r.who i ≡ among P (over P x) i)
-      → ((i s : ℕ) → i < P.carts → s < P.h → (on r.who i && signed r.sign (told t r.at i s)) ≡ text P i x s) → Gathered P (x ∷ []) t r
+      → ((i s : ℕ) → i < P.carts → s < P.h → (on r.who i && signed r.sign (told t r.at i s)) ≡ text P i x s) → Gathered P (x ∷ []) t (Some r)
   unfolding slack some_text uniform all_over
-  count_gathered x t r e f low w g = record {
-    joins_is = e;
-    low = low;
-    few = omega arith;
-    told_of = λ _. record { word = (w, tt); sum = omega arith; each = λ i s q u. g i s q u ∙ sym (or-false (text P i x s)) };
+  count_gathered x t r f low w g = record {
+    joins_is = refl;
+    told_of = record { low = low; word = (w, tt); sum = omega arith; each = λ i s q u. g i s q u ∙ sym (or-false (text P i x s)) };
   }
 
   -- kept, it is told as before
-  pub gathered_kept : (xs : CountList) (n : ℕ) (before after : List ℕ) (r : Judged) → Kept n before after → r.at + P.h ≤ n → Gathered P xs before r
-      → Gathered P xs after r
-  gathered_kept xs n before after r kept q g = record {
-    joins_is = g.joins_is;
-    low = g.low;
-    few = g.few;
-    told_of = λ e. let y = g.told_of e in record {
-      word = y.word;
-      sum = y.sum;
-      each = λ i s c u.
-          ap (λ (b : Bool). on r.who i && signed r.sign b) (kept_told n before after kept r.at P.h i s q u) ∙ y.each i s c u;
-    };
-  }
+  pub gathered_kept : (xs : CountList) (n : ℕ) (before after : List ℕ) (r : Option Joined) → Kept n before after → IfSome r (λ j. j.at + P.h ≤ n)
+      → Gathered P xs before r → Gathered P xs after r
+  gathered_kept xs n before after None kept q g = record { joins_is = g.joins_is; told_of = tt }
+  gathered_kept xs n before after (Some r) kept q g =
+      let y = g.told_of in record {
+        joins_is = g.joins_is;
+        told_of = record {
+          low = y.low;
+          word = y.word;
+          sum = y.sum;
+          each = λ i s c u.
+              ap (λ (b : Bool). on r.who i && signed r.sign b) (kept_told n before after kept r.at P.h i s q u) ∙ y.each i s c u;
+        };
+      }
 
   -- an or of two sides whose counts are over the same carts
-  module _ (xs ys : CountList) (before after : List ℕ) (first second r : Judged) where
+  module _ (xs ys : CountList) (before after : List ℕ) (first second r : Joined) where
     abbrev pub Joins : Type 0
     Joins =
-        (first.joins ≡ true) × (second.joins ≡ true) × (r.joins ≡ true) × (r.sign ≡ true) × (r.slack ≡ min 32 (first.slack + second.slack))
-        × (first.who ≡ second.who) × (r.who ≡ first.who)
+        (r.sign ≡ true) × (r.slack ≡ min 32 (first.slack + second.slack)) × (first.who ≡ second.who) × (r.who ≡ first.who)
 
     abbrev pub Made : Type 0
     Made =
@@ -155,22 +150,21 @@ module _ (P : Rows) (few : P.carts ≤ 32) where
         (slack P zs ≡ slack P xs + slack P ys) × ((i s : ℕ) → some_text P zs i s ≡ (some_text P xs i s || some_text P ys i s)) × (uniform P zs ≡ true)
         × OverWord P r.who zs
 
-    by_both : (zs : CountList) → Both zs → Joins → Gathered P xs before first → Gathered P ys before second → Made → Gathered P zs after r
+    by_both : (zs : CountList) → Both zs → Joins → Gathered P xs before (Some first) → Gathered P ys before (Some second) → Made → Gathered P zs after (Some r)
     by_both zs b j f g m =
-        let f' = f.told_of j.0 in
-        let g' = g.told_of j.1 in record {
-          joins_is = j.2 ∙ sym b.2;
-          low = omega (arith, j.6, f.low);
-          few = omega (arith, j.4);
-          told_of = λ _. record {
+        let f' = f.told_of in
+        let g' = g.told_of in record {
+          joins_is = sym b.2;
+          told_of = record {
+            low = omega (arith, j.3, f'.low);
             word = b.3;
-            sum = omega (arith, b.0, j.4, f'.sum, g'.sum);
+            sum = omega (arith, b.0, j.1, f'.sum, g'.sum);
             each = λ i s c u.
-                ap₂ (λ (w : ℕ) (p : Bool). on w i && signed p (told after r.at i s)) j.6 j.3
+                ap₂ (λ (w : ℕ) (p : Bool). on w i && signed p (told after r.at i s)) j.3 j.0
                 ∙ ap (λ (x : Bool). on first.who i && x) (m.each s (omega arith) u i (omega arith))
                 ∙ and_or (on first.who i) (signed first.sign (told before first.at i s)) (signed second.sign (told before second.at i s))
                 ∙ ap₂ (λ (x y : Bool). x || y) (f'.each i s c u)
-                (ap (λ (w : ℕ). on w i && signed second.sign (told before second.at i s)) j.5 ∙ g'.each i s c u)
+                (ap (λ (w : ℕ). on w i && signed second.sign (told before second.at i s)) j.2 ∙ g'.each i s c u)
                 ∙ sym (b.1 i s);
           };
         }
@@ -208,18 +202,18 @@ module _ (P : Rows) (few : P.carts ≤ 32) where
         )
 
     -- what was told of the sides
-    sides_told : Joins → Gathered P xs before first → Gathered P ys before second → Sides
+    sides_told : Joins → Gathered P xs before (Some first) → Gathered P ys before (Some second) → Sides
     sides_told j f g = (
-      sym f.joins_is ∙ j.0,
-      sym g.joins_is ∙ j.1,
-      subst (λ (w : ℕ). OverWord P w xs) (sym j.6) (f.told_of j.0).word,
-      subst (λ (w : ℕ). OverWord P w ys) (sym (j.6 ∙ j.5)) (g.told_of j.1).word,
+      sym f.joins_is,
+      sym g.joins_is,
+      subst (λ (w : ℕ). OverWord P w xs) (sym j.3) f.told_of.word,
+      subst (λ (w : ℕ). OverWord P w ys) (sym (j.3 ∙ j.2)) g.told_of.word,
     )
 
   -- whichever was judged first
-  pub or_gathered : (swapped : Bool) (xs ys : CountList) (before after : List ℕ) (first second r : Judged) → Joins xs ys before after first second r
-      → Gathered P xs before (cond swapped second first) → Gathered P ys before (cond swapped first second) → Made xs ys before after first second r
-      → Gathered P (both xs ys) after r
+  pub or_gathered : (swapped : Bool) (xs ys : CountList) (before after : List ℕ) (first second r : Joined) → Joins xs ys before after first second r
+      → Gathered P xs before (cond swapped (Some second) (Some first)) → Gathered P ys before (cond swapped (Some first) (Some second))
+      → Made xs ys before after first second r → Gathered P (both xs ys) after (Some r)
   or_gathered false xs ys before after first second r j f g m =
       by_both xs ys before after first second r _ (in_order_lem xs ys before after first second r (sides_told xs ys before after first second r j f g)) j f g m
   or_gathered true xs ys before after first second r j f g m =
@@ -230,74 +224,75 @@ module _ (P : Rows) (few : P.carts ≤ 32) where
       → OverWord P who' (y ∷ ys) → SameCarts P (over P x) (over P y) → who ≡ who'
   same_word_of x y xs ys who who' low low' w w' e = same_word P.carts who who' low low' (λ i c. w.0 i c ∙ e i c ∙ sym (w'.0 i c))
 
-  both_told : (xs ys : CountList) (t : List ℕ) (a b : Judged) → Gathered P xs t a → Gathered P ys t b → T (uniform P (both xs ys))
-      → (a.joins ≡ true) × (b.joins ≡ true) × (a.who ≡ b.who)
+  -- a side with counts to join has told of them
+  side_told : (xs : CountList) (t : List ℕ) (r : Option Joined) → Gathered P xs t r → T (uniform P xs) → (j : Joined) × (r ≡ Some j) × Told P xs t j
+  side_told xs t None g z = absurd (subst T (sym g.joins_is) z)
+  side_told xs t (Some j) g z = (j, refl, g.told_of)
+
+  both_told : (xs ys : CountList) (t : List ℕ) (a b : Option Joined) → Gathered P xs t a → Gathered P ys t b → T (uniform P (both xs ys))
+      → (i : Joined) × (j : Joined) × (a ≡ Some i) × (b ≡ Some j) × (i.who ≡ j.who)
   unfolding uniform
   both_told [] ys t a b f g z = absurd z
   both_told (x ∷ xs) [] t a b f g z = absurd z
   both_told (x ∷ xs) (y ∷ ys) t a b f g z =
       let s = sides P x y xs ys z in
-      let ja = f.joins_is ∙ bool_ext _ _ (λ _. tt) (λ _. s.0) in
-      let jb = g.joins_is ∙ bool_ext _ _ (λ _. tt) (λ _. s.1) in
-      (ja, jb, same_word_of x y xs ys a.who b.who f.low g.low (f.told_of ja).word (g.told_of jb).word s.2)
+      let i = side_told (x ∷ xs) t a f s.0 in
+      let j = side_told (y ∷ ys) t b g s.1 in
+      (i.0, j.0, i.1, j.1, same_word_of x y xs ys i.0.who j.0.who i.2.low j.2.low i.2.word j.2.word s.2)
 
   -- where a side has none, or the two are over different carts, there are none to join
-  pub none_gathered : (swapped p : Bool) (xs ys : CountList) (t : List ℕ) (first second : Judged) → Gathered P xs t (cond swapped second first)
-      → Gathered P ys t (cond swapped first second) → (((p && first.joins) && second.joins) && eqb first.who second.who) ≡ false
+  pub none_gathered : (swapped p : Bool) (xs ys : CountList) (t : List ℕ) (first second : Option Joined) → Gathered P xs t (cond swapped second first)
+      → Gathered P ys t (cond swapped first second)
+      → ((a b : Joined) → p ≡ true → first ≡ Some a → second ≡ Some b → a.who ≡ b.who → ⊥)
       → uniform P (cond p (both xs ys) []) ≡ false
   unfolding uniform
-  none_gathered swapped false xs ys t first second f g e = refl
-  none_gathered swapped true xs ys t first second f g e =
-      bool_ext _ _ (λ z. let j = told_both swapped f g z in true≢false (sym (all j.0 j.1 j.2) ∙ e)) (λ z. absurd z)
+  none_gathered swapped false xs ys t first second f g sides = refl
+  none_gathered swapped true xs ys t first second f g sides = bool_ext _ _ (told_both swapped f g) (λ z. absurd z)
     where
-      told_both : (swapped : Bool) → Gathered P xs t (cond swapped second first) → Gathered P ys t (cond swapped first second) → T (uniform P (both xs ys))
-          → (first.joins ≡ true) × (second.joins ≡ true) × (first.who ≡ second.who)
-      told_both false f g z = both_told xs ys t first second f g z
-      told_both true f g z = let j = both_told xs ys t second first f g z in (j.1, j.0, sym j.2)
-
-      all : first.joins ≡ true → second.joins ≡ true → first.who ≡ second.who
-          → (((true && first.joins) && second.joins) && eqb first.who second.who) ≡ true
-      all a b c = rw (a, b) (eq-eqb first.who second.who c)
+      told_both : (swapped : Bool) → Gathered P xs t (cond swapped second first) → Gathered P ys t (cond swapped first second) → T (uniform P (both xs ys)) → ⊥
+      told_both false f g z = let j = both_told xs ys t first second f g z in sides j.0 j.1 refl j.2 j.3 j.4
+      told_both true f g z = let j = both_told xs ys t second first f g z in sides j.1 j.0 refl j.3 j.2 (sym j.4)
 
   -- more carts than the slack: 32 stand for any more, since there are no more carts
-  module _ (proper : Proper P) (d : ℕ) (zs : CountList) (t : List ℕ) (r : Judged) (g : Gathered P zs t r) where
+  module _ (proper : Proper P) (d : ℕ) (zs : CountList) (t : List ℕ) (r : Joined) (g : Gathered P zs t (Some r)) where
     capped : (n m : ℕ) → n ≤ 32 → ltb (min 32 m) n ≡ ltb m n
     capped n m q =
         bool_ext _ _ (λ z. let a = leb→le (suc (min 32 m)) n z in le→leb (suc m) n (omega arith))
         (λ z. let a = leb→le (suc m) n z in le→leb (suc (min 32 m)) n (omega arith))
 
-    pub joint-told : (z : ℕ) → r.joins ≡ true → r.sign ≡ true
+    pub joint-told : (z : ℕ) → r.sign ≡ true
         → Row P.h z (λ s. ltb r.slack (throughout P.h P.l P.carts d (within r.who (told t r.at)) s)) → Row P.h z (joint P d zs)
     unfolding joint
-    joint-told z e f row =
+    joint-told z f row =
         row_of P.h z _ _
         (λ s q. same s
-        ∙ ap (λ (b : Bool). b && ltb (slack P zs) (throughout P.h P.l P.carts d (some_text P zs) s)) (sym (sym g.joins_is ∙ e))) row
+        ∙ ap (λ (b : Bool). b && ltb (slack P zs) (throughout P.h P.l P.carts d (some_text P zs) s)) g.joins_is) row
       where
         same : (s : ℕ) → ltb r.slack (throughout P.h P.l P.carts d (within r.who (told t r.at)) s)
             ≡ ltb (slack P zs) (throughout P.h P.l P.carts d (some_text P zs) s)
         same s =
-            let y = g.told_of e in
+            let y = g.told_of in
             ap₂ ltb y.sum
             (throughout_agrees P.carts P.h P.l proper.lap d _ _
             (λ i c s u. ap (λ (b : Bool). on r.who i && signed b (told t r.at i s)) (sym f) ∙ y.each i s c u) s)
             ∙ capped _ (slack P zs) (let n = tally_le (λ i. window P.h P.l (some_text P zs i) d s) P.carts in omega arith)
 
   -- what was told of both operands, in the order in which they stand
-  pub in_place : (d : ℕ) (nodes : List ℕ) (p swapped : Bool) (i j x y : ℕ) (before after : List ℕ) (first second : Judged) {n : ℕ} → i ≡ cond swapped y x
-      → j ≡ cond swapped x y → Kept n before after → first.at + P.h ≤ n → ClauseJudged P d nodes p i before first → ClauseJudged P d nodes p j after second
+  pub in_place : (d : ℕ) (nodes : List ℕ) (p swapped : Bool) (i j x y : ℕ) (before after : List ℕ) (first second : Judged) {n : ℕ}
+      → i ≡ cond swapped y x → j ≡ cond swapped x y → Kept n before after → IfSome first.joined (λ j. j.at + P.h ≤ n)
+      → ClauseJudged P d nodes p i before first → ClauseJudged P d nodes p j after second
       → PartRow P d nodes p x (cond swapped second.row first.row) × PartRow P d nodes p y (cond swapped first.row second.row)
-      × ((m : ℕ) → x < m → Gathered P (joinable d p (clause_tree nodes m x)) after (cond swapped second first))
-      × ((m : ℕ) → y < m → Gathered P (joinable d p (clause_tree nodes m y)) after (cond swapped first second))
+      × ((m : ℕ) → x < m → Gathered P (joinable d p (clause_tree nodes m x)) after (cond swapped second.joined first.joined))
+      × ((m : ℕ) → y < m → Gathered P (joinable d p (clause_tree nodes m y)) after (cond swapped first.joined second.joined))
   in_place d nodes p true i j x y before after first second ei ej kept q f g = (
     rw ej at g.rows,
     rw ei at f.rows,
     rw ej at g.counts,
-    λ m z. gathered_kept _ _ before after first kept q ((rw ei at f.counts) m z),
+    λ m z. gathered_kept _ _ before after first.joined kept q ((rw ei at f.counts) m z),
   )
   in_place d nodes p false i j x y before after first second ei ej kept q f g = (
     rw ei at f.rows,
     rw ej at g.rows,
-    λ m z. gathered_kept _ _ before after first kept q ((rw ei at f.counts) m z),
+    λ m z. gathered_kept _ _ before after first.joined kept q ((rw ei at f.counts) m z),
     rw ej at g.counts,
   )

@@ -3,7 +3,7 @@ use Rattle.std.specs.Prelude.{ℕ, ◌+◌, ◌≤◌, ◌<◌, ◌≡◌, refl,
 use Rattle.std.proofs.Math.Path.{sym, ap}
 use Rattle.std.proofs.Common.{ap₂, ◌∙◌}
 use Rattle.std.proofs.Math.Bool.{true, not}
-use Rattle.grammar.specs.Grammar.{Form, top, leaf, Over, Amount, amount, counted}
+use Rattle.grammar.specs.Grammar.{Form, top, leaf, Amount, amount, counted}
 use Rattle.grammar.specs.Nodes.{Op₁, neg₁, next₁, ev₁, gl₁}
 use Rattle.cltl.specs.Meaning.{Rows, Proper, among}
 use Rattle.cltl.specs.Rules.{judge, nothing, mark, inner, over, text, quorum}

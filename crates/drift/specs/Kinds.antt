@@ -1,5 +1,5 @@
 -- What a node is, by the tests on its kind.
-use Rattle.std.specs.Prelude.{ℕ, ◌+◌, ◌*◌, ◌≤◌, ◌<◌, ◌≡◌, Bool, true, false, ◌⊎◌, T, eqb, ltb}
+use Rattle.std.specs.Prelude.{ℕ, ◌≤◌, ◌<◌, ◌≡◌, Bool, true, false, ◌⊎◌, T, ltb}
 use Rattle.std.proofs.Common.{sym, subst, inl, inr, ⊎_elim, ltb→lt, lt→ltb, eq-eqb, ne_eqb, lt-ltb, le-ltb, arith}
 use Rattle.grammar.specs.Nodes.{top_n, mark_n, count_n, one_n, two_n}
 use Rattle.cltl.proofs.Basics.{or_cases, or_l, or_r, lt_or_le}

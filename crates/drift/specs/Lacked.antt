@@ -1,12 +1,12 @@
 -- The first group that the floor lacks, node by node.
 use Prim.Native.Nat.{ℕ, zero, suc, ◌+◌, ◌-◌, ◌*◌, ◌/◌, ◌%◌, ◌≤◌, ◌<◌}
 use native.Mathlib.Omega.{arith}
-use Rattle.std.specs.Prelude.{◌≡◌, Bool, true, false, ◌&&◌, List, [], ◌∷◌, ◌++◌, eqb, ltb}
+use Rattle.std.specs.Prelude.{◌≡◌, Bool, true, false, ◌&&◌, List, [], ◌++◌, eqb, ltb}
 use Rattle.std.proofs.Math.Path.{refl, ap}
 use Rattle.std.proofs.Common.{sym, ◌∙◌, ⊎_elim, lt-ltb, le-ltb}
 use Rattle.std.proofs.Math.Bool.{cond}
-use Rattle.grammar.specs.Grammar.{Over, amount}
-use Rattle.grammar.specs.Nodes.{Op₁, Op₂, top_n, mark_n, count_n, one_n, two_n}
+use Rattle.grammar.specs.Grammar.{amount}
+use Rattle.grammar.specs.Nodes.{Op₁, Op₂, top_n, mark_n, one_n, two_n}
 use Rattle.grammar.specs.Groups.{amount_groups, node_groups}
 use Rattle.cltl.proofs.Basics.{lt_or_le}
 use Rattle.drift.specs.Tree.{one_of, two_of, over_of, amount_at, node_of, kind_at, second_at, third_at, node_at, Ordered}

@@ -3,7 +3,6 @@ use Rattle.std.specs.Prelude.{ℕ, ◌+◌, ◌-◌, ◌^◌, ◌≤◌, ◌<◌
 use Rattle.table.specs.Layout.{Constants}
 use Rattle.quorum.specs.Words.{Bits}
 use Rattle.drift.specs.declared.Ground.{Ground}
-use Rattle.drift.specs.Ground.{InRange}
 use Rattle.drift.specs.Tree.{Ordered}
 use Rattle.drift.specs.Need.{Needs}
 use Rattle.drift.specs.Places.{pairs_end}
@@ -12,12 +11,10 @@ use Rattle.drift.specs.Places.{pairs_end}
 abbrev pub who_of : List ℕ → ℕ → ℕ
 who_of b o = get_or b (32 + o) 0
 
--- a block of tables t with its pairs of places, words w for windows, and the table b of bits by which steps are gathered, with the words of fleet and groups
-pub record Lent (g : Ground) (t w b : List ℕ) : Type 0 where
-  pub range : InRange g
-  pub constants : Constants g.marks g.h t
-  pub pairs : pairs_end g.marks g.h ≤ length t
-  pub windows : length w ≡ 81
+-- a block of tables t with its pairs of places, and the table b of bits by which steps are gathered, with the words of fleet and groups
+pub record Lent (g : Ground) (t b : List ℕ) : Type 0 where
+  pub constants : Constants g.marks g.lasso.h t
+  pub pairs : pairs_end g.marks g.lasso.h ≤ length t
   pub bits : Bits b
   pub fleet : who_of b 0 ≡ 2 ^ g.carts - 1
   pub groups : (o : ℕ) → who_of b o < 2 ^ g.carts

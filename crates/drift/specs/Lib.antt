@@ -1,7 +1,7 @@
 -- definitions
 pub mod Tree
 pub mod Operator
-pub mod Ground
+pub mod Decoded
 pub mod Answer
 pub mod Lacking
 pub mod Need
@@ -14,6 +14,7 @@ pub mod NeedExamples
 -- laws
 pub mod OperatorTruth
 pub mod Kinds
+pub mod Decoding
 pub mod NodeIs
 pub mod Needing
 pub mod Order

@@ -1,10 +1,10 @@
 -- What a node is, by the tests on its kind: whatever is said of nodes.
-use Rattle.std.specs.Prelude.{ℕ, ◌+◌, ◌*◌, ◌≤◌, ◌<◌, ◌≡◌, Bool, true, List, eqb}
+use Rattle.std.specs.Prelude.{ℕ, ◌≤◌, ◌<◌, ◌≡◌, true, List}
 use Rattle.std.proofs.Common.{sym, ap, ◌∙◌, ⊎_elim, arith}
 use Rattle.grammar.specs.Grammar.{Amount}
 use Rattle.grammar.specs.Nodes.{Node, top_n, mark_n, count_n, one_n, two_n}
 use Rattle.cltl.proofs.Basics.{lt_or_le}
-use Rattle.drift.specs.Tree.{is_leaf, kind_at, first_at, second_at, third_at, node_at, one_of, two_of, amount_at}
+use Rattle.drift.specs.Tree.{is_leaf, kind_at, first_at, second_at, node_at, one_of, two_of, amount_at}
 use Rattle.drift.specs.Kinds.{kind_top, kind_mark, kind_one, kind_two, kind_count, leaf_kind}
 
 -- what holds of a node, by the tests on its kind

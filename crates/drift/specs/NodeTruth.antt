@@ -1,11 +1,11 @@
 -- Node after node by the tests on its kind: where its operands are, and its truth from theirs.
-use Rattle.std.specs.Prelude.{ℕ, ◌+◌, ◌*◌, ◌≤◌, ◌<◌, ◌≡◌, refl, Bool, true, false, cond, List, eqb}
+use Rattle.std.specs.Prelude.{ℕ, ◌+◌, ◌≤◌, ◌<◌, ◌≡◌, refl, Bool, true, false, cond, List, eqb}
 use Rattle.std.proofs.Common.{sym, ap, ap₂, subst, ◌∙◌, ⊎_elim, arith, ne_eqb}
 use Rattle.grammar.specs.Grammar.{Form, Amount}
 use Rattle.grammar.specs.Nodes.{Node, top_n, mark_n, count_n, one_n, two_n, next₁, ev₁, gl₁}
 use Rattle.cltl.specs.Rules.{judge}
 use Rattle.cltl.proofs.Basics.{lt_or_le}
-use Rattle.drift.specs.Tree.{kind_at, first_at, second_at, third_at, node_at, one_of, two_of, OperandsBelow, tree, Ordered, amount_at}
+use Rattle.drift.specs.Tree.{kind_at, first_at, second_at, node_at, one_of, two_of, OperandsBelow, tree, Ordered, amount_at}
 use Rattle.drift.specs.Operator.{under, one_rule, two_rule, or_of}
 use Rattle.drift.specs.OperatorTruth.{Same, TruthIs, node_truth, one_truth, two_truth, top_truth}
 use Rattle.drift.specs.Kinds.{kind_top, kind_mark, kind_one, kind_two, kind_count}

@@ -8,7 +8,6 @@ use Rattle.table.specs.Table.{told, Apart}
 use Rattle.table.specs.Layout.{all_at, none_at, pairs_at, mark_at, Constants}
 use Rattle.table.specs.Keeping.{all_ends, none_ends, mark_ends}
 use Rattle.drift.specs.declared.Ground.{Ground}
-use Rattle.drift.specs.Ground.{InRange}
 use Rattle.drift.specs.Tree.{kind_at, node_at, one_of, two_of}
 use Rattle.drift.specs.Places.{constant_at, leaf_at, pairs_end, other_of, Placed}
 
@@ -18,12 +17,12 @@ chosen_of Q true x y a b r e = subst Q (sym e) a
 chosen_of Q false x y a b r e = subst Q (sym e) b
 
 -- so many tables are so many words at most
-pub at_most : (g : Ground) → InRange g → (n m : ℕ) → n ≤ m → n * g.h ≤ m * 64
-at_most g r n m q = mul-le-mul {n₁ = n} {m₁ = g.h} {n₂ = m} {m₂ = 64} q r.steps
+pub at_most : (g : Ground) (n m : ℕ) → n ≤ m → n * g.lasso.h ≤ m * 64
+at_most g n m q = mul-le-mul {n₁ = n} {m₁ = g.lasso.h} {n₂ = m} {m₂ = 64} q g.lasso.short
 
 -- so the pairs end there at the latest
-pub pairs_end_lem : (g : Ground) → InRange g → pairs_end g.marks g.h ≤ 2944
-pairs_end_lem g r = at_most g r (g.marks + 14) 46 (let m = r.marks in omega arith)
+pub pairs_end_lem : (g : Ground) → pairs_end g.marks g.lasso.h ≤ 2944
+pairs_end_lem g = at_most g (g.marks + 14) 46 (let m = g.marks_bound in omega arith)
 
 module _ (marks h : ℕ) where
   pub constant_ends : (p : Bool) → constant_at marks h p + h ≤ pairs_at marks h

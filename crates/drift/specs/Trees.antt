@@ -1,5 +1,5 @@
 -- The tree of a clause's node, by the tests on its kind.
-use Prim.Native.Nat.{ℕ, zero, suc, ◌+◌, ◌*◌, ◌≤◌, ◌<◌}
+use Prim.Native.Nat.{ℕ, zero, suc, ◌+◌, ◌≤◌, ◌<◌}
 use native.Mathlib.Omega.{arith}
 use Rattle.std.specs.Prelude.{◌≡◌, Bool, true, false, cond, ◌||◌, List, eqb, length}
 use Rattle.std.proofs.Math.Path.{refl, sym, ap, ap₂}
@@ -13,7 +13,7 @@ use Rattle.cltl.proofs.Basics.{lt_or_le}
 use Rattle.cltl.specs.Step.{lowest, failing}
 use Rattle.drift.specs.Tree.{is_leaf, node_at, one, two, one_of, two_of, form_of, tree, inner_tree, clause_tree, Ordered, amount_at}
 use Rattle.drift.specs.Kinds.{kind_top, kind_mark, kind_one, kind_two, kind_count}
-use Rattle.drift.specs.Tree.{kind_at, first_at, second_at, third_at}
+use Rattle.drift.specs.Tree.{kind_at, first_at, second_at}
 use Rattle.drift.specs.NodeIs.{of_leaf}
 use Rattle.drift.specs.NodeTruth.{one_low, two_low}
 

@@ -12,8 +12,8 @@ ghost use Rattle.drift.specs.Tree.{Ordered, third_at, over_of, amount_at};
 ghost use Rattle.drift.specs.Lent.{who_of, Lent};
 
 use crate::Ground;
-use crate::nodes::{kind_at, number_at, over_at};
-use endian::wide;
+use crate::nodes::{number_at, over_at, percent_at};
+use quorum::Fleet;
 
 // The number of carts that a count over so many carts asks for: a share is rounded to the nearest, a half going up.
 pub fn threshold(number: usize, percent: bool, size: usize) -> usize
@@ -40,7 +40,7 @@ pub fn quota(p: bool, m: usize, size: usize) -> usize
 
 // The carts that count k is over, a bit each: the words of the fleet and of the groups stand behind the bits of the table. A group that is not there has none.
 pub fn who_at(nodes: &[u8], bits: &[u32; 41], k: usize) -> u32
-    requires { Ordered nodes.now (k + 1) × (length bits.now ≡ 41) }
+    requires { Ordered nodes.now (k + 1) }
     ensures { result ≡ who_of bits.now (third_at nodes.now k / 4) }
 {
     let o = over_at(nodes, k);
@@ -69,7 +69,7 @@ pub fn asked_at(nodes: &[u8], who: u32, carts: usize, p: bool, k: usize) -> usiz
         → result ≡ asked P (p, counted a (amount_at nodes.now k)) }
 {
     let size = size_of(over_at(nodes, k), who, carts);
-    let percent = kind_at(nodes, k) == 11;
+    let percent = percent_at(nodes, k);
     quota(p, threshold(number_at(nodes, k), percent, size), size)
 }
 
@@ -101,14 +101,18 @@ pub fn together(
     bits: &[u32; 41],
     g: Ground,
 ) -> u64
-    requires lent { Lent g t.now w.old bits.now }
-    requires h_in_bounds { (at + g.h ≤ length t.now) × (slack ≤ 32) × (who < 2 ^ g.carts) }
-    ensures w_len { length w.new ≡ 81 }
-    ensures row { Row g.h result (λ s. ltb slack (throughout g.h g.l g.carts g.d (within who (told t.now at)) s)) }
+    requires lent { Lent g t.now bits.now }
+    requires h_in_bounds { (at + g.lasso.h ≤ length t.now) × (slack ≤ 32) × (who < 2 ^ g.carts) }
+    ensures row { Row g.lasso.h result (λ s. ltb slack (throughout g.lasso.h g.lasso.l g.carts g.drift (within who (told t.now at)) s)) }
 {
-    let few = wide(slack);
+    let few = usize::from(slack);
     if g.carts <= few {
         return 0;
     }
-    quorum::joint_row(t, at, few + 1, who, g.carts, g.h, g.l, g.d, w, bits)
+    let fleet = Fleet {
+        carts: g.carts,
+        lasso: g.lasso,
+        drift: g.drift,
+    };
+    quorum::joint_row(t, at, few + 1, who, fleet, w, bits)
 }

@@ -13,18 +13,39 @@ mod refused;
 mod tables;
 mod tallies;
 
+ghost use Rattle.std.specs.Prelude.{◌<◌, ◌≤◌};
+
 pub use clauses::clause_row;
+use mask::Lasso;
 pub use needs::fill_needs;
 pub use refused::{failing_step, has_next, lacking_group};
 
-// What clauses are judged on: so many carts, h steps with the lap from l on, the drift, and so many tables of marks.
+// What clauses are judged on: so many carts, the lasso of their steps, the drift, and so many tables of marks. The bits of steps are lent beside it,
+// since inner text needs none: in one struct they would be no plainer.
 #[derive(Clone, Copy)]
 pub struct Ground {
     pub carts: usize,
-    pub h: usize,
-    pub l: usize,
-    pub d: usize,
+    pub lasso: Lasso,
+    pub drift: usize,
     pub marks: usize,
+    pub ghost some: { 0 < carts },
+    pub ghost few: { carts ≤ 32 },
+    pub ghost drift_bound: { drift ≤ 16 },
+    pub ghost marks_bound: { marks ≤ 32 },
+}
+
+// The nodes up to a clause's last one, four bytes to each, and how many pairs of places the text of each needs.
+#[derive(Clone, Copy)]
+pub struct Clause<'a> {
+    pub nodes: &'a [u8],
+    pub needs: &'a [u8],
+}
+
+// What is lent for a whole check: words for the windows of a count, and the tallies that are kept from count to count, each 255 at the start.
+#[derive(Drop)]
+pub struct Scratch {
+    pub w: [u32; 81],
+    pub tallies: [u8; 2048],
 }
 
 // The operands of a binary operator in the order in which they are judged; swapped, the right one is first.
@@ -35,15 +56,19 @@ pub struct Operands {
     pub swapped: bool,
 }
 
-// What judging a part of a clause gives: its row; and if it joins (with drift, a count or an or whose sides, through nested ors, are all counts over the same
-// carts) where the table of the or of its texts begins, or without the sign that of the negation of this or, the sum of (threshold - 1), 32 at most, and
-// these carts, a bit each.
+// The counts of a part of a clause to join (with drift, a count or an or whose sides, through nested ors, are all counts over the same carts): where the table
+// of the or of their texts begins, or without the sign that of the negation of this or, the sum of (threshold - 1), 32 at most, and these carts, a bit each.
 #[derive(Clone, Copy)]
-pub struct Judged {
-    pub row: u64,
-    pub joins: bool,
+pub struct Joined {
     pub at: usize,
     pub sign: bool,
     pub slack: u8,
     pub who: u32,
+}
+
+// What judging a part of a clause gives.
+#[derive(Clone, Copy)]
+pub struct Judged {
+    pub row: u64,
+    pub joined: Option<Joined>,
 }

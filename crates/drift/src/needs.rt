@@ -3,8 +3,9 @@ ghost use Rattle.std.specs.Prelude.{◌≡◌, ℕ, ◌+◌, ◌≤◌, ◌<◌,
 ghost use Rattle.drift.specs.Tree.{Ordered, kind_at, node_at};
 ghost use Rattle.drift.specs.Need.{more as more_of, need_node, Needs, InTurn};
 
-use crate::Operands;
 use crate::nodes::{first_at, kind_at, second_at};
+use crate::{Clause, Operands};
+use token::Kind;
 
 // An operator's own table takes a pair.
 fn at_least_one(a: u8) -> u8
@@ -30,18 +31,12 @@ fn node_need(nodes: &[u8], needs: &[u8], k: usize) -> u8
     requires k_in_bounds { (k ≤ length needs.now) × (k < 255) × ((j : ℕ) → j < k → get_or needs.now j 0 ≤ j) }
     ensures { result ≡ need_node needs.now (node_at nodes.now k) }
 {
-    let kind = kind_at(nodes, k);
-    if kind < 2 {
-        return 0;
+    match kind_at(nodes, k) {
+        Kind::Top | Kind::Mark => 0,
+        Kind::Unary(_) => at_least_one(needs[first_at(nodes, k)]),
+        Kind::Binary(_) => more(needs[first_at(nodes, k)], needs[second_at(nodes, k)]),
+        Kind::Count { .. } => needs[first_at(nodes, k)],
     }
-    let a = needs[first_at(nodes, k)];
-    if 9 < kind {
-        return a;
-    }
-    if kind < 6 {
-        return at_least_one(a);
-    }
-    more(a, needs[second_at(nodes, k)])
 }
 
 // Fills the needs of n nodes, and leaves every other byte alone.
@@ -50,22 +45,20 @@ pub fn fill_needs(nodes: &[u8], n: usize, needs: &mut [u8])
     ensures { Needs nodes.now needs.new n × (length needs.new ≡ length needs.old)
         × ((j : ℕ) → n ≤ j → get_or needs.new j 0 ≡ get_or needs.old j 0) }
 {
-    let mut k = 0;
-    while k < n {
+    for k in 0..n {
         needs[k] = node_need(nodes, needs, k);
-        k += 1;
     }
 }
 
 // The operands of a binary operator, node k: the one that needs more pairs goes first.
-pub fn in_turn(nodes: &[u8], needs: &[u8], k: usize) -> Operands
-    requires ordered { Ordered nodes.now (k + 1) × Needs nodes.now needs.now (k + 1) }
-    requires bound { (6 ≤ kind_at nodes.now k) × (kind_at nodes.now k < 10) }
-    ensures { InTurn nodes.now needs.now k result }
+pub fn in_turn(c: Clause, k: usize) -> Operands
+    requires ordered { Ordered c.nodes.now (k + 1) × Needs c.nodes.now c.needs.now (k + 1) }
+    requires bound { (6 ≤ kind_at c.nodes.now k) × (kind_at c.nodes.now k < 10) }
+    ensures { InTurn c.entry.nodes.now c.entry.needs.now k result }
 {
-    let x = first_at(nodes, k);
-    let y = second_at(nodes, k);
-    if needs[x] < needs[y] {
+    let x = first_at(c.nodes, k);
+    let y = second_at(c.nodes, k);
+    if c.needs[x] < c.needs[y] {
         Operands {
             first: y,
             second: x,

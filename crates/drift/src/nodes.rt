@@ -1,36 +1,43 @@
 // The bytes of a node in a block.
-ghost use Rattle.std.specs.Prelude.{◌≡◌, ◌+◌, ◌*◌, ◌/◌, ◌%◌, ◌<◌};
+ghost use Rattle.std.specs.Prelude.{◌≡◌, ◌+◌, ◌*◌, ◌/◌, ◌%◌, ◌<◌, eqb};
 ghost use Rattle.drift.specs.Tree.{Ordered};
-ghost use Rattle.drift.specs.Tree.{is_leaf, kind_at, first_at, second_at, third_at};
+ghost use Rattle.drift.specs.Tree.{kind_at, first_at, second_at, third_at};
+ghost use Rattle.drift.specs.Decoded.{IsKind};
 
-use endian::{number16, wide, wide16};
+use endian::number16;
+use token::Kind;
 
-// `true`, a mark or a count: no operator.
-pub fn is_leaf(kind: u8) -> bool
-    ensures { result ≡ is_leaf kind }
+// By the node's first byte.
+pub fn kind_at(nodes: &[u8], k: usize) -> Kind
+    requires { Ordered nodes.now (k + 1) }
+    ensures { IsKind result (kind_at nodes.now k) }
 {
-    (kind < 2) | (9 < kind)
+    Kind::of_byte(nodes[4 * k])
 }
 
-pub fn kind_at(nodes: &[u8], k: usize) -> u8
+// Whether a count's number is a percentage.
+pub fn percent_at(nodes: &[u8], k: usize) -> bool
     requires { Ordered nodes.now (k + 1) }
-    ensures { result ≡ kind_at nodes.now k }
+    ensures { result ≡ eqb (kind_at nodes.now k) 11 }
 {
-    nodes[4 * k]
+    match kind_at(nodes, k) {
+        Kind::Count { percent } => percent,
+        _ => false,
+    }
 }
 
 pub fn first_at(nodes: &[u8], k: usize) -> usize
     requires { Ordered nodes.now (k + 1) }
     ensures { result ≡ first_at nodes.now k }
 {
-    wide(nodes[4 * k + 1])
+    usize::from(nodes[4 * k + 1])
 }
 
 pub fn second_at(nodes: &[u8], k: usize) -> usize
     requires { Ordered nodes.now (k + 1) }
     ensures { result ≡ second_at nodes.now k }
 {
-    wide(nodes[4 * k + 2])
+    usize::from(nodes[4 * k + 2])
 }
 
 // A count's number.
@@ -38,14 +45,7 @@ pub fn number_at(nodes: &[u8], k: usize) -> usize
     requires { Ordered nodes.now (k + 1) }
     ensures { (result ≡ second_at nodes.now k + 256 * (third_at nodes.now k % 4)) × (result < 65536) }
 {
-    wide16(number16(nodes[4 * k + 2], nodes[4 * k + 3] % 4))
-}
-
-fn over_byte(nodes: &[u8], k: usize) -> u8
-    requires { Ordered nodes.now (k + 1) }
-    ensures { result ≡ third_at nodes.now k / 4 }
-{
-    nodes[4 * k + 3] / 4
+    usize::from(number16(nodes[4 * k + 2], nodes[4 * k + 3] % 4))
 }
 
 // Which carts a count is over: 0 for all, one more than its number for a group.
@@ -53,5 +53,5 @@ pub fn over_at(nodes: &[u8], k: usize) -> usize
     requires { Ordered nodes.now (k + 1) }
     ensures { (result ≡ third_at nodes.now k / 4) × (result < 256) }
 {
-    wide(over_byte(nodes, k))
+    usize::from(nodes[4 * k + 3] / 4)
 }

@@ -1,48 +1,63 @@
 // One operator on the rows of its operands.
-ghost use Rattle.std.specs.Prelude.{◌≡◌, ◌<◌, ◌≤◌, ◌^◌};
+ghost use Rattle.std.specs.Prelude.{◌≡◌, ◌<◌, ◌^◌};
+ghost use Rattle.cltl.specs.Rules.{fix};
 ghost use Rattle.mask.specs.Mask.{on, Row};
-ghost use Rattle.drift.specs.Tree.{one_of, two_of};
+ghost use Rattle.drift.specs.Decoded.{unary_of, binary_of};
 ghost use Rattle.drift.specs.Operator.{under as under_of, is_or, one_rule, two_rule};
 
+use mask::Lasso;
+use token::{Binary, Unary};
+
 // The flag of an operator's first operand.
-pub fn under(kind: u8, p: bool) -> bool
-    ensures { result ≡ under_of (one_of kind) p }
+pub fn under(o: Unary, p: bool) -> bool
+    ensures { result ≡ under_of (unary_of o) p }
 {
-    if kind == 2 { !p } else { p }
+    match o {
+        Unary::Not => !p,
+        _ => p,
+    }
+}
+
+// F, or a negated G, where p: true at a step from each on; else true at all steps from each on.
+fn ever_row(p: bool, a: u64, lasso: Lasso) -> u64
+    requires { a < 2 ^ lasso.h }
+    ensures { Row lasso.h result (λ s. fix lasso.h lasso.l p (λ s. p) (on a) lasso.h s) }
+{
+    lasso.fix_row(p, lasso.constant(p), a)
 }
 
 // "not", "next", F or G.
-pub fn one_row(kind: u8, p: bool, a: u64, h: usize, l: usize) -> u64
-    requires { (l < h) × (h ≤ 64) × (a < 2 ^ h) }
-    ensures { Row h result (one_rule h l p (one_of kind) (on a)) }
+pub fn one_row(o: Unary, p: bool, a: u64, lasso: Lasso) -> u64
+    requires { a < 2 ^ lasso.h }
+    ensures { Row lasso.h result (one_rule lasso.h lasso.l p (unary_of o) (on a)) }
 {
-    if kind == 2 {
-        return a;
+    match o {
+        Unary::Not => a,
+        Unary::Next => lasso.next_row(a),
+        Unary::Finally => ever_row(p, a, lasso),
+        Unary::Globally => ever_row(!p, a, lasso),
     }
-    if kind == 3 {
-        return mask::next_row(a, h, l);
-    }
-    let q = (kind == 4) == p;
-    mask::fix_row(q, mask::constant(q, h), a, h, l)
 }
 
 // Whether an operator is an or, or asks for one: a | b and a U b, or under a negation a & b and a R b.
-pub fn is_or(kind: u8, p: bool) -> bool
-    ensures { result ≡ is_or (two_of kind) p }
+pub fn is_or(o: Binary, p: bool) -> bool
+    ensures { result ≡ is_or (binary_of o) p }
 {
-    ((kind == 7) | (kind == 8)) == p
+    match o {
+        Binary::Or | Binary::Until => p,
+        Binary::And | Binary::Release => !p,
+    }
 }
 
 // "and", "or", U or R; z is where the or of the operands is also true.
-pub fn two_row(kind: u8, p: bool, z: u64, a: u64, b: u64, h: usize, l: usize) -> u64
-    requires { (l < h) × (h ≤ 64) × (z < 2 ^ h) × (a < 2 ^ h) × (b < 2 ^ h) }
-    ensures { Row h result (two_rule h l p (two_of kind) (on z) (on a) (on b)) }
+pub fn two_row(o: Binary, p: bool, z: u64, a: u64, b: u64, lasso: Lasso) -> u64
+    requires { (z < 2 ^ lasso.h) × (a < 2 ^ lasso.h) × (b < 2 ^ lasso.h) }
+    ensures { Row lasso.h result (two_rule lasso.h lasso.l p (binary_of o) (on z) (on a) (on b)) }
 {
-    if kind == 6 {
-        return z | mask::join_row(p, a, b);
+    match o {
+        Binary::And => z | mask::join_row(p, a, b),
+        Binary::Or => z | mask::join_row(!p, a, b),
+        Binary::Until => lasso.fix_row(p, z | a, b),
+        Binary::Release => lasso.fix_row(!p, z | a, b),
     }
-    if kind == 7 {
-        return z | mask::join_row(!p, a, b);
-    }
-    mask::fix_row((kind == 8) == p, z | a, b, h, l)
 }

@@ -2,6 +2,7 @@
 use Rattle.std.specs.Prelude.{ℕ, ◌+◌, ◌≤◌, ◌<◌, ◌≡◌, refl, true, false, ◌⊎◌, ◌↔◌, List, [], ◌++◌, length, take, drop, get_or}
 use Rattle.std.proofs.Common.{arith, sym, ◌∙◌, inl, inr, ⊎_elim, get_or-set_same}
 use Rattle.std.proofs.Math.Path.{ap, subst}
+use Rattle.refusal.specs.Results.{told}
 use Rattle.refusal.specs.Codes.{refused, code_of}
 use Rattle.refusal.specs.Given.{Given, moving_on, replacing_row}
 use Rattle.refusal.specs.Numbered.{zero_accepts, zero_writes}
@@ -47,9 +48,9 @@ module _ (floor plan : List ℕ) (s : ℕ) (before : List ℕ) (v : Verdict) (af
   -- a refusal leaves the buffer as it is
   pub moving_keeps : ((code_of v).number ≡ 0 → ⊥) → after ≡ before
   unfolding move_on
-  moving_keeps n = go (reading_cases (λ v. unchanged v before) (λ f p. written AboutPlan (plan_file (moved s p)) before) floor plan)
+  moving_keeps n = go (reading_cases (λ e. unchanged (told e) before) (λ f p. written AboutPlan (plan_file (moved s p)) before) floor plan)
     where
-      go : ReadingCases (λ (v : Verdict). unchanged v before) (λ f p. written AboutPlan (plan_file (moved s p)) before) floor plan → after ≡ before
+      go : ReadingCases (λ e. unchanged (told e) before) (λ f p. written AboutPlan (plan_file (moved s p)) before) floor plan → after ≡ before
       go (floor_refused x q) = w.outcome.out ∙ ap (λ (o : Outcome). o.out) q
       go (plan_refused x q) = w.outcome.out ∙ ap (λ (o : Outcome). o.out) q
       go (both_read f p r q) =

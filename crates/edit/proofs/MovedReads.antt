@@ -3,9 +3,11 @@ use Rattle.std.specs.Prelude.{ℕ, zero, suc, ◌+◌, ◌*◌, ◌≤◌, ◌<�
 use Rattle.std.proofs.Common.{arith, sym, ap, subst, ◌∙◌}
 use Rattle.std.proofs.lemmas.List.{length-map}
 use Rattle.endian.specs.Little.{Bytes}
+use Rattle.refusal.specs.Results.{told}
 use Rattle.refusal.specs.Given.{Given, moving_on}
 use Rattle.refusal.specs.Outcome.{Outcome, Gives, unchanged, written}
 use Rattle.refusal.specs.Held.{about_floor, about_plan, written_front, written-length, written_if}
+use Rattle.refusal.specs.declared.Refused.{Refused}
 use Rattle.refusal.specs.declared.Verdict.{Verdict}
 use Rattle.refusal.specs.declared.Verdict.TheVariants.{Written, Plan as AboutPlan}
 use Rattle.floor.specs.Located.{accepts}
@@ -78,8 +80,8 @@ module _ (f : Floor) (p : PlanNumbers) (v : ValidPlan p f) (s : ℕ) where
       file_length_lem (moved s p) v.head.some (row_sizes (moved s p) f v) ∙ ap (λ (n : ℕ). 10 + n * (4 + k)) v.carts
 
 module _ (floor plan : List ℕ) (b : Bytes floor) (s : ℕ) (before : List ℕ) (v : Verdict) (after : List ℕ) (g : Gives (move_on floor plan s before) v after) where
-  refuse : Verdict → Outcome
-  refuse v = unchanged v before
+  refuse : Refused → Outcome
+  refuse e = unchanged (told e) before
 
   step : Floor → PlanNumbers → Outcome
   step f p = written AboutPlan (plan_file (moved s p)) before

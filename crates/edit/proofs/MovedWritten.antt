@@ -4,6 +4,7 @@ use Rattle.std.proofs.Common.{arith, sym, ◌∙◌}
 use Rattle.std.proofs.Math.Path.{ap, subst}
 use Rattle.std.proofs.Math.ListN.{length}
 use Rattle.endian.specs.Little.{Bytes}
+use Rattle.refusal.specs.Results.{told}
 use Rattle.refusal.specs.Outcome.{Outcome, Gives, unchanged, written}
 use Rattle.refusal.specs.Held.{about_floor, about_plan, written_front, written-length, written_if}
 use Rattle.refusal.specs.declared.Verdict.{Verdict}
@@ -23,16 +24,16 @@ use Rattle.edit.proofs.AddedUp.{moved_added, moved_by_0}
 pub read_moves : (floor plan : List ℕ) (s : ℕ) (out : List ℕ) (f : Floor) (p : PlanNumbers) → ReadAs floor plan f p
     → move_on floor plan s out ≡ written AboutPlan (plan_file (moved s p)) out
 unfolding move_on
-read_moves floor plan s out f p r = read_on_lem (λ v. unchanged v out) (λ f p. written AboutPlan (plan_file (moved s p)) out) floor plan f p r
+read_moves floor plan s out f p r = read_on_lem (λ e. unchanged (told e) out) (λ f p. written AboutPlan (plan_file (moved s p)) out) floor plan f p r
 
 module _ (floor plan : List ℕ) (s : ℕ) (before : List ℕ) (v : Verdict) (after : List ℕ) (g : Gives (move_on floor plan s before) v after)
     (k : ℕ) (e : v ≡ Written k) where
   -- what is written is the file of a plan that was read, moved on
   written_file : (f : Floor) × (p : PlanNumbers) × ReadAs floor plan f p × (k ≡ length (plan_file (moved s p))) × (take k after ≡ plan_file (moved s p))
   unfolding move_on
-  written_file = go (reading_cases (λ v. unchanged v before) (λ f p. written AboutPlan (plan_file (moved s p)) before) floor plan)
+  written_file = go (reading_cases (λ e. unchanged (told e) before) (λ f p. written AboutPlan (plan_file (moved s p)) before) floor plan)
     where
-      go : ReadingCases (λ v. unchanged v before) (λ f p. written AboutPlan (plan_file (moved s p)) before) floor plan
+      go : ReadingCases (λ e. unchanged (told e) before) (λ f p. written AboutPlan (plan_file (moved s p)) before) floor plan
           → (f : Floor) × (p : PlanNumbers) × ReadAs floor plan f p × (k ≡ length (plan_file (moved s p))) × (take k after ≡ plan_file (moved s p))
       go (floor_refused x q) = absurd (about_floor x k (sym (g.answer ∙ ap (λ (o : Outcome). o.answer) q) ∙ e))
       go (plan_refused x q) = absurd (about_plan x k (sym (g.answer ∙ ap (λ (o : Outcome). o.answer) q) ∙ e))

@@ -1,5 +1,6 @@
 -- A refusal of moving on or of replacing a row has one of the numbers that document 01 lists.
-use Rattle.std.specs.Prelude.{ℕ, refl, Bool, true, false, cond, List, leb}
+use Rattle.std.specs.Prelude.{ℕ, refl, Bool, true, false, cond, List, leb, Result, Ok, Err}
+use Rattle.refusal.specs.Results.{told}
 use Rattle.refusal.specs.Codes.{refused}
 use Rattle.refusal.specs.Given.{Refusals, Given, moving_on, replacing_row}
 use Rattle.refusal.specs.Numbered.{one_among}
@@ -12,18 +13,18 @@ use Rattle.floor.specs.declared.Floor.{Floor}
 use Rattle.plan.specs.Plan.{PlanNumbers, judged_row}
 use Rattle.plan.specs.Numbers.{plan_file}
 use Rattle.plan.specs.Refusing.{given_after}
-use Rattle.plan.specs.declared.RowAnswer.{RowAnswer}
-use Rattle.plan.specs.declared.RowAnswer.TheVariants.{Fits, WrongLength, Absent}
 use Rattle.moves.specs.Carts.{cart_verdict, moves_verdict}
 use Rattle.moves.specs.Refusing.{row_given, carts_given}
 use Rattle.edit.specs.Moved.{moved, move_on}
 use Rattle.edit.specs.Replaced.{places_verdict, new_row_verdict, cart_row_verdict, replace_verdict, replace_row}
+use Rattle.plan.specs.declared.RowFault.TheVariants.{Absent, WrongLength}
+use Rattle.plan.specs.declared.RowFault.{RowFault}
 
 -- moving on: reading's, and 18
 pub moving_given : (floor plan : List ℕ) (s : ℕ) (out : List ℕ) → Given moving_on (move_on floor plan s out).answer
 unfolding move_on
 moving_given floor plan s out =
-    given_after moving_on refl refl (λ (o : Outcome). o.answer) (λ v. unchanged v out) (λ v. refl) _ floor plan
+    given_after moving_on refl refl (λ (o : Outcome). o.answer) (λ e. unchanged (told e) out) (λ e. refl) _ floor plan
     (λ f p w. given_written moving_on AboutPlan (plan_file (moved s p)) out refl (one_among moving_on.plan 18 refl))
 
 -- stages: either's
@@ -34,10 +35,10 @@ both_given t v next g h = go (is_accepted v)
     go true = h
     go false = g
 
-places_given : (c : ℕ) (a : RowAnswer) → Given replacing_row (places_verdict c a)
-places_given c Fits = refl
-places_given c WrongLength = one_among replacing_row.plan 4 refl
-places_given c (Absent s) = one_among replacing_row.plan 9 refl
+places_given : (c : ℕ) (a : Result (Unit {0}) RowFault) → Given replacing_row (places_verdict c a)
+places_given c (Ok tt) = refl
+places_given c (Err WrongLength) = one_among replacing_row.plan 4 refl
+places_given c (Err (Absent s)) = one_among replacing_row.plan 9 refl
 
 -- replacing: the moves', 19, 4, 9, 10 and 11
 module _ (floor : List ℕ) (f : Floor) (p : PlanNumbers) (c : ℕ) (row : List ℕ) where
@@ -58,5 +59,5 @@ module _ (floor : List ℕ) (f : Floor) (p : PlanNumbers) (c : ℕ) (row : List 
 pub replacing_given : (floor plan : List ℕ) (c : ℕ) (row : List ℕ) → Given replacing_row (replace_row floor plan c row).answer
 unfolding replace_row
 replacing_given floor plan c row =
-    given_after replacing_row refl refl (λ (o : Outcome). o.answer) (λ v. unchanged v plan) (λ v. refl) _ floor plan
+    given_after replacing_row refl refl (λ (o : Outcome). o.answer) (λ e. unchanged (told e) plan) (λ e. refl) _ floor plan
     (λ f p w. verdict_given floor f p c row)

@@ -1,5 +1,5 @@
 -- What replacing a row leaves reads as a plan that differs in that row alone, and its moves are accepted.
-use Rattle.std.specs.Prelude.{ℕ, ◌+◌, ◌≤◌, ◌<◌, refl, Bool, eqb, leb, length, get_or, set}
+use Rattle.std.specs.Prelude.{ℕ, ◌+◌, ◌≤◌, ◌<◌, refl, Bool, eqb, leb, length, get_or, set, Result, Ok, Err}
 use Rattle.std.proofs.Common.{arith, sym, subst, ◌∙◌, length-set, get_or-set_same, get_or-set_other, eqb-true, leb-false}
 use Rattle.std.proofs.Math.Path.{◌≡◌, ap}
 use Rattle.std.proofs.Math.Bool.{true, false, cond}
@@ -7,10 +7,12 @@ use mathlib.Core.List.{List, []}
 use Rattle.std.proofs.lemmas.Bool.{eqb-false, lt-leb}
 use Rattle.endian.specs.Little.{Bytes}
 use Rattle.refusal.specs.Codes.{refused}
+use Rattle.refusal.specs.Results.{told}
 use Rattle.refusal.specs.Given.{Given, replacing_row}
 use Rattle.refusal.specs.Stages.{is_accepted}
 use Rattle.refusal.specs.Accepting.{accepted_is, both_accepted, goes_on}
 use Rattle.refusal.specs.Outcome.{Outcome, Gives, unchanged}
+use Rattle.refusal.specs.declared.Refused.{Refused}
 use Rattle.refusal.specs.declared.Verdict.{Verdict}
 use Rattle.refusal.specs.declared.Verdict.TheVariants.{Accepted, Plan as AboutPlan}
 use Rattle.record.specs.Buffer.{stored}
@@ -24,8 +26,6 @@ use Rattle.plan.specs.RoundTrip.{valid, bytes_back}
 use Rattle.plan.specs.After.{ReadAs}
 use Rattle.plan.specs.Complete.{file_reads, row_accepted_lem}
 use Rattle.plan.specs.Read.{ReadingCases, floor_refused, plan_refused, both_read, reading_cases, read_on_lem}
-use Rattle.plan.specs.declared.RowAnswer.{RowAnswer}
-use Rattle.plan.specs.declared.RowAnswer.TheVariants.{Fits, WrongLength, Absent}
 use Rattle.moves.specs.Carts.{cart_verdict, moves_verdict}
 use Rattle.moves.specs.Promises.{AllUnending, CartUnending}
 use Rattle.moves.specs.Unending.{Passes, each_passes, none_refused, cart_accepted, all_accepted, moves_read}
@@ -34,11 +34,13 @@ use Rattle.edit.proofs.Refusing.{replacing_given}
 use Rattle.edit.proofs.RowStored.{row-stored, row_inside}
 use Rattle.edit.proofs.ShutMoves.{replaced_11}
 use Rattle.edit.specs.Promises.{NewRow, RowReplaced}
+use Rattle.plan.specs.declared.RowFault.TheVariants.{Absent, WrongLength}
+use Rattle.plan.specs.declared.RowFault.{RowFault}
 
-only_fits : (c : ℕ) (a : RowAnswer) → places_verdict c a ≡ Accepted → a ≡ Fits
-only_fits c Fits e = refl
-only_fits c WrongLength e = let z : ◌≡◌ {A = ℕ} 0 1 = cc in absurd (omega arith)
-only_fits c (Absent s) e = let z : ◌≡◌ {A = ℕ} 0 1 = cc in absurd (omega arith)
+only_fits : (c : ℕ) (a : Result (Unit {0}) RowFault) → places_verdict c a ≡ Accepted → a ≡ Ok tt
+only_fits c (Ok tt) e = refl
+only_fits c (Err WrongLength) e = let z : ◌≡◌ {A = ℕ} 0 1 = cc in absurd (omega arith)
+only_fits c (Err (Absent s)) e = let z : ◌≡◌ {A = ℕ} 0 1 = cc in absurd (omega arith)
 
 pub fits_if : (c steps places : ℕ) (row : List ℕ) → is_accepted (places_verdict c (judged_row row steps places)) ≡ true → RowFits steps places row
 fits_if c steps places row e = row_fits steps places row (only_fits c (judged_row row steps places) (accepted_is _ e))
@@ -125,8 +127,8 @@ accepted_row floor f p c row w =
     ∙ goes_on (places_verdict c (judged_row row h.steps f.places)) (cart_verdict floor c row h.steps h.stem) (ap is_accepted fits) ∙ w.opened
 
 module _ (floor before : List ℕ) (c : ℕ) (row : List ℕ) (v : Verdict) (after : List ℕ) (g : Gives (replace_row floor before c row) v after) where
-  refuse : Verdict → Outcome
-  refuse v = unchanged v before
+  refuse : Refused → Outcome
+  refuse e = unchanged (told e) before
 
   step : Floor → PlanNumbers → Outcome
   step f p = replaced_in before p.head.steps c row (replace_verdict floor f p c row)

@@ -5,9 +5,9 @@ use native.Mathlib.Omega.{arith}
 use mathlib.Core.Path.{◌≡◌, refl, sym, ap, ap₂, subst, ◌∙◌}
 use mathlib.Core.List.{List, [], ◌∷◌, ◌++◌, map, flatten, append-nil, append_assoc}
 use lib.ListN.{length, take, drop, replicate, length-append, length-drop, length-map}
-use lib.Seq.{take_all, take_at, length-take-le}
+use lib.Seq.{take_all, length-take-le}
 use Rattle.record.specs.Buffer.{stored}
-use Rattle.record.specs.Stored.{stored_front, stored_more, length-stored, stored_nothing}
+use Rattle.record.specs.Stored.{stored_more, length-stored, stored_nothing}
 use Rattle.record.specs.All.{AllOf, all_of}
 use Rattle.plan.specs.Numbers.{plan_bytes, plan_file}
 use Rattle.plan.specs.Plan.{block_rows, held_numbers}
@@ -64,14 +64,13 @@ module _ (h : Head) (s : ℕ) (block : List ℕ) where
   part c = block_part h.steps block c
 
   -- the rows so far are stored from the buffer's start on
-  pub record Moving (carts size : ℕ) (rows : List ℕ) (c : ℕ) : Type 0 where
-    pub within : c ≤ carts
+  pub record Moving (size : ℕ) (rows : List ℕ) (c : ℕ) : Type 0 where
     pub is : rows ≡ stored (replicate 2048 0) 0 (moved_in c)
     pub filled : length (moved_in c) ≡ c * size
 
-  pub begun : (carts size : ℕ) → Moving carts size (replicate 2048 0) 0
+  pub begun : (size : ℕ) → Moving size (replicate 2048 0) 0
   unfolding flatten block_rows
-  begun carts size = record { within = omega arith; is = sym (stored_nothing (replicate 2048 0) 0); filled = omega arith }
+  begun size = record { is = sym (stored_nothing (replicate 2048 0) 0); filled = omega arith }
 
   module _ (r : HeadInRange h) (long : length block ≡ 2048) (c size : ℕ) (low : c < 32) (e : size ≡ (moved_head s h).steps) where
     pub one_row : length (moved_row (length (part c)) h.stem s (part c)) ≡ size
@@ -92,29 +91,23 @@ module _ (h : Head) (s : ℕ) (block : List ℕ) where
         let all : suc c * size ≤ 32 * 64 = mul-le-mul {n₁ = suc c} {n₂ = 32} (omega arith) few in
         omega (arith, suc-mul c size)
 
-    module _ (carts : ℕ) (below : c < carts) (rows : List ℕ) (w : Moving carts size rows c) where
+    module _ (rows : List ℕ) (w : Moving size rows c) where
       pub length-rows : length rows ≡ 2048
       length-rows = ap length w.is ∙ length-stored (replicate 2048 0) 0 (moved_in c) (omega (arith, w.filled, room))
 
-      pub onward : Moving carts size (stored rows (c * size) (moved_row (length (part c)) h.stem s (part c))) (c + 1)
+      pub onward : Moving size (stored rows (c * size) (moved_row (length (part c)) h.stem s (part c))) (c + 1)
       onward =
           let row : List ℕ = moved_row h.steps h.stem s (part c) in
           let n = part_length h.steps block c low r.steps long in
           let plus : suc c ≡ c + 1 = omega arith in
           let at : c * size ≡ 0 + length (moved_in c) = omega (arith, w.filled) in
-          subst (Moving carts size _) plus (record {
-            within = below;
+          subst (Moving size _) plus (record {
             is =
                 ap (λ (k : ℕ). stored rows (c * size) (moved_row k h.stem s (part c))) n
                 ∙ ap₂ (λ (x : List ℕ) (k : ℕ). stored x k row) w.is at
                 ∙ stored_more (replicate 2048 0) 0 (moved_in c) row (omega (arith, w.filled, room)) ∙ ap (stored (replicate 2048 0) 0) (sym more);
             filled = ap length more ∙ length-append (moved_in c) row ∙ omega (arith, w.filled, row-length s h r.stem (part c) n, suc-mul c size);
           })
-
-  pub front : (carts size : ℕ) (rows : List ℕ) (c : ℕ) → Moving carts size rows c → take (c * size) rows ≡ moved_in c
-  front carts size rows c w =
-      ap (take (c * size)) (w.is ∙ stored_front (replicate 2048 0) (moved_in c))
-      ∙ take_at (moved_in c) (drop (length (moved_in c)) (replicate 2048 0)) (c * size) w.filled
 
   -- the file of the moved plan, from the rows' front and the head
   module _ (r : HeadInRange h) (long : length block ≡ 2048) (carts : ℕ) (few : carts ≤ 32) where

@@ -1,5 +1,5 @@
 -- Where replacing gives 11, its step is the lowest left by a move that is not open: in the plan as it is, or else of the cart with the new row.
-use Rattle.std.specs.Prelude.{ℕ, ◌≡◌, refl, Bool, true, false, cond, ◌⊎◌, List, [], leb}
+use Rattle.std.specs.Prelude.{ℕ, ◌≡◌, refl, Bool, true, false, cond, ◌⊎◌, List, [], leb, Result, Ok, Err}
 use Rattle.std.proofs.Common.{arith, sym, ap, subst, inl, inr, ⊎_elim, get_or-set_same, leb-false}
 use Rattle.refusal.specs.Codes.{refused, code_of}
 use Rattle.refusal.specs.Stages.{is_accepted, and_then}
@@ -9,8 +9,6 @@ use Rattle.refusal.specs.declared.Verdict.TheVariants.{Accepted, Plan as AboutPl
 use Rattle.floor.specs.declared.Floor.{Floor}
 use Rattle.plan.specs.Plan.{PlanNumbers, judged_row}
 use Rattle.plan.specs.Valid.{ValidPlan}
-use Rattle.plan.specs.declared.RowAnswer.{RowAnswer}
-use Rattle.plan.specs.declared.RowAnswer.TheVariants.{Fits, WrongLength, Absent}
 use Rattle.row.specs.Meaning.{Lowest}
 use Rattle.row.specs.Moves.{lanes_in}
 use Rattle.moves.specs.Carts.{class_of, cart_verdict, moves_verdict}
@@ -18,6 +16,8 @@ use Rattle.moves.specs.Promises.{AllUnending, LowestLeft}
 use Rattle.moves.specs.Unending.{all_unending}
 use Rattle.moves.specs.ShutMoves.{row-11, carts_11}
 use Rattle.edit.specs.Replaced.{replaced, places_verdict, new_row_verdict, cart_row_verdict, replace_verdict}
+use Rattle.plan.specs.declared.RowFault.TheVariants.{Absent, WrongLength}
+use Rattle.plan.specs.declared.RowFault.{RowFault}
 
 module _ (n k : ℕ) where
   abbrev Is11 : Verdict → Type 0
@@ -32,10 +32,10 @@ module _ (n k : ℕ) where
       go false q e = inl e
 
   -- neither 4 nor 9
-  not_places : (c : ℕ) (a : RowAnswer) → Is11 (places_verdict c a) → ⊥
-  not_places c Fits e = let z = ap (λ (v : Verdict). (code_of v).number) e in omega arith
-  not_places c WrongLength e = let z = ap (λ (v : Verdict). (code_of v).number) e in omega arith
-  not_places c (Absent s) e = let z = ap (λ (v : Verdict). (code_of v).number) e in omega arith
+  not_places : (c : ℕ) (a : Result (Unit {0}) RowFault) → Is11 (places_verdict c a) → ⊥
+  not_places c (Ok tt) e = let z = ap (λ (v : Verdict). (code_of v).number) e in omega arith
+  not_places c (Err WrongLength) e = let z = ap (λ (v : Verdict). (code_of v).number) e in omega arith
+  not_places c (Err (Absent s)) e = let z = ap (λ (v : Verdict). (code_of v).number) e in omega arith
 
   module _ (floor : List ℕ) (f : Floor) (p : PlanNumbers) (v : ValidPlan p f) (c : ℕ) (row : List ℕ) where
     -- of the new row

@@ -1,5 +1,6 @@
 -- "Moving on by s (0 to 65,535)".
 use Rattle.std.specs.Prelude.{ℕ, ◌-◌, ◌%◌, cond, List, ◌++◌, map, leb, take, drop}
+use Rattle.refusal.specs.Results.{told}
 use Rattle.refusal.specs.Outcome.{Outcome, unchanged, written}
 use Rattle.refusal.specs.declared.Verdict.TheVariants.{Plan as AboutPlan}
 use Rattle.plan.specs.Plan.{PlanNumbers}
@@ -24,4 +25,4 @@ moved s p = record { head = moved_head s p.head; rows = map (moved_row p.head.st
 
 -- "floor and plan as for reading; 18 if the lent buffer is shorter than the result"; "starts aren't compared", nor lanes
 unfoldable pub move_on : List ℕ → List ℕ → ℕ → List ℕ → Outcome
-move_on floor plan s out = after_reading (λ v. unchanged v out) (λ f p. written AboutPlan (plan_file (moved s p)) out) floor plan
+move_on floor plan s out = after_reading (λ e. unchanged (told e) out) (λ f p. written AboutPlan (plan_file (moved s p)) out) floor plan

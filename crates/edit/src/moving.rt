@@ -2,6 +2,7 @@
 ghost use Rattle.std.specs.Prelude.{◌≡◌, ◌+◌, ◌*◌, ◌≤◌, ◌<◌, length, take};
 ghost use mathlib.Core.List.{map, flatten};
 ghost use Rattle.refusal.specs.Outcome.{Gives, written};
+ghost use Rattle.refusal.specs.Results.{wrote};
 ghost use Rattle.refusal.specs.declared.Verdict.TheVariants.{Plan as AboutPlan};
 ghost use Rattle.record.specs.Buffer.{stored};
 ghost use Rattle.plan.specs.Numbers.{plan_file};
@@ -11,24 +12,17 @@ ghost use Rattle.edit.specs.Moved.{turned, moved_row, moved_head, moved};
 ghost use Rattle.edit.specs.Promises.{MovedOn, MovesAddUp};
 
 use plan::Head;
-use refusal::Verdict;
+use refusal::Refused;
 
 fn moved_head(s: usize, h: Head) -> Head
     requires { HeadInRange h }
     ensures { result ≡ moved_head s h }
 {
-    let drift = h.drift;
-    if s <= h.stem {
-        return Head {
-            steps: h.steps - s,
-            stem: h.stem - s,
-            drift,
-        };
-    }
+    let gone = s.min(h.stem);
     Head {
-        steps: h.steps - h.stem,
-        stem: 0,
-        drift,
+        steps: h.steps - gone,
+        stem: h.stem - gone,
+        ..h
     }
 }
 
@@ -55,28 +49,32 @@ fn moved_row(row: &[u8], stem: usize, s: usize, out: &mut [u8], at: usize)
 }
 
 // The rows of a block moved on, one after the other with nothing between them.
-fn moved_rows(carts: usize, h: Head, block: &[u8], s: usize, size: usize) -> [u8; 2048]
+fn moved_rows(carts: usize, h: Head, block: &[u8; 2048], s: usize, size: usize) -> [u8; 2048]
     requires head_in_range { HeadInRange h }
-    requires carts_bound { (carts ≤ 32) × (length block.now ≡ 2048) × (size ≡ (moved_head s h).steps) }
+    requires carts_bound { (carts ≤ 32) × (size ≡ (moved_head s h).steps) }
     ensures { take (carts * size) result ≡ flatten (map (moved_row h.steps h.stem s) (block_rows carts h.steps block.now)) }
 {
     let steps = h.steps;
     let mut rows = [0u8; 2048];
-    let mut c: usize = 0;
-    while c < carts {
+    for c in 0..carts {
         let from = c * 64;
         let end = from + steps;
         moved_row(&block[from..end], h.stem, s, &mut rows, c * size);
-        c += 1;
     }
     rows
 }
 
-// Writes a plan that is read already, moved on, if there is room.
-fn put_moved(carts: usize, h: Head, block: &[u8], s: usize, out: &mut [u8]) -> Verdict
+// Writes a plan that is read already, moved on, if there is room. Not by &PlanRead: tried, and behind it the block's length is not known.
+fn put_moved(
+    carts: usize,
+    h: Head,
+    block: &[u8; 2048],
+    s: usize,
+    out: &mut [u8],
+) -> Result<u32, Refused>
     requires head_in_range { HeadInRange h }
-    requires carts_bound { (carts ≤ 32) × (length block.now ≡ 2048) }
-    ensures { Gives (written AboutPlan (plan_file (moved s (held_numbers carts h block.now))) out.old) result out.new }
+    requires carts_bound { carts ≤ 32 }
+    ensures { Gives (written AboutPlan (plan_file (moved s (held_numbers carts h block.now))) out.old) (wrote result) out.new }
 {
     let m = moved_head(s, h);
     let steps = m.steps;
@@ -92,17 +90,10 @@ fn put_moved(carts: usize, h: Head, block: &[u8], s: usize, out: &mut [u8]) -> V
 }
 
 // Moves a plan on by s steps.
-pub fn move_on(floor: &[u8], plan: &[u8], s: u16, out: &mut [u8]) -> Verdict
-    ensures moved { MovedOn floor.now plan.now s out.old result out.new }
-    ensures added_up { MovesAddUp floor.now plan.now s out.old result out.new }
+pub fn move_on(floor: &[u8], plan: &[u8], s: u16, out: &mut [u8]) -> Result<u32, Refused>
+    ensures moved { MovedOn floor.now plan.now s out.old (wrote result) out.new }
+    ensures added_up { MovesAddUp floor.now plan.now s out.old (wrote result) out.new }
 {
-    let r = plan::read(floor, plan);
-    let v = r.verdict;
-    if !refusal::accepts(v) {
-        return v;
-    }
-    let f = r.floor;
-    let p = r.plan;
-    let block = p.block;
-    put_moved(f.carts, p.head, &block, s as usize, out)
+    let r = plan::read(floor, plan)?;
+    put_moved(r.floor.carts, r.plan.head, &r.plan.block, s as usize, out)
 }

@@ -1,5 +1,5 @@
 -- Numbers of the table are accepted: what reading accepts is exactly what is valid.
-use Rattle.std.specs.Prelude.{ℕ, suc, ◌+◌, ◌*◌, ◌^◌, ◌≤◌, ◌<◌, ◌≡◌, refl, true, false, List, [], ◌∷◌, map, length, take, drop, get_or}
+use Rattle.std.specs.Prelude.{ℕ, suc, ◌+◌, ◌*◌, ◌^◌, ◌≤◌, ◌<◌, ◌≡◌, refl, true, false, List, [], ◌∷◌, map, length, take, drop, get_or, Ok}
 use Rattle.std.proofs.Common.{add-zero, arith, ap, ◌∙◌, pow_mono, le-ltb, ne_eqb}
 use Rattle.std.proofs.lemmas.List.{length-map}
 use Rattle.std.proofs.lemmas.Bool.{lt-leb}
@@ -8,15 +8,13 @@ use Rattle.endian.specs.RoundTrip.{length-bytes, value-bytes}
 use Rattle.record.specs.Parts.{parts}
 use Rattle.record.specs.All.{All}
 use Rattle.record.specs.Laid.{whole_parts, field_of}
-use Rattle.floor.specs.Floor.{place, lane, cart, narrow, group, counts, at_end, read_floor}
+use Rattle.floor.specs.Floor.{place, lane, cart, narrow, group, counts, at_end, read_floor, Walked}
 use Rattle.floor.specs.Numbers.{FloorNumbers, bodies, floor_bytes}
 use Rattle.floor.specs.Valid.{ValidFloor}
 use Rattle.floor.specs.Sorted.{Group}
 use Rattle.floor.specs.Fitting.{all_fit}
 use Rattle.floor.specs.Walk.{length_floor, read_records_lem}
 use Rattle.floor.specs.declared.Floor.{Floor}
-use Rattle.floor.specs.declared.Walked.{Walked}
-use Rattle.floor.specs.declared.FloorAnswer.TheVariants.{Read}
 
 false-true : false ≡ true → ⊥
 false-true e = let z : ◌≡◌ {A = ℕ} 0 1 = cc in omega arith
@@ -106,7 +104,7 @@ module _ (n : FloorNumbers) (f : Floor) (v : ValidFloor n f) where
     none = λ s. absurd (false-true s);
   }
 
-  pub complete : read_floor (floor_bytes n) ≡ Read f
+  pub complete : read_floor (floor_bytes n) ≡ Ok f
   complete =
       let w = all_fit (counts f) (bodies n) (places, (lanes, (carts, (narrows, (groups, tt))))) in
       let p : (f.places ≡ 0 → ⊥) = λ e. omega (arith, v.some_place) in

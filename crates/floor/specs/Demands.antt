@@ -1,5 +1,5 @@
 -- What the promises of reading and writing a floor give: a reader of them alone can conclude this.
-use Rattle.std.specs.Prelude.{ℕ, ◌*◌, ◌/◌, ◌%◌, ◌^◌, ◌≤◌, ◌<◌, ◌≡◌, refl, List, [], ◌∷◌, ◌++◌, length, take, drop, get_or}
+use Rattle.std.specs.Prelude.{ℕ, ◌*◌, ◌/◌, ◌%◌, ◌^◌, ◌≤◌, ◌<◌, ◌≡◌, refl, List, [], ◌∷◌, ◌++◌, length, take, drop, get_or, Result, Ok, Err}
 use Rattle.std.proofs.Common.{add-zero, arith, sym, subst, ◌∙◌}
 use Rattle.endian.specs.Little.{value}
 use Rattle.refusal.specs.Codes.{refused, code_of}
@@ -17,18 +17,16 @@ use Rattle.floor.specs.Valid.{ValidFloor}
 use Rattle.floor.specs.Promises.{FloorRead, FloorWritten}
 use Rattle.floor.specs.Absent.{only_present}
 use Rattle.floor.specs.declared.Floor.{Floor}
-use Rattle.floor.specs.declared.FloorAnswer.{FloorAnswer}
-use Rattle.floor.specs.declared.FloorAnswer.TheVariants.{Read, Refused}
 
-module _ (s : List ℕ) (r : FloorAnswer) (w : FloorRead s r) where
+module _ (s : List ℕ) (r : Result Floor Refusal) (w : FloorRead s r) where
   -- a refusal has one of the numbers listed, and number 0 is accepted
-  pub refusal_listed : (x : Refusal) → r ≡ Refused x → OneOf floor_numbers x.number
-  refusal_listed x e = subst (λ (a : FloorAnswer). Given reading_floor (floor_verdict a)) e w.numbers
+  pub refusal_listed : (x : Refusal) → r ≡ Err x → OneOf floor_numbers x.number
+  refusal_listed x e = subst (λ (a : Result Floor Refusal). Given reading_floor (floor_verdict a)) e w.numbers
 
   pub zero_accepted : (code_of (floor_verdict r)).number ≡ 0 → floor_verdict r ≡ Accepted
   zero_accepted z = zero_accepts reading_floor refl refl (floor_verdict r) w.numbers z
 
-  module _ (f : Floor) (e : r ≡ Read f) where
+  module _ (f : Floor) (e : r ≡ Ok f) where
     -- accepted: what the bytes of a place, a lane, a cart, a narrow place and a group hold
     pub marks_of_place : (i : ℕ) → i < f.places → get_or (numbers_of s).places i 0 ≡ value (body_at 4 (place_at i) s)
     marks_of_place i l = sym ((w.accepted f e).place i l)
@@ -84,9 +82,9 @@ module _ (n : FloorNumbers) (before : List ℕ) (v : Verdict) (after : List ℕ)
   zero_written z = zero_writes writing_floor refl refl v w.numbers z
 
   -- what was written is read as the same numbers
-  pub write_then_read : (k : ℕ) → v ≡ Written k → (r : FloorAnswer) → FloorRead (take k after) r
-      → (f : Floor) × (r ≡ Read f) × (numbers_of (take k after) ≡ n) × ValidFloor n f
+  pub write_then_read : (k : ℕ) → v ≡ Written k → (r : Result Floor Refusal) → FloorRead (take k after) r
+      → (f : Floor) × (r ≡ Ok f) × (numbers_of (take k after) ≡ n) × ValidFloor n f
   write_then_read k e r x =
       let b = w.reads_back k e in
-      let is : r ≡ Read b.0 = x.answer ∙ b.1 in
+      let is : r ≡ Ok b.0 = x.answer ∙ b.1 in
       (b.0, is, b.2, subst (λ (m : FloorNumbers). ValidFloor m b.0) b.2 (x.accepted b.0 is).valid)

@@ -1,5 +1,5 @@
 -- Small floors from bytes to the verdict, and written, by computation.
-use Rattle.std.specs.Prelude.{ℕ, ◌≡◌, refl, replicate}
+use Rattle.std.specs.Prelude.{ℕ, ◌≡◌, refl, replicate, Ok}
 use mathlib.Core.List.{List, [], ◌∷◌, ◌++◌, flatten}
 use Rattle.endian.specs.Little.{bytes, value}
 use Rattle.refusal.specs.Codes.{refused}
@@ -10,7 +10,6 @@ use Rattle.record.specs.Record.{encoded, layout, split, records_in}
 use Rattle.record.specs.Parts.{parts_in, parts}
 use Rattle.floor.specs.Floor.{judged, walk, read_floor, floor_verdict}
 use Rattle.floor.specs.Numbers.{numbers, bodies_of, numbers_of, write_floor}
-use Rattle.floor.specs.declared.FloorAnswer.TheVariants.{Read}
 
 -- a place with m0, a lane from it to itself for class 0, a cart of class 0 on it
 abbrev place : List ℕ
@@ -75,7 +74,7 @@ pub floors :
     × (verdict (place ++ (1 ∷ [])) ≡ AboutFloor (refused 2 8 0))
     × (verdict [] ≡ AboutFloor (refused 7 0 0))
     × (verdict (place ++ carts) ≡ Accepted)
-    × (read_floor (place ++ (place ++ (lane ++ cart))) ≡ Read (record { places = 2; lanes = 1; carts = 1; narrow = 0; groups = 0 }))
+    × (read_floor (place ++ (place ++ (lane ++ cart))) ≡ Ok (record { places = 2; lanes = 1; carts = 1; narrow = 0; groups = 0 }))
     × (numbers_of (place ++ (lane ++ cart)) ≡ numbers (1 ∷ []) (0 ∷ 0 ∷ 1 ∷ []) (0 ∷ 0 ∷ []) [] [])
     -- kind 6: behind the carts, of one byte, 256 of them, the same place twice, an absent one, and no cart at the end
     × (verdict (place ++ (cart ++ (narrow ++ narrow))) ≡ Accepted)
@@ -151,7 +150,7 @@ pub groups :
     × (verdict (place ++ empty) ≡ AboutFloor (refused 7 16 0))
     × (verdict empty ≡ AboutFloor (refused 7 8 0))
     -- counted, found again, and written behind the narrow places
-    × (read_floor (place ++ (cart ++ (narrow ++ (first ++ empty)))) ≡ Read (record { places = 1; lanes = 0; carts = 1; narrow = 1; groups = 2 }))
+    × (read_floor (place ++ (cart ++ (narrow ++ (first ++ empty)))) ≡ Ok (record { places = 1; lanes = 0; carts = 1; narrow = 1; groups = 2 }))
     × (numbers_of (place ++ (cart ++ (cart ++ (second ++ first)))) ≡ numbers (1 ∷ []) [] (0 ∷ 0 ∷ 0 ∷ 0 ∷ []) [] (2 ∷ 1 ∷ []))
     × (writing (1 ∷ []) [] (0 ∷ 0 ∷ []) (0 ∷ []) (1 ∷ 0 ∷ []) 36
     ≡ record { answer = Written 35; out = place ++ (cart ++ (narrow ++ (first ++ (empty ++ (9 ∷ []))))) })

@@ -1,7 +1,7 @@
 -- Bodies of each kind, of its length, not too many, with fields in range: records in the table's order are counted, every one.
 use Prim.Native.Nat.{ℕ, suc, ◌+◌, ◌≤◌}
 use native.Mathlib.Omega.{arith}
-use Rattle.std.specs.Prelude.{◌≡◌, refl, Bool, true, false, not, ◌⊎◌, eqb}
+use Rattle.std.specs.Prelude.{◌≡◌, refl, Bool, true, false, not, ◌⊎◌, eqb, Result, Ok}
 use Rattle.std.proofs.Common.{sym, ◌∙◌, inl, inr, eq-eqb}
 use Rattle.std.proofs.Math.Path.{ap}
 use Rattle.std.proofs.Math.Bool.{cond}
@@ -11,21 +11,18 @@ use Rattle.std.proofs.lemmas.Bool.{lt-leb, not-true}
 use Rattle.record.specs.Parts.{of_kind}
 use Rattle.record.specs.All.{All, AllOf}
 use Rattle.record.specs.Opened.{both_true}
-use Rattle.floor.specs.Floor.{Kind, kinds, floor_of, seen, judged_as, judged_by, judged, onward, walk}
+use Rattle.floor.specs.Floor.{Kind, kinds, floor_of, seen, judged_as, judged_by, judged, onward, walk, Walked}
 use Rattle.floor.specs.Numbers.{in_order}
 use Rattle.floor.specs.Kinds.{unlisted, distinct, kinds-distinct, eqb_turned, counts_of, Passed}
 use Rattle.floor.specs.Sorted.{Groups}
 use Rattle.floor.specs.InOrder.{none}
 use Rattle.floor.specs.Walked.{walk_on}
 use Rattle.floor.specs.Walk.{walk_append}
-use Rattle.floor.specs.declared.RecordAnswer.{RecordAnswer}
-use Rattle.floor.specs.declared.RecordAnswer.TheVariants.{Good}
-use Rattle.floor.specs.declared.Walked.{Walked}
-use Rattle.floor.specs.declared.Walked.TheVariants.{At}
+use Rattle.floor.specs.declared.Floor.{Floor}
 
 -- a record that passes every test is counted in
 counts_in : (k : Kind) (before : List ℕ) (n : ℕ) (after body : List ℕ) → Passed k before n after body
-    → judged_as k before n after body ≡ Good (floor_of (before ++ ((n + 1) ∷ after)))
+    → judged_as k before n after body ≡ Ok (floor_of (before ++ ((n + 1) ∷ after)))
 counts_in k before n after body p = simp (p.order, eq-eqb _ _ p.size, lt-leb k.most n p.room, p.fields)
 
 -- none counted is none seen
@@ -64,7 +61,7 @@ module _ (k : Kind) (ks : List Kind) (before : List ℕ) (whole : length before 
   abbrev with_some : ℕ → List ℕ
   with_some n = before ++ (n ∷ none ks)
 
-  one_more : (n : ℕ) (body : List ℕ) → Passed k before n (none ks) body → judged (floor_of (with_some n)) k.number body ≡ Good (floor_of (with_some (n + 1)))
+  one_more : (n : ℕ) (body : List ℕ) → Passed k before n (none ks) body → judged (floor_of (with_some n)) k.number body ≡ Ok (floor_of (with_some (n + 1)))
   unfolding judged
   one_more n body p =
       let size : length (with_some n) ≡ length kinds = omega (arith, length-append before (n ∷ none ks), length_none ks, whole) in
@@ -74,22 +71,22 @@ module _ (k : Kind) (ks : List Kind) (before : List ℕ) (whole : length before 
       ∙ counts_in k before n (none ks) body p
 
   kind_fits : (xs : List (List ℕ)) (n at : ℕ) → n + length xs ≤ k.most → AllOf k.size xs → All (λ (x : List ℕ). k.bad before x ≡ false) xs
-      → (m : ℕ) × (walk (floor_of (with_some n)) at (map (of_kind k.number) xs) ≡ At (floor_of (with_some (n + length xs))) m)
+      → (m : ℕ) × (walk (floor_of (with_some n)) at (map (of_kind k.number) xs) ≡ Ok ((floor_of (with_some (n + length xs))), m))
   unfolding walk
-  kind_fits [] n at h s o = let e : n ≡ n + 0 = omega arith in (at, ap (λ (i : ℕ). At (floor_of (with_some i)) at) e)
+  kind_fits [] n at h s o = let e : n ≡ n + 0 = omega arith in (at, ap (λ (i : ℕ). Ok ((floor_of (with_some i)), at)) e)
   kind_fits (x ∷ xs) n at h s o =
       let r = kind_fits xs (n + 1) (at + 4 + length x) (omega arith) s.1 o.1 in
       let e : n + 1 + length xs ≡ n + length (x ∷ xs) = omega arith in
       let p : Passed k before n (none ks) x = record { order = none_seen ks; size = s.0; room = omega arith; fields = o.0 } in (
         r.0,
-        ap (λ (j : RecordAnswer). onward j at (λ g. walk g (at + 4 + length x) (map (of_kind k.number) xs))) (one_more n x p)
-            ∙ r.1 ∙ ap (λ (i : ℕ). At (floor_of (with_some i)) r.0) e,
+        ap (λ (j : Result Floor ℕ). onward j at (λ g. walk g (at + 4 + length x) (map (of_kind k.number) xs))) (one_more n x p)
+            ∙ r.1 ∙ ap (λ (i : ℕ). Ok ((floor_of (with_some i)), r.0)) e,
       )
 
 -- kind after kind
 fits_from : (ks : List Kind) (before ms : List ℕ) (groups : List (List (List ℕ))) (at : ℕ) → distinct ks ≡ true
     → length before + length ks ≡ length kinds → Rest ks before → Groups ks before (none ks) ms groups
-    → (m : ℕ) × (walk (floor_of (before ++ none ks)) at (in_order ks groups) ≡ At (floor_of (before ++ ms)) m)
+    → (m : ℕ) × (walk (floor_of (before ++ none ks)) at (in_order ks groups) ≡ Ok ((floor_of (before ++ ms)), m))
 unfolding walk
 fits_from [] before [] groups at d whole rest g = (at, refl)
 fits_from [] before (n ∷ ms) groups at d whole rest g = absurd g
@@ -105,11 +102,11 @@ fits_from (k ∷ ks) before (n ∷ ms) (bodies ∷ groups) at d whole rest g =
       more.0,
       walk_append (floor_of (before ++ none (k ∷ ks))) at (map (of_kind k.number) bodies) (in_order ks groups)
           ∙ ap (λ (w : Walked). walk_on w (in_order ks groups))
-          (here.1 ∙ ap (λ (x : List ℕ). At (floor_of x) here.0)
+          (here.1 ∙ ap (λ (x : List ℕ). Ok ((floor_of x), here.0))
           (ap (λ (i : ℕ). before ++ (i ∷ none ks)) count ∙ sym (append_assoc before (n ∷ []) (none ks))))
-          ∙ more.1 ∙ ap (λ (x : List ℕ). At (floor_of x) more.0) (append_assoc before (n ∷ []) ms),
+          ∙ more.1 ∙ ap (λ (x : List ℕ). Ok ((floor_of x), more.0)) (append_assoc before (n ∷ []) ms),
     )
 
 pub all_fit : (ms : List ℕ) (groups : List (List (List ℕ))) → Groups kinds [] (none kinds) ms groups
-    → (m : ℕ) × (walk (floor_of []) 0 (in_order kinds groups) ≡ At (floor_of ms) m)
+    → (m : ℕ) × (walk (floor_of []) 0 (in_order kinds groups) ≡ Ok ((floor_of ms), m))
 all_fit ms groups g = fits_from kinds [] ms groups 0 kinds-distinct refl (λ ns body n e a. refl) g

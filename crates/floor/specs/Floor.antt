@@ -1,17 +1,12 @@
 -- Reading a floor: "For each record, offset at its start: 2 .. 6. At the end 7."
-use Rattle.std.specs.Prelude.{ℕ, ◌+◌, ◌^◌, Bool, true, false, cond, not, ◌||◌, List, [], ◌∷◌, ◌++◌, eqb, leb, ltb, length, get_or}
+use Rattle.std.specs.Prelude.{ℕ, ◌+◌, ◌^◌, Bool, true, false, cond, not, ◌||◌, List, [], ◌∷◌, ◌++◌, eqb, leb, ltb, length, get_or, Result, Ok, Err}
 use Rattle.endian.specs.Little.{value}
 use Rattle.refusal.specs.Codes.{at_offset, first_fault, unless_fault}
 use Rattle.refusal.specs.declared.Verdict.{Verdict}
 use Rattle.refusal.specs.declared.Verdict.TheVariants.{Accepted, Floor as AboutFloor}
 use Rattle.record.specs.Record.{Record, Split, records_in}
 use Rattle.floor.specs.declared.Floor.{Floor}
-use Rattle.floor.specs.declared.RecordAnswer.{RecordAnswer}
-use Rattle.floor.specs.declared.RecordAnswer.TheVariants.{Good, Fault}
-use Rattle.floor.specs.declared.Walked.{Walked}
-use Rattle.floor.specs.declared.Walked.TheVariants.{At, Stopped}
-use Rattle.floor.specs.declared.FloorAnswer.{FloorAnswer}
-use Rattle.floor.specs.declared.FloorAnswer.TheVariants.{Read, Refused}
+use Rattle.refusal.specs.declared.Refusal.{Refusal}
 
 -- A kind of record: its number, the bytes of its body, how many are taken, and its field test, by how many records there are of each kind before it in
 -- the table.
@@ -69,37 +64,41 @@ fault_of k before n after body =
     first_fault ((seen after, 3) ∷ (not (eqb (length body) k.size), 4) ∷ (leb k.most n, 5) ∷ (k.bad before body, 6) ∷ [])
 
 -- refused, or counted in
-abbrev pub judged_as : Kind → List ℕ → ℕ → List ℕ → List ℕ → RecordAnswer
-judged_as k before n after body = unless_fault (fault_of k before n after body) (Good (floor_of (before ++ ((n + 1) ∷ after)))) Fault
+abbrev pub judged_as : Kind → List ℕ → ℕ → List ℕ → List ℕ → Result Floor ℕ
+judged_as k before n after body = unless_fault (fault_of k before n after body) (Ok (floor_of (before ++ ((n + 1) ∷ after)))) Err
 
 -- by its kind's number in the table, from some kind on; 3 "kind unknown" behind the last
-abbrev pub judged_by : List Kind → List ℕ → List ℕ → ℕ → List ℕ → RecordAnswer
-judged_by [] before ns number body = Fault 3
-judged_by (k ∷ ks) before [] number body = Fault 3
+abbrev pub judged_by : List Kind → List ℕ → List ℕ → ℕ → List ℕ → Result Floor ℕ
+judged_by [] before ns number body = Err 3
+judged_by (k ∷ ks) before [] number body = Err 3
 judged_by (k ∷ ks) before (n ∷ ns) number body =
     cond (eqb number k.number) (judged_as k before n ns body) (judged_by ks (before ++ (n ∷ [])) ns number body)
 
-unfoldable pub judged : Floor → ℕ → List ℕ → RecordAnswer
+unfoldable pub judged : Floor → ℕ → List ℕ → Result Floor ℕ
 judged f number body = judged_by kinds [] (counts f) number body
 
+-- records judged in order: the floor and the offset behind them, or the first refusal
+abbrev pub Walked : Type 0
+Walked = Result (Floor × ℕ) Refusal
+
 -- on with the floor that a record gives, or a stop at its offset
-abbrev pub onward : RecordAnswer → ℕ → (Floor → Walked) → Walked
-onward (Good g) at next = next g
-onward (Fault n) at next = Stopped (at_offset n at)
+abbrev pub onward : Result Floor ℕ → ℕ → (Floor → Walked) → Walked
+onward (Ok g) at next = next g
+onward (Err n) at next = Err (at_offset n at)
 
 -- "The lowest offset wins": records in order, with what is counted and the offset so far, up to the first refusal
 unfoldable pub walk : Floor → ℕ → List Record → Walked
-walk f at [] = At f at
+walk f at [] = Ok (f, at)
 walk f at (r ∷ rs) = onward (judged f r.kind r.body) at (λ g. walk g (at + 4 + length r.body) rs)
 
 -- behind the last whole record: 2 "cut short", or "at the end 7: no place or no cart (offset is the file's length)"
-abbrev pub at_end : Walked → Bool → FloorAnswer
-at_end (At f at) true = Refused (at_offset 2 at)
-at_end (At f at) false = cond (eqb f.places 0 || eqb f.carts 0) (Refused (at_offset 7 at)) (Read f)
-at_end (Stopped r) cut = Refused r
+abbrev pub at_end : Walked → Bool → Result Floor Refusal
+at_end (Ok (f, at)) true = Err (at_offset 2 at)
+at_end (Ok (f, at)) false = cond (eqb f.places 0 || eqb f.carts 0) (Err (at_offset 7 at)) (Ok f)
+at_end (Err r) cut = Err r
 
 -- a file from an offset on, behind what is counted
-abbrev pub read_on : Floor → ℕ → Split → FloorAnswer
+abbrev pub read_on : Floor → ℕ → Split → Result Floor Refusal
 read_on f at s = at_end (walk f at s.records) s.cut
 
 -- nothing counted yet
@@ -107,10 +106,10 @@ abbrev pub empty_floor : Floor
 empty_floor = floor_of []
 
 -- 1: "too long (offset 0, before all else)"; "a file holds at most 65,536 bytes"
-unfoldable pub read_floor : List ℕ → FloorAnswer
-read_floor s = cond (ltb 65536 (length s)) (Refused (at_offset 1 0)) (read_on empty_floor 0 (records_in s))
+unfoldable pub read_floor : List ℕ → Result Floor Refusal
+read_floor s = cond (ltb 65536 (length s)) (Err (at_offset 1 0)) (read_on empty_floor 0 (records_in s))
 
 -- the answer as a verdict: a refusal is about the floor
-abbrev pub floor_verdict : FloorAnswer → Verdict
-floor_verdict (Read f) = Accepted
-floor_verdict (Refused r) = AboutFloor r
+abbrev pub floor_verdict : Result Floor Refusal → Verdict
+floor_verdict (Ok f) = Accepted
+floor_verdict (Err r) = AboutFloor r

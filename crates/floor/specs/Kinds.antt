@@ -1,11 +1,10 @@
 -- The table of kinds: a floor and its counts, and, over any table, a record looked up and counted in.
-use Rattle.std.specs.Prelude.{ℕ, zero, suc, ◌+◌, ◌<◌, ◌≡◌, refl, Bool, true, false, cond, not, ◌||◌, ◌&&◌, ◌⊎◌, List, [], ◌∷◌, ◌++◌, eqb, leb, ltb, length, get_or}
+use Rattle.std.specs.Prelude.{ℕ, zero, suc, ◌+◌, ◌<◌, ◌≡◌, refl, Bool, true, false, cond, not, ◌||◌, ◌&&◌, ◌⊎◌, List, [], ◌∷◌, ◌++◌, eqb, leb, ltb, length, get_or, Ok, Err}
 use Rattle.std.proofs.Common.{arith, sym, ap, ◌∙◌, inl, inr, append_assoc, eqb-true, ne_eqb, leb-false, lt-ltb}
 use Rattle.std.proofs.lemmas.Bool.{eqb-false}
 use Rattle.refusal.specs.Faults.{none_holds, no_fault, not-not, or-true}
 use Rattle.floor.specs.Floor.{Kind, kinds, counts, floor_of, seen, fault_of, judged_as, judged_by}
 use Rattle.floor.specs.declared.Floor.{Floor}
-use Rattle.floor.specs.declared.RecordAnswer.TheVariants.{Good, Fault}
 
 -- n numbers of a list, from the i-th on
 abbrev spelled : List ℕ → ℕ → ℕ → List ℕ
@@ -47,14 +46,14 @@ pub record Passed (k : Kind) (before : List ℕ) (n : ℕ) (after body : List �
   pub room : n < k.most
   pub fields : k.bad before body ≡ false
 
-fault_apart : (g : Floor) (n : ℕ) → Fault n ≡ Good g → ⊥
+fault_apart : (g : Floor) (n : ℕ) → Err n ≡ Ok g → ⊥
 fault_apart g n e = let z : ◌≡◌ {A = ℕ} 0 1 = cc in omega arith
 
-passed : (k : Kind) (before : List ℕ) (n : ℕ) (after body : List ℕ) (g : Floor) → judged_as k before n after body ≡ Good g
+passed : (k : Kind) (before : List ℕ) (n : ℕ) (after body : List ℕ) (g : Floor) → judged_as k before n after body ≡ Ok g
     → Passed k before n after body × (floor_of (before ++ ((n + 1) ∷ after)) ≡ g)
 passed k before n after body g e =
-    let j = no_fault (fault_of k before n after body) (Good (floor_of (before ++ ((n + 1) ∷ after)))) Fault (Good g) (fault_apart g) e in
-    let is : Good (floor_of (before ++ ((n + 1) ∷ after))) ≡ Good g = j.1 in
+    let j = no_fault (fault_of k before n after body) (Ok (floor_of (before ++ ((n + 1) ∷ after)))) Err (Ok g) (fault_apart g) e in
+    let is : Ok (floor_of (before ++ ((n + 1) ∷ after))) ≡ Ok g = j.1 in
     let same : floor_of (before ++ ((n + 1) ∷ after)) ≡ g = cc in
     let a = none_holds (seen after) 2 _ j.0 in
     let b = none_holds (not (eqb (length body) k.size)) 3 _ a.1 in
@@ -74,15 +73,15 @@ Counted (k ∷ ks) before (n ∷ ns) number body (m ∷ ms) =
     CountedHere k before n ns number body m ms
     ⊎ ((eqb number k.number ≡ false) × (m ≡ n) × Counted ks (before ++ (n ∷ [])) ns number body ms)
 
-pub counted_in : (ks : List Kind) (before ns : List ℕ) (number : ℕ) (body : List ℕ) (g : Floor) → judged_by ks before ns number body ≡ Good g
+pub counted_in : (ks : List Kind) (before ns : List ℕ) (number : ℕ) (body : List ℕ) (g : Floor) → judged_by ks before ns number body ≡ Ok g
     → (ms : List ℕ) × (floor_of (before ++ ms) ≡ g) × Counted ks before ns number body ms
 counted_in [] before ns number body g e = absurd (fault_apart g 3 e)
 counted_in (k ∷ ks) before [] number body g e = absurd (fault_apart g 3 e)
 counted_in (k ∷ ks) before (n ∷ ns) number body g e = go (eqb number k.number) refl e (counted_in ks (before ++ (n ∷ [])) ns number body g)
   where
     go : (b : Bool) → eqb number k.number ≡ b
-        → cond b (judged_as k before n ns body) (judged_by ks (before ++ (n ∷ [])) ns number body) ≡ Good g
-        → (judged_by ks (before ++ (n ∷ [])) ns number body ≡ Good g
+        → cond b (judged_as k before n ns body) (judged_by ks (before ++ (n ∷ [])) ns number body) ≡ Ok g
+        → (judged_by ks (before ++ (n ∷ [])) ns number body ≡ Ok g
         → (ms : List ℕ) × (floor_of ((before ++ (n ∷ [])) ++ ms) ≡ g) × Counted ks (before ++ (n ∷ [])) ns number body ms)
         → (ms : List ℕ) × (floor_of (before ++ ms) ≡ g) × Counted (k ∷ ks) before (n ∷ ns) number body ms
     go true q e more = let p = passed k before n ns body g e in ((n + 1) ∷ ns, p.1, inl (eqb-true _ _ q, p.0, refl, refl))

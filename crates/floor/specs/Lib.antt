@@ -1,6 +1,7 @@
 -- definitions
 pub mod Floor
 pub mod Numbers
+pub mod Lent
 pub mod Walked
 pub mod Valid
 -- promises

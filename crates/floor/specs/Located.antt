@@ -1,5 +1,5 @@
 -- Where the numbers of an accepted floor lie in its bytes.
-use Rattle.std.specs.Prelude.{ℕ, zero, suc, ◌+◌, ◌*◌, ◌^◌, ◌≤◌, ◌<◌, ◌≡◌, refl, false, leb, ltb, length, take, drop, get_or}
+use Rattle.std.specs.Prelude.{ℕ, zero, suc, ◌+◌, ◌*◌, ◌^◌, ◌≤◌, ◌<◌, ◌≡◌, refl, false, leb, ltb, length, take, drop, get_or, Ok}
 use Rattle.std.proofs.Common.{mul-zero, mul-suc, zero-add, add-zero, arith, ap₂, subst, ◌∙◌, take_at, ltb-false, leb-false}
 use Rattle.std.proofs.Math.Path.{sym, ap}
 use mathlib.Core.List.{List, [], ◌∷◌, ◌++◌, flatten}
@@ -22,7 +22,6 @@ use Rattle.floor.specs.Walk.{length_floor}
 use Rattle.floor.specs.RoundTrip.{whole, accepted_sorted, accepted_within, bytes_back, written_again}
 use Rattle.floor.specs.Promises.{AcceptedFloor}
 use Rattle.floor.specs.declared.Floor.{Floor}
-use Rattle.floor.specs.declared.FloorAnswer.TheVariants.{Read}
 
 -- numbers in a row
 flat_at : (size : ℕ) (xs : List (List ℕ)) (i : ℕ) → AllOf size xs → i < length xs → take size (drop (size * i) (flatten xs)) ≡ get_or xs i []
@@ -47,7 +46,7 @@ alone (a ∷ []) e = refl
 alone (a ∷ (b ∷ x)) e = absurd (omega arith)
 
 -- of an accepted floor
-module _ (s : List ℕ) (f : Floor) (b : Bytes s) (e : read_floor s ≡ Read f) where
+module _ (s : List ℕ) (f : Floor) (b : Bytes s) (e : read_floor s ≡ Ok f) where
   abbrev places : List (List ℕ)
   places = bodies_of 1 (records_in s).records
 

@@ -1,5 +1,5 @@
 -- The numbers that a floor holds, and writing them.
-use Rattle.std.specs.Prelude.{ℕ, ◌+◌, ◌*◌, ◌^◌, ◌<◌, cond, eqb, take, drop, get_or}
+use Rattle.std.specs.Prelude.{ℕ, ◌+◌, ◌*◌, ◌^◌, ◌<◌, cond, eqb, take, drop, get_or, Result, Ok, Err}
 use mathlib.Core.List.{List, [], ◌∷◌, ◌++◌, map, flatten}
 use Rattle.endian.specs.Little.{bytes, value}
 use Rattle.refusal.specs.Outcome.{Outcome, unchanged, written}
@@ -8,8 +8,7 @@ use Rattle.record.specs.Record.{Record, layout, records_in}
 use Rattle.record.specs.Parts.{parts, of_kind}
 use Rattle.floor.specs.Floor.{Kind, kinds, read_floor}
 use Rattle.floor.specs.declared.Floor.{Floor}
-use Rattle.floor.specs.declared.FloorAnswer.{FloorAnswer}
-use Rattle.floor.specs.declared.FloorAnswer.TheVariants.{Read, Refused}
+use Rattle.refusal.specs.declared.Refusal.{Refusal}
 
 -- "Places and carts are numbered from 0 in file order": the marks of each place; from, to and classes of each lane; class and start of each cart; the
 -- narrow places; the carts of each group
@@ -88,9 +87,9 @@ abbrev pub Words : List ℕ → Type 0
 Words l = (i : ℕ) → get_or l i 0 < 2 ^ 32
 
 -- "numbers that no file could give are refused as reading their file would be (fields are no wider than the file's), then 18 as below"
-abbrev pub by_reading : FloorAnswer → List ℕ → List ℕ → Outcome
-by_reading (Refused r) file out = unchanged (AboutFloor r) out
-by_reading (Read f) file out = written AboutFloor file out
+abbrev pub by_reading : Result Floor Refusal → List ℕ → List ℕ → Outcome
+by_reading (Err r) file out = unchanged (AboutFloor r) out
+by_reading (Ok f) file out = written AboutFloor file out
 
 unfoldable pub write_floor : FloorNumbers → List ℕ → Outcome
 write_floor n out = by_reading (read_floor (floor_bytes n)) (floor_bytes n) out

@@ -1,5 +1,5 @@
 -- What reading and writing a floor promise.
-use Rattle.std.specs.Prelude.{ℕ, ◌*◌, ◌<◌, ◌≡◌, List, [], ◌∷◌, take, drop, get_or}
+use Rattle.std.specs.Prelude.{ℕ, ◌*◌, ◌<◌, ◌≡◌, List, [], ◌∷◌, take, drop, get_or, Result, Ok}
 use Rattle.endian.specs.Little.{value}
 use Rattle.refusal.specs.Given.{Given, reading_floor, writing_floor}
 use Rattle.refusal.specs.Outcome.{Gives, written}
@@ -9,8 +9,7 @@ use Rattle.floor.specs.Floor.{read_floor, floor_verdict}
 use Rattle.floor.specs.Numbers.{FloorNumbers, floor_bytes, numbers_of, place_at, lane_at, cart_at, narrow_at, group_at, body_at, write_floor}
 use Rattle.floor.specs.Valid.{ValidFloor}
 use Rattle.floor.specs.declared.Floor.{Floor}
-use Rattle.floor.specs.declared.FloorAnswer.{FloorAnswer}
-use Rattle.floor.specs.declared.FloorAnswer.TheVariants.{Read}
+use Rattle.refusal.specs.declared.Refusal.{Refusal}
 
 -- an accepted floor: its numbers are those of the table, they write back as the same bytes, and they lie at fixed offsets
 pub record AcceptedFloor (s : List ℕ) (f : Floor) : Type 0 where
@@ -23,13 +22,13 @@ pub record AcceptedFloor (s : List ℕ) (f : Floor) : Type 0 where
   pub narrow : (i : ℕ) → i < f.narrow → body_at 1 (narrow_at f i) s ≡ get_or (numbers_of s).narrow i 0 ∷ []
   pub group : (g : ℕ) → g < f.groups → value (body_at 4 (group_at f g) s) ≡ get_or (numbers_of s).groups g 0
 
-pub record FloorRead (s : List ℕ) (r : FloorAnswer) : Type 0 where
+pub record FloorRead (s : List ℕ) (r : Result Floor Refusal) : Type 0 where
   -- the answer, for every file
   pub answer : r ≡ read_floor s
   -- "Reading a floor: 1 .. 7"
   pub numbers : Given reading_floor (floor_verdict r)
   -- "floor and plan files read and write back to the same bytes"
-  pub accepted : (f : Floor) → r ≡ Read f → AcceptedFloor s f
+  pub accepted : (f : Floor) → r ≡ Ok f → AcceptedFloor s f
 
 pub record FloorWritten (n : FloorNumbers) (before : List ℕ) (v : Verdict) (after : List ℕ) : Type 0 where
   -- the answer and every byte of the buffer, for all numbers
@@ -39,4 +38,4 @@ pub record FloorWritten (n : FloorNumbers) (before : List ℕ) (v : Verdict) (af
   -- numbers of the table are refused only for want of room
   pub complete : (f : Floor) → ValidFloor n f → Gives (written AboutFloor (floor_bytes n) before) v after
   -- "What is written reads back as the same numbers."
-  pub reads_back : (k : ℕ) → v ≡ Written k → (f : Floor) × (read_floor (take k after) ≡ Read f) × (numbers_of (take k after) ≡ n)
+  pub reads_back : (k : ℕ) → v ≡ Written k → (f : Floor) × (read_floor (take k after) ≡ Ok f) × (numbers_of (take k after) ≡ n)

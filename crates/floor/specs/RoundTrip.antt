@@ -1,5 +1,5 @@
 -- What is written reads back as the same numbers, and what was read writes back as the same bytes.
-use Rattle.std.specs.Prelude.{ℕ, suc, ◌≤◌, ◌<◌, ◌≡◌, refl, Bool, true, false, cond, ◌||◌, eqb, ltb, length, take, get_or}
+use Rattle.std.specs.Prelude.{ℕ, suc, ◌≤◌, ◌<◌, ◌≡◌, refl, Bool, true, false, cond, ◌||◌, eqb, ltb, length, take, get_or, Result, Ok, Err}
 use Rattle.std.proofs.Common.{arith, sym, ap, ap₂, subst, ◌∙◌, ltb-false}
 use mathlib.Core.List.{List, [], ◌∷◌, map, flatten}
 use Rattle.std.proofs.lemmas.Bool.{eqb-false}
@@ -15,16 +15,13 @@ use Rattle.refusal.specs.Outcome.{Gives, written}
 use Rattle.refusal.specs.Held.{about_floor, written_front}
 use Rattle.refusal.specs.declared.Verdict.{Verdict}
 use Rattle.refusal.specs.declared.Verdict.TheVariants.{Written, Floor as AboutFloor}
-use Rattle.floor.specs.Floor.{kinds, walk, at_end, empty_floor, read_on, read_floor}
+use Rattle.floor.specs.Floor.{kinds, walk, at_end, empty_floor, read_on, read_floor, Walked}
 use Rattle.floor.specs.Numbers.{FloorNumbers, Words, word_records, in_order, bodies, floor_records, floor_bytes, bodies_of, numbers_in, numbers_of, by_reading, write_floor}
 use Rattle.floor.specs.Kinds.{kinds-distinct}
 use Rattle.floor.specs.InOrder.{groups_back, all_encodable}
 use Rattle.floor.specs.Sorted.{Sorted, groups_of, sorted}
 use Rattle.floor.specs.declared.Floor.{Floor}
-use Rattle.floor.specs.declared.Walked.{Walked}
-use Rattle.floor.specs.declared.Walked.TheVariants.{At, Stopped}
-use Rattle.floor.specs.declared.FloorAnswer.{FloorAnswer}
-use Rattle.floor.specs.declared.FloorAnswer.TheVariants.{Read, Refused}
+use Rattle.refusal.specs.declared.Refusal.{Refusal}
 
 -- laid out, a floor's numbers are whole records
 words_encodable : (k : ℕ) (ms : List ℕ) → k < 65536 → AllEncodable (word_records k ms)
@@ -63,37 +60,37 @@ numbers_written n w v = ap (λ (x : Split). numbers_in x.records) (records-layou
 pub record Whole (s : List ℕ) (f : Floor) : Type 0 where
   pub short : length s ≤ 65536
   pub end : ℕ
-  pub walked : walk empty_floor 0 (records_in s).records ≡ At f end
+  pub walked : walk empty_floor 0 (records_in s).records ≡ Ok (f, end)
   pub uncut : (records_in s).cut ≡ false
   pub some_place : 0 < f.places
   pub some_cart : 0 < f.carts
 
-ends : (w : Walked) (c : Bool) (f : Floor) → at_end w c ≡ Read f → (n : ℕ) × (w ≡ At f n) × (c ≡ false) × (0 < f.places) × (0 < f.carts)
-ends (Stopped r) c f e = let z : ◌≡◌ {A = ℕ} 0 1 = cc in absurd (omega arith)
-ends (At g n) true f e = let z : ◌≡◌ {A = ℕ} 0 1 = cc in absurd (omega arith)
-ends (At g n) false f e = go (eqb g.places 0) (eqb g.carts 0) refl refl e
+ends : (w : Walked) (c : Bool) (f : Floor) → at_end w c ≡ Ok f → (n : ℕ) × (w ≡ Ok (f, n)) × (c ≡ false) × (0 < f.places) × (0 < f.carts)
+ends (Err r) c f e = let z : ◌≡◌ {A = ℕ} 0 1 = cc in absurd (omega arith)
+ends (Ok (g, n)) true f e = let z : ◌≡◌ {A = ℕ} 0 1 = cc in absurd (omega arith)
+ends (Ok (g, n)) false f e = go (eqb g.places 0) (eqb g.carts 0) refl refl e
   where
-    go : (a b : Bool) → eqb g.places 0 ≡ a → eqb g.carts 0 ≡ b → cond (a || b) (Refused (at_offset 7 n)) (Read g) ≡ Read f
-        → (m : ℕ) × (At g n ≡ At f m) × (◌≡◌ {A = Bool} false false) × (0 < f.places) × (0 < f.carts)
+    go : (a b : Bool) → eqb g.places 0 ≡ a → eqb g.carts 0 ≡ b → cond (a || b) (Err (at_offset 7 n)) (Ok g) ≡ Ok f
+        → (m : ℕ) × (◌≡◌ {A = Walked} (Ok (g, n)) (Ok (f, m))) × (◌≡◌ {A = Bool} false false) × (0 < f.places) × (0 < f.carts)
     go true b p q e = let z : ◌≡◌ {A = ℕ} 0 1 = cc in absurd (omega arith)
     go false true p q e = let z : ◌≡◌ {A = ℕ} 0 1 = cc in absurd (omega arith)
     go false false p q e =
         let h : g ≡ f = cc in
         let a : (g.places ≡ 0 → ⊥) = eqb-false _ _ p in
         let b : (g.carts ≡ 0 → ⊥) = eqb-false _ _ q in
-        (n, ap (λ (x : Floor). At x n) h, refl, subst (λ (x : Floor). 0 < x.places) h (omega arith), subst (λ (x : Floor). 0 < x.carts) h (omega arith))
+        (n, ap (λ (x : Floor). Ok (x, n)) h, refl, subst (λ (x : Floor). 0 < x.places) h (omega arith), subst (λ (x : Floor). 0 < x.carts) h (omega arith))
 
-pub whole : (s : List ℕ) (f : Floor) → read_floor s ≡ Read f → Whole s f
+pub whole : (s : List ℕ) (f : Floor) → read_floor s ≡ Ok f → Whole s f
 unfolding read_floor
 whole s f e = go (ltb 65536 (length s)) refl e
   where
-    go : (b : Bool) → ltb 65536 (length s) ≡ b → cond b (Refused (at_offset 1 0)) (read_on empty_floor 0 (records_in s)) ≡ Read f → Whole s f
+    go : (b : Bool) → ltb 65536 (length s) ≡ b → cond b (Err (at_offset 1 0)) (read_on empty_floor 0 (records_in s)) ≡ Ok f → Whole s f
     go true p e = let z : ◌≡◌ {A = ℕ} 0 1 = cc in absurd (omega arith)
     go false p e =
         let t = ends (walk empty_floor 0 (records_in s).records) (records_in s).cut f e in
         record { short = ltb-false _ _ p; end = t.0; walked = t.1; uncut = t.2; some_place = t.3; some_cart = t.4 }
 
-pub accepted_sorted : (s : List ℕ) (f : Floor) → read_floor s ≡ Read f → Sorted empty_floor f (records_in s).records
+pub accepted_sorted : (s : List ℕ) (f : Floor) → read_floor s ≡ Ok f → Sorted empty_floor f (records_in s).records
 accepted_sorted s f e = let w = whole s f e in sorted (records_in s).records empty_floor 0 f w.end w.walked
 
 -- 1 to 256 places, 0 to 1,024 lanes, 1 to 32 carts, 0 to 256 narrow places, 0 to 8 groups: never more
@@ -105,7 +102,7 @@ pub record Within (f : Floor) : Type 0 where
   pub groups : f.groups ≤ 8
 
 -- an accepted floor is within the limits
-pub accepted_within : (s : List ℕ) (f : Floor) → read_floor s ≡ Read f → Within f
+pub accepted_within : (s : List ℕ) (f : Floor) → read_floor s ≡ Ok f → Within f
 accepted_within s f e =
     let g = (accepted_sorted s f e).0 in
     record {
@@ -132,7 +129,7 @@ words_again (x ∷ a) h b =
     ap₂ ◌∷◌ (ap (λ (n : ℕ). bytes n (value x)) (sym h.0) ∙ bytes-value x b.0) (words_again a h.1 b.1)
 
 -- what was read writes back as the same bytes
-pub bytes_back : (s : List ℕ) (f : Floor) → Bytes s → read_floor s ≡ Read f → floor_bytes (numbers_of s) ≡ s
+pub bytes_back : (s : List ℕ) (f : Floor) → Bytes s → read_floor s ≡ Ok f → floor_bytes (numbers_of s) ≡ s
 bytes_back s f b e =
     let rs = (records_in s).records in
     let o = accepted_sorted s f e in
@@ -152,22 +149,22 @@ bytes_back s f b e =
     ap (λ (x : List (List (List ℕ))). layout (in_order kinds x)) same ∙ ap layout (sym o.1) ∙ layout-records s b (whole s f e).uncut
 
 -- read, then written: the same bytes
-pub written_again : (s : List ℕ) (f : Floor) → Bytes s → read_floor s ≡ Read f → (before : List ℕ)
+pub written_again : (s : List ℕ) (f : Floor) → Bytes s → read_floor s ≡ Ok f → (before : List ℕ)
     → write_floor (numbers_of s) before ≡ written AboutFloor s before
 unfolding write_floor
 written_again s f b e before =
-    ap (λ (x : List ℕ). by_reading (read_floor x) x before) (bytes_back s f b e) ∙ ap (λ (a : FloorAnswer). by_reading a s before) e
+    ap (λ (x : List ℕ). by_reading (read_floor x) x before) (bytes_back s f b e) ∙ ap (λ (a : Result Floor Refusal). by_reading a s before) e
 
 -- what is written reads back as the same numbers
 pub reads_back : (n : FloorNumbers) (before : List ℕ) (v : Verdict) (after : List ℕ) → Words n.places → Words n.groups
     → Gives (write_floor n before) v after
-    → (k : ℕ) → v ≡ Written k → (f : Floor) × (read_floor (take k after) ≡ Read f) × (numbers_of (take k after) ≡ n)
+    → (k : ℕ) → v ≡ Written k → (f : Floor) × (read_floor (take k after) ≡ Ok f) × (numbers_of (take k after) ≡ n)
 unfolding write_floor
 reads_back n before v after w u g k e = go (read_floor (floor_bytes n)) refl g
   where
-    go : (a : FloorAnswer) → read_floor (floor_bytes n) ≡ a → Gives (by_reading a (floor_bytes n) before) v after
-        → (f : Floor) × (read_floor (take k after) ≡ Read f) × (numbers_of (take k after) ≡ n)
-    go (Refused r) q g = absurd (about_floor r k (sym g.answer ∙ e))
-    go (Read f) q g =
+    go : (a : Result Floor Refusal) → read_floor (floor_bytes n) ≡ a → Gives (by_reading a (floor_bytes n) before) v after
+        → (f : Floor) × (read_floor (take k after) ≡ Ok f) × (numbers_of (take k after) ≡ n)
+    go (Err r) q g = absurd (about_floor r k (sym g.answer ∙ e))
+    go (Ok f) q g =
         let t : take k after ≡ floor_bytes n = written_front AboutFloor about_floor (floor_bytes n) before v after k g e in
         (f, ap read_floor t ∙ q, ap numbers_of t ∙ numbers_written n w u)

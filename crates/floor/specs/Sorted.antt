@@ -1,6 +1,6 @@
 -- The records of an accepted floor: kind after kind in the table's order, each body of its kind's length, and as many as are counted.
-use Rattle.std.specs.Prelude.{ℕ, ◌+◌, ◌≤◌, ◌≡◌, refl, Bool, true, false, not, List, [], ◌∷◌, ◌++◌, map, eqb, length}
-use Rattle.std.proofs.Common.{arith, sym, ap₂, subst, ◌∙◌, inl, inr, eq-eqb}
+use Rattle.std.specs.Prelude.{ℕ, ◌+◌, ◌≤◌, ◌≡◌, refl, Bool, true, false, not, List, [], ◌∷◌, ◌++◌, map, eqb, length, Result, Ok, Err}
+use Rattle.std.proofs.Common.{arith, sym, ap, ap₂, subst, ◌∙◌, inl, inr, eq-eqb}
 use Rattle.std.proofs.Math.Path.{ap}
 use Rattle.std.proofs.Math.Bool.{cond}
 use Rattle.std.proofs.lemmas.Bool.{not-true}
@@ -12,9 +12,6 @@ use Rattle.floor.specs.Floor.{Kind, kinds, counts, seen, judged, onward, walk}
 use Rattle.floor.specs.Numbers.{in_order, bodies_of}
 use Rattle.floor.specs.Kinds.{unlisted, distinct, kinds-distinct, Counted, counts_of, counted_in, counted_length, counted_seen}
 use Rattle.floor.specs.declared.Floor.{Floor}
-use Rattle.floor.specs.declared.RecordAnswer.{RecordAnswer}
-use Rattle.floor.specs.declared.RecordAnswer.TheVariants.{Good, Fault}
-use Rattle.floor.specs.declared.Walked.TheVariants.{At}
 
 -- the bodies of one kind, judged from n up to m of them, behind these counts of the kinds before it and ahead of those behind it
 pub record Group (k : Kind) (before : List ℕ) (n m : ℕ) (after : List ℕ) (bodies : List (List ℕ)) : Type 0 where
@@ -114,19 +111,20 @@ module _ (r : Record) (rs : List Record) where
 abbrev pub Sorted : Floor → Floor → List Record → Type 0
 Sorted f g rs = Arranged kinds [] (counts f) (counts g) rs
 
-pub sorted : (rs : List Record) (f : Floor) (at : ℕ) (g : Floor) (n : ℕ) → walk f at rs ≡ At g n → Sorted f g rs
+pub sorted : (rs : List Record) (f : Floor) (at : ℕ) (g : Floor) (n : ℕ) → walk f at rs ≡ Ok (g, n) → Sorted f g rs
 unfolding walk judged bodies_of
 sorted [] f at g n e =
-    let q : f ≡ g = cc in
+    let t : ◌≡◌ {A = Floor × ℕ} (f, at) (g, n) = cc in
+    let q : f ≡ g = ap (λ (x : Floor × ℕ). x.0) t in
     subst (λ (x : Floor). Sorted f x []) q (none_judged kinds [] (counts f) refl, refl)
 sorted (r ∷ rs) f at g n e = go (judged f r.kind r.body) refl (λ h. sorted rs h (at + 4 + length r.body) g n) e
   where
-    go : (j : RecordAnswer) → judged f r.kind r.body ≡ j
-        → ((h : Floor) → walk h (at + 4 + length r.body) rs ≡ At g n → Sorted h g rs)
-        → onward j at (λ h. walk h (at + 4 + length r.body) rs) ≡ At g n → Sorted f g (r ∷ rs)
-    go (Good h) q ih e =
+    go : (j : Result Floor ℕ) → judged f r.kind r.body ≡ j
+        → ((h : Floor) → walk h (at + 4 + length r.body) rs ≡ Ok (g, n) → Sorted h g rs)
+        → onward j at (λ h. walk h (at + 4 + length r.body) rs) ≡ Ok (g, n) → Sorted f g (r ∷ rs)
+    go (Ok h) q ih e =
         let c = counted_in kinds [] (counts f) r.kind r.body h q in
         let cs : counts h ≡ c.0 = ap counts (sym c.1) ∙ counts_of c.0 (counted_length kinds [] (counts f) r.kind r.body c.0 c.2) in
         step r rs kinds [] (counts f) (counts h) (counts g) kinds-distinct
         (subst (Counted kinds [] (counts f) r.kind r.body) (sym cs) c.2) (ih h e)
-    go (Fault m) q ih e = let z : ◌≡◌ {A = ℕ} 0 1 = cc in absurd (omega arith)
+    go (Err m) q ih e = let z : ◌≡◌ {A = ℕ} 0 1 = cc in absurd (omega arith)

@@ -1,8 +1,12 @@
 // One record of a floor, judged behind those already counted.
-ghost use Rattle.std.specs.Prelude.{◌≡◌, [], ◌∷◌, ◌^◌, leb};
-ghost use Rattle.floor.specs.Floor.{seen, judged};
+#![tactic(auto, using(std::proofs::lemmas::Bool::Decides::nat_tests), unfolding(crate::specs::Floor::judged))]
 
-use crate::{Floor, RecordAnswer};
+ghost use Rattle.std.specs.Prelude.{◌≡◌, [], ◌∷◌, ◌^◌, ◌≤◌, leb};
+ghost use Rattle.floor.specs.Floor.{seen, judged};
+ghost use Rattle.floor.specs.Walked.{refused_at};
+
+use crate::Floor;
+use refusal::Refusal;
 
 // Whether a record is counted of the kinds behind the places. Joined, one test takes fewer instructions than one each.
 fn any_counted(lanes: usize, carts: usize, narrow: usize, groups: usize) -> bool
@@ -11,103 +15,91 @@ fn any_counted(lanes: usize, carts: usize, narrow: usize, groups: usize) -> bool
     (lanes | carts | narrow | groups) != 0
 }
 
-pub(crate) fn judge_place(f: Floor, body: &[u8]) -> RecordAnswer
+fn judge_place(f: Floor, body: &[u8]) -> Result<Floor, u32>
     ensures { result ≡ judged f 1 body.now }
 {
     if any_counted(f.lanes, f.carts, f.narrow, f.groups) {
-        return RecordAnswer::Fault(3);
+        return Err(3);
     }
     if body.len() != 4 {
-        return RecordAnswer::Fault(4);
+        return Err(4);
     }
     if 256 <= f.places {
-        return RecordAnswer::Fault(5);
+        return Err(5);
     }
-    RecordAnswer::Good(Floor {
+    Ok(Floor {
         places: f.places + 1,
-        lanes: f.lanes,
-        carts: f.carts,
-        narrow: f.narrow,
-        groups: f.groups,
+        ..f
     })
 }
 
-pub(crate) fn judge_lane(f: Floor, body: &[u8]) -> RecordAnswer
+fn judge_lane(f: Floor, body: &[u8]) -> Result<Floor, u32>
     ensures { result ≡ judged f 2 body.now }
 {
     if any_counted(0, f.carts, f.narrow, f.groups) {
-        return RecordAnswer::Fault(3);
+        return Err(3);
     }
     if body.len() != 3 {
-        return RecordAnswer::Fault(4);
+        return Err(4);
     }
     if 1024 <= f.lanes {
-        return RecordAnswer::Fault(5);
+        return Err(5);
     }
-    if f.places <= endian::wide(body[0]) {
-        return RecordAnswer::Fault(6);
+    if f.places <= usize::from(body[0]) {
+        return Err(6);
     }
-    if f.places <= endian::wide(body[1]) {
-        return RecordAnswer::Fault(6);
+    if f.places <= usize::from(body[1]) {
+        return Err(6);
     }
-    RecordAnswer::Good(Floor {
-        places: f.places,
+    Ok(Floor {
         lanes: f.lanes + 1,
-        carts: f.carts,
-        narrow: f.narrow,
-        groups: f.groups,
+        ..f
     })
 }
 
-pub(crate) fn judge_cart(f: Floor, body: &[u8]) -> RecordAnswer
+fn judge_cart(f: Floor, body: &[u8]) -> Result<Floor, u32>
     ensures { result ≡ judged f 3 body.now }
 {
     if any_counted(0, 0, f.narrow, f.groups) {
-        return RecordAnswer::Fault(3);
+        return Err(3);
     }
     if body.len() != 2 {
-        return RecordAnswer::Fault(4);
+        return Err(4);
     }
     if 32 <= f.carts {
-        return RecordAnswer::Fault(5);
+        return Err(5);
     }
     if 7 < body[0] {
-        return RecordAnswer::Fault(6);
+        return Err(6);
     }
-    if f.places <= endian::wide(body[1]) {
-        return RecordAnswer::Fault(6);
+    if f.places <= usize::from(body[1]) {
+        return Err(6);
     }
-    RecordAnswer::Good(Floor {
-        places: f.places,
-        lanes: f.lanes,
+    Ok(Floor {
         carts: f.carts + 1,
-        narrow: f.narrow,
-        groups: f.groups,
+        ..f
     })
 }
 
-pub(crate) fn judge_narrow(f: Floor, body: &[u8]) -> RecordAnswer
+fn judge_narrow(f: Floor, body: &[u8]) -> Result<Floor, u32>
     ensures { result ≡ judged f 6 body.now }
 {
     if 0 < f.groups {
-        return RecordAnswer::Fault(3);
+        return Err(3);
     }
     if body.len() != 1 {
-        return RecordAnswer::Fault(4);
+        return Err(4);
     }
     if 256 <= f.narrow {
-        return RecordAnswer::Fault(5);
+        return Err(5);
     }
-    let place = endian::wide(body[0]);
+    let place = usize::from(body[0]);
     if f.places <= place {
-        return RecordAnswer::Fault(6);
+        return Err(6);
     }
-    RecordAnswer::Good(Floor {
-        places: f.places,
-        lanes: f.lanes,
-        carts: f.carts,
+    Ok(Floor {
         narrow: f.narrow + 1,
-        groups: f.groups,
+        ..f
     })
 }
 
@@ -121,46 +113,45 @@ fn has_absent(word: u32, carts: usize) -> bool
     (1u64 << carts) <= (word as u64)
 }
 
-pub(crate) fn judge_group(f: Floor, body: &[u8]) -> RecordAnswer
+fn judge_group(f: Floor, body: &[u8]) -> Result<Floor, u32>
     ensures { result ≡ judged f 7 body.now }
 {
     if body.len() != 4 {
-        return RecordAnswer::Fault(4);
+        return Err(4);
     }
     if 8 <= f.groups {
-        return RecordAnswer::Fault(5);
+        return Err(5);
     }
     let word = endian::number32(body[0], body[1], body[2], body[3]);
     if has_absent(word, f.carts) {
-        return RecordAnswer::Fault(6);
+        return Err(6);
     }
-    RecordAnswer::Good(Floor {
-        places: f.places,
-        lanes: f.lanes,
-        carts: f.carts,
-        narrow: f.narrow,
+    Ok(Floor {
         groups: f.groups + 1,
+        ..f
     })
 }
 
 // Judges a record by its kind and body, behind those already counted.
-pub(crate) fn judge(f: Floor, kind: u16, body: &[u8]) -> RecordAnswer
+#[inline(always)]
+fn judge(f: Floor, kind: u16, body: &[u8]) -> Result<Floor, u32>
     ensures { result ≡ judged f kind body.now }
 {
-    if kind == 1 {
-        return judge_place(f, body);
+    match kind {
+        1 => judge_place(f, body),
+        2 => judge_lane(f, body),
+        3 => judge_cart(f, body),
+        6 => judge_narrow(f, body),
+        7 => judge_group(f, body),
+        _ => Err(3),
     }
-    if kind == 2 {
-        return judge_lane(f, body);
-    }
-    if kind == 3 {
-        return judge_cart(f, body);
-    }
-    if kind == 6 {
-        return judge_narrow(f, body);
-    }
-    if kind == 7 {
-        return judge_group(f, body);
-    }
-    RecordAnswer::Fault(3)
+}
+
+// And refuses it at its offset. Put into the loops that call it: every operation reads a floor, and a call of it would make that half as long again.
+#[inline(always)]
+pub(crate) fn judge_at(f: Floor, at: usize, kind: u16, body: &[u8]) -> Result<Floor, Refusal>
+    requires { at ≤ 65536 }
+    ensures { result ≡ refused_at at (judged f kind body.now) }
+{
+    judge(f, kind, body).map_err(|n| refusal::at_offset(n, at as u32))
 }

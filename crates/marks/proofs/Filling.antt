@@ -79,33 +79,28 @@ module _ (floor block : List ℕ) (carts h marks : ℕ) where
     beyond = λ j p. refl;
   }
 
-  module _ (i : ℕ) (before now : List ℕ) (f : Tables (Built i) marks h before now) where
-    pub room : carts ≤ 32 → 4 ≤ i → Holds Room marks h now
-    room few left k p s q = small carts (λ j. bearing floor block j s k) (get_or now (k * h + s) 0) i few left (f.each k p s q)
+  pub every_cart : (i : ℕ) (before now : List ℕ) → Tables (Built i) marks h before now → i ≤ 0
+      → Tables (Bearers floor block carts) marks h before now
+  every_cart i before now f p = record { kept = f.kept; each = λ k u s v. ended carts _ (get_or now (k * h + s) 0) i p (f.each k u s v); beyond = f.beyond }
 
-    -- the words of the carts from i - 4 on: those that are missing had 0
-    pub four_more : (n : ℕ) (first words turned after : List ℕ) → marks ≤ 32 → 4 ≤ i → Some carts (i - 4) n
-        → ((j : ℕ) → (carts - (i - 4)) * 64 ≤ j → j < 256 → get_or first j 0 ≡ 0) → h ≤ 64 → Gathered (λ c. WordAt floor block (i - 4 + c)) n h first words
-        → Packed 0 h words turned → Tables (MovedUp now h turned) marks h now after → Tables (Built (i - 4)) marks h before after
-    four_more n first words turned after most left few empty steps w g r = record {
+  module _ (i : ℕ) (before now : List ℕ) (f : Tables (Built (i + 4)) marks h before now) where
+    pub room : carts ≤ 32 → Holds Room marks h now
+    room few k p s q = small carts (λ j. bearing floor block j s k) (get_or now (k * h + s) 0) (i + 4) few (omega arith) (f.each k p s q)
+
+    -- the words of the carts from i on: those that are missing had 0
+    pub four_more : (n : ℕ) (first words turned after : List ℕ) → marks ≤ 32 → Some carts i n
+        → ((j : ℕ) → (carts - i) * 64 ≤ j → j < 256 → get_or first j 0 ≡ 0) → h ≤ 64 → Gathered (λ c. WordAt floor block (i + c)) n h first words
+        → Packed 0 h words turned → Tables (MovedUp now h turned) marks h now after → Tables (Built i) marks h before after
+    four_more n first words turned after most few empty steps w g r = record {
       kept = r.kept ∙ f.kept;
-      each = λ k p s q. subst (λ (x : ℕ). Built (i - 4) k s x) (sym (r.each k p s q))
-          (four_onward carts (λ j. bearing floor block j s k) (get_or now (k * h + s) 0) (i - 4) _ (from_four k s (f.each k p s q)) (omega arith)
-          (λ c u v. fours_bit h s k c words turned g q (omega arith) u ∙ ap (λ (x : ℕ). on x k) (w.each c s (there c u v) q))
+      each = λ k p s q. subst (λ (x : ℕ). Built i k s x) (sym (r.each k p s q))
+          (four_onward carts (λ j. bearing floor block j s k) (get_or now (k * h + s) 0) i _ (f.each k p s q) (omega arith)
+          (λ c u v. fours_bit h s k c words turned g q (omega arith) u ∙ ap (λ (x : ℕ). on x k) (w.each c s (few.2 c u v) q))
           (λ c u v. fours_bit h s k c words turned g q (omega arith) u ∙ ap (λ (x : ℕ). on x k) (missing c s u v q) ∙ on_zero k));
       beyond = λ j p. r.beyond j p ∙ f.beyond j p;
     }
       where
-        from_four : (k s : ℕ) → Built i k s (get_or now (k * h + s) 0) → Built (i - 4 + 4) k s (get_or now (k * h + s) 0)
-        from_four k s b = let e : i ≡ i - 4 + 4 = omega arith in subst (λ (a : ℕ). Built a k s (get_or now (k * h + s) 0)) e b
-
-        there : (c : ℕ) → c < 4 → i - 4 + c < carts → c < n
-        there c u v = few.2 c u v
-
-        missing : (c s : ℕ) → c < 4 → carts ≤ i - 4 + c → s < h → get_or words (c * 64 + s) 0 ≡ 0
+        missing : (c s : ℕ) → c < 4 → carts ≤ i + c → s < h → get_or words (c * 64 + s) 0 ≡ 0
         missing c s u v q =
             let past : n ≤ c = omega (arith, few.1) in
             w.beyond (c * 64 + s) (omega arith) ∙ empty (c * 64 + s) (omega arith) (omega arith)
-
-    pub every_cart : i ≤ 0 → Tables (Bearers floor block carts) marks h before now
-    every_cart p = record { kept = f.kept; each = λ k u s v. ended carts _ (get_or now (k * h + s) 0) i p (f.each k u s v); beyond = f.beyond }

@@ -41,7 +41,6 @@ fn upper(a: u32, b: u32) -> u32
 
 // Turns the words of step s.
 fn turn(words: &mut [u32; 256], s: usize)
-    requires words_len { length words.old ≡ 256 }
     requires s_bound { s < 64 }
     ensures { Packed s (s + 1) words.old words.new }
 {
@@ -61,13 +60,10 @@ fn turn(words: &mut [u32; 256], s: usize)
 
 // Turns the words of all steps.
 pub(crate) fn pack(h: usize, words: &mut [u32; 256])
-    requires words_len { length words.old ≡ 256 }
     requires h_bound { h ≤ 64 }
     ensures { Packed 0 h words.old words.new }
 {
-    let mut s = 0;
-    while s < h {
+    for s in 0..h {
         turn(words, s);
-        s += 1;
     }
 }

@@ -31,12 +31,9 @@ fn word(floor: &[u8], f: Floor, fleet: u32, o: usize) -> u32
 // Puts the word of the fleet and those of eight groups behind the 32 bits of a table.
 pub fn fill_groups(floor: &[u8], f: Floor, fleet: u32, words: &mut [u32; 41])
     requires accepted_floor { AcceptedFloor floor.now f }
-    requires words_len { length words.old ≡ 41 }
     ensures { Stored (λ o x. x ≡ carts_word fleet floor.now o) 32 0 9 words.old words.new }
 {
-    let mut o = 0;
-    while o < 9 {
+    for o in 0..9 {
         words[32 + o] = word(floor, f, fleet, o);
-        o += 1;
     }
 }

@@ -19,17 +19,14 @@ pub fn borne(floor: &[u8], places: usize) -> usize
     ensures { Borne floor.now places result }
 {
     let mut all = 0u32;
-    let mut q = 0;
-    while q < places {
-        all = all | words::marks_of(floor, q);
-        q += 1;
+    for q in 0..places {
+        all |= words::marks_of(floor, q);
     }
-    32 - (u32::leading_zeros(all) as usize)
+    32 - all.leading_zeros() as usize
 }
 
 // Fills the tables of a plan: the marks', that of all and that of none.
-pub fn fill(floor: &[u8], block: &[u8], carts: usize, h: usize, marks: usize, t: &mut [u32])
-    requires block_len { length block.now ≡ 2048 }
+pub fn fill(floor: &[u8], block: &[u8; 2048], carts: usize, h: usize, marks: usize, t: &mut [u32])
     requires carts_bound { (carts ≤ 32) × (h ≤ 64) × (marks ≤ 32) }
     requires h_in_bounds { pairs_at marks h ≤ length t.old }
     requires placed { Placed floor.now block.now carts h }

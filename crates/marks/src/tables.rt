@@ -1,5 +1,5 @@
 // Tables built by four carts at a time, the last ones first: their bits go below those of the carts behind them.
-ghost use Rattle.std.specs.Prelude.{◌+◌, ◌*◌, ◌≤◌, ◌<◌, min, ◌≡◌, length};
+ghost use Rattle.std.specs.Prelude.{◌+◌, ◌*◌, ◌≤◌, ◌<◌, ◌≡◌, length};
 ghost use Rattle.table.specs.Table.{Stored};
 ghost use Rattle.marks.specs.Bears.{Placed};
 ghost use Rattle.marks.specs.Tables.{Each, Holds, Tables, Empty, Room, MovedUp, Bearers};
@@ -11,16 +11,11 @@ pub(crate) fn put(t: &mut [u32], at: usize, n: usize, x: u32)
     requires { at + n ≤ length t.old }
     ensures { Stored (λ s y. y ≡ x) at 0 n t.old t.new }
 {
-    let mut s = 0;
-    while s < n {
-        t[at + s] = x;
-        s += 1;
-    }
+    t[at..at + n].fill(x);
 }
 
 // Four carts' bits go into the table of mark k.
 fn move_up(words: &[u32; 256], k: usize, h: usize, t: &mut [u32])
-    requires words_len { length words.now ≡ 256 }
     requires k_bound { (k < 32) × (h ≤ 64) }
     requires h_in_bounds { k * h + h ≤ length t.old }
     requires each { Each (Room k) (k * h) h t.old }
@@ -29,46 +24,33 @@ fn move_up(words: &[u32; 256], k: usize, h: usize, t: &mut [u32])
     let at = k * h;
     let from = k % 4 * 64;
     let low = k / 4 * 4;
-    let mut s = 0;
-    while s < h {
+    for s in 0..h {
         let j = at + s;
         t[j] = t[j] * 16 + (words[from + s] >> low) % 16;
-        s += 1;
     }
 }
 
 // Four carts' bits go into the table of each mark.
 fn add_four(words: &[u32; 256], marks: usize, h: usize, t: &mut [u32])
-    requires words_len { length words.now ≡ 256 }
     requires marks_bound { (marks ≤ 32) × (h ≤ 64) }
     requires h_in_bounds { marks * h ≤ length t.old }
     requires holds { Holds Room marks h t.old }
     ensures { Tables (MovedUp t.old h words.now) marks h t.old t.new }
 {
-    let mut k = 0;
-    while k < marks {
+    for k in 0..marks {
         move_up(words, k, h, t);
-        k += 1;
     }
-}
-
-// A number, but 4 if it is more.
-fn up_to_four(n: usize) -> usize
-    ensures { result ≡ min n 4 }
-{
-    if n < 4 { n } else { 4 }
 }
 
 // Every cart's bits go into cleared tables. Carts that are missing in the last four have words of 0.
 pub(crate) fn add_carts(
     floor: &[u8],
-    block: &[u8],
+    block: &[u8; 2048],
     carts: usize,
     h: usize,
     marks: usize,
     t: &mut [u32],
 )
-    requires block_len { length block.now ≡ 2048 }
     requires carts_bound { (carts ≤ 32) × (h ≤ 64) × (marks ≤ 32) }
     requires h_in_bounds { marks * h ≤ length t.old }
     requires placed { Placed floor.now block.now carts h }
@@ -76,10 +58,9 @@ pub(crate) fn add_carts(
     ensures { Tables (Bearers floor.now block.now carts) marks h t.old t.new }
 {
     let mut words = [0u32; 256];
-    let mut i = (carts + 3) / 4 * 4;
-    while 0 < i {
-        i -= 4;
-        words::gather_some(floor, block, i, up_to_four(carts - i), h, &mut words);
+    for four in (0..(carts + 3) / 4).rev() {
+        let i = 4 * four;
+        words::gather_some(floor, block, i, (carts - i).min(4), h, &mut words);
         fours::pack(h, &mut words);
         add_four(&words, marks, h, t);
     }

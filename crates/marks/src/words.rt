@@ -15,47 +15,38 @@ pub(crate) fn marks_of(floor: &[u8], place: usize) -> u32
 }
 
 // The place on step s of cart i.
-fn place_on(block: &[u8], i: usize, s: usize) -> usize
-    requires block_len { length block.now ≡ 2048 }
+fn place_on(block: &[u8; 2048], i: usize, s: usize) -> usize
     requires i_bound { (i < 32) × (s < 64) }
     ensures { result ≡ block_place block.now i s }
 {
-    endian::wide(block[64 * i + s])
+    usize::from(block[64 * i + s])
 }
 
 // The words of cart i's row, from an offset on.
-fn gather(floor: &[u8], block: &[u8], i: usize, h: usize, at: usize, words: &mut [u32; 256])
-    requires block_len { length block.now ≡ 2048 }
+fn gather(floor: &[u8], block: &[u8; 2048], i: usize, h: usize, at: usize, words: &mut [u32; 256])
     requires i_bound { (i < 32) × (h ≤ 64) × (at + 64 ≤ 256) }
     requires on_floor { OnFloor floor.now block.now h i }
-    requires words_len { length words.old ≡ 256 }
     ensures { Stored (WordAt floor.now block.now i) at 0 h words.old words.new }
 {
-    let mut s = 0;
-    while s < h {
+    for s in 0..h {
         words[at + s] = marks_of(floor, place_on(block, i, s));
-        s += 1;
     }
 }
 
 // The words of n carts from cart i on.
 pub(crate) fn gather_some(
     floor: &[u8],
-    block: &[u8],
+    block: &[u8; 2048],
     i: usize,
     n: usize,
     h: usize,
     words: &mut [u32; 256],
 )
-    requires block_len { length block.now ≡ 2048 }
     requires n_bound { (n ≤ 4) × (i + n ≤ 32) × (h ≤ 64) }
     requires placed { Placed floor.now block.now (i + n) h }
-    requires words_len { length words.old ≡ 256 }
     ensures { Gathered (λ c. WordAt floor.now block.now (i + c)) n h words.old words.new }
 {
-    let mut c = 0;
-    while c < n {
+    for c in 0..n {
         gather(floor, block, i + c, h, c * 64, words);
-        c += 1;
     }
 }

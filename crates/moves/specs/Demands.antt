@@ -1,7 +1,8 @@
 -- What the promise of checking moves alone gives a caller: a law for each field.
-use Rattle.std.specs.Prelude.{ℕ, ◌<◌, ◌≡◌, refl, ◌↔◌, List, [], get_or}
+use Rattle.std.specs.Prelude.{ℕ, ◌<◌, ◌≡◌, refl, ◌↔◌, List, [], get_or, Result, Ok, Err}
 use Rattle.std.proofs.Common.{sym, subst, subst₂, ◌∙◌}
 use Rattle.std.proofs.Math.Path.{ap}
+use Rattle.refusal.specs.Results.{told}
 use Rattle.refusal.specs.Codes.{refused, code_of}
 use Rattle.refusal.specs.Given.{OneOf, Given, floor_numbers, moves_numbers, checking_moves}
 use Rattle.refusal.specs.Numbered.{zero_accepts}
@@ -11,11 +12,9 @@ use Rattle.refusal.specs.declared.Verdict.{Verdict}
 use Rattle.refusal.specs.declared.Verdict.TheVariants.{Accepted, Floor as AboutFloor, Plan as AboutPlan, Rules as AboutRules}
 use Rattle.floor.specs.Floor.{read_floor}
 use Rattle.floor.specs.declared.Floor.{Floor}
-use Rattle.floor.specs.declared.FloorAnswer.{FloorAnswer}
-use Rattle.floor.specs.declared.FloorAnswer.TheVariants.{Read as FloorAccepted, Refused as FloorRefused}
 use Rattle.plan.specs.Plan.{PlanNumbers, PlanAnswer, accepted, rejected, read_plan, after_plan, after_floor}
 use Rattle.plan.specs.After.{after_reading, ReadAs}
-use Rattle.row.specs.declared.MoveAnswer.{MoveAnswer}
+use Rattle.row.specs.declared.MoveFault.{MoveFault}
 use Rattle.moves.specs.Carts.{start_of, cart_answer, moves_verdict, checked_moves}
 use Rattle.moves.specs.Unending.{same_cart}
 use Rattle.moves.specs.Promises.{CartUnending, AllUnending, CartDeparts, LowestLeft, FirstRefused, MovesChecked}
@@ -23,14 +22,14 @@ use Rattle.moves.specs.Promises.{CartUnending, AllUnending, CartDeparts, LowestL
 -- floor and plan are read in one way
 pub read_once : (floor plan : List ℕ) (f g : Floor) (n m : PlanNumbers) → ReadAs floor plan f n → ReadAs floor plan g m → (f ≡ g) × (n ≡ m)
 read_once floor plan f g n m a b =
-    let e : FloorAccepted f ≡ FloorAccepted g = sym a.floor_read ∙ b.floor_read in
+    let e : Ok f ≡ Ok g = sym a.floor_read ∙ b.floor_read in
     let same : f ≡ g = cc in
     let q : accepted n ≡ accepted m = sym a.plan_read_lem ∙ ap (λ (x : Floor). read_plan x plan) same ∙ b.plan_read_lem in
     let numbers : n ≡ m = cc in
     (same, numbers)
 
 -- the moves of cart c's row in a plan, judged
-abbrev answer_of : List ℕ → PlanNumbers → ℕ → MoveAnswer
+abbrev answer_of : List ℕ → PlanNumbers → ℕ → Result (Unit {0}) MoveFault
 answer_of floor p c = cart_answer floor c (get_or p.rows c []) p.head.steps p.head.stem
 
 -- 11: the step is the lowest that its cart leaves by a move that is not open
@@ -59,15 +58,15 @@ module _ (floor plan : List ℕ) (v : Verdict) (w : MovesChecked floor plan v) w
   never_rules x e = subst (Given checking_moves) e w.numbers
 
   -- a floor or plan that is refused: with its own refusal
-  pub floor_refused : (x : Refusal) → read_floor floor ≡ FloorRefused x → v ≡ AboutFloor x
+  pub floor_refused : (x : Refusal) → read_floor floor ≡ Err x → v ≡ AboutFloor x
   unfolding checked_moves after_reading
-  floor_refused x e = w.answer ∙ ap (λ (a : FloorAnswer). after_floor (λ v. v) (moves_verdict floor) a plan) e
+  floor_refused x e = w.answer ∙ ap (λ (a : Result Floor Refusal). after_floor told (moves_verdict floor) a plan) e
 
-  pub plan_refused : (f : Floor) (x : Refusal) → read_floor floor ≡ FloorAccepted f → read_plan f plan ≡ rejected x → v ≡ AboutPlan x
+  pub plan_refused : (f : Floor) (x : Refusal) → read_floor floor ≡ Ok f → read_plan f plan ≡ rejected x → v ≡ AboutPlan x
   unfolding checked_moves after_reading
   plan_refused f x e q =
-      w.answer ∙ ap (λ (a : FloorAnswer). after_floor (λ v. v) (moves_verdict floor) a plan) e
-      ∙ ap (λ (a : PlanAnswer). after_plan (λ v. v) (moves_verdict floor) f a) q
+      w.answer ∙ ap (λ (a : Result Floor Refusal). after_floor told (moves_verdict floor) a plan) e
+      ∙ ap (λ (a : PlanAnswer). after_plan told (moves_verdict floor) f a) q
 
   module _ (f : Floor) (p : PlanNumbers) (r : ReadAs floor plan f p) where
     -- accepted exactly if every cart goes on without end

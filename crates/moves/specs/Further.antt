@@ -1,11 +1,16 @@
--- A row judged beyond the plan's.
+-- Rows that fit, and a row judged beyond the plan's.
 use Rattle.std.specs.Prelude.{ℕ, ◌≤◌, ◌<◌, cond, List, eqb, length}
 use Rattle.refusal.specs.Stages.{and_then}
 use Rattle.refusal.specs.declared.Verdict.{Verdict}
 use Rattle.refusal.specs.declared.Verdict.TheVariants.{Accepted}
 use Rattle.floor.specs.declared.Floor.{Floor}
 use Rattle.plan.specs.Plan.{PlanNumbers}
+use Rattle.plan.specs.declared.Head.{Head}
 use Rattle.moves.specs.Carts.{cart_verdict, moves_verdict}
+
+-- the lap lies in the rows, and they in their places of the block
+abbrev pub RowsFit : Head → Type 0
+RowsFit h = (h.stem < h.steps) × (h.steps ≤ 64)
 
 -- if the row has steps, cart c is one of so many, and the lap from l on lies in it
 abbrev pub FurtherFits : ℕ → ℕ → List ℕ → ℕ → Type 0

@@ -1,5 +1,5 @@
 -- What checking moves promises.
-use Rattle.std.specs.Prelude.{ℕ, ◌<◌, ◌≡◌, false, List, [], get_or}
+use Rattle.std.specs.Prelude.{ℕ, ◌<◌, ◌≡◌, false, List, [], get_or, Err}
 use Rattle.refusal.specs.Given.{Given, checking_moves}
 use Rattle.refusal.specs.Stages.{is_accepted}
 use Rattle.refusal.specs.declared.Verdict.{Verdict}
@@ -9,7 +9,7 @@ use Rattle.plan.specs.Plan.{PlanNumbers}
 use Rattle.plan.specs.After.{ReadAs}
 use Rattle.row.specs.Moves.{lanes_in}
 use Rattle.row.specs.Meaning.{Unending, Departs, Lowest}
-use Rattle.row.specs.declared.MoveAnswer.TheVariants.{Elsewhere, Shut}
+use Rattle.row.specs.declared.MoveFault.TheVariants.{Elsewhere, Shut}
 use Rattle.moves.specs.Carts.{class_of, start_of, verdict_of, row_verdict, checked_moves}
 
 -- cart c begins at its start, and its move at every counter is open to its class
@@ -41,9 +41,9 @@ pub record FirstRefused (floor : List ℕ) (f : Floor) (p : PlanNumbers) (v : Ve
   pub refused : row_verdict floor p cart ≡ v
   pub before : (c : ℕ) → c < cart → CartUnending floor p c
   -- 10: "first place is not the start"
-  pub away : v ≡ verdict_of cart Elsewhere → get_or (get_or p.rows cart []) 0 0 ≡ start_of floor cart → ⊥
+  pub away : v ≡ verdict_of cart (Err Elsewhere) → get_or (get_or p.rows cart []) 0 0 ≡ start_of floor cart → ⊥
   -- 11 names the "lowest step left", and it is left for another place
-  pub lowest : (k : ℕ) → v ≡ verdict_of cart (Shut k) → LowestLeft floor p cart k
+  pub lowest : (k : ℕ) → v ≡ verdict_of cart (Err (Shut k)) → LowestLeft floor p cart k
 
 pub record MovesChecked (floor plan : List ℕ) (v : Verdict) : Type 0 where
   -- the answer, for every floor and plan

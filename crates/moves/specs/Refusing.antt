@@ -1,6 +1,7 @@
 -- A refusal of the moves has one of the numbers that document 01 lists.
-use Rattle.std.specs.Prelude.{ℕ, ◌≡◌, refl, true, List, [], ◌∷◌, get_or}
+use Rattle.std.specs.Prelude.{ℕ, ◌≡◌, refl, true, List, [], ◌∷◌, get_or, Result, Ok, Err}
 use Rattle.std.proofs.Common.{inl, inr}
+use Rattle.refusal.specs.Results.{told}
 use Rattle.refusal.specs.Given.{accepts, Refusals, Given, checking_moves}
 use Rattle.refusal.specs.Numbered.{all_among, one_of_more}
 use Rattle.refusal.specs.declared.Verdict.{Verdict}
@@ -8,16 +9,16 @@ use Rattle.refusal.specs.declared.Verdict.TheVariants.{Accepted}
 use Rattle.plan.specs.Plan.{PlanNumbers}
 use Rattle.plan.specs.Refusing.{given_after}
 use Rattle.row.specs.Firsts.{each_answer}
-use Rattle.row.specs.declared.MoveAnswer.{MoveAnswer}
-use Rattle.row.specs.declared.MoveAnswer.TheVariants.{Open, Elsewhere, Shut}
+use Rattle.row.specs.declared.MoveFault.{MoveFault}
+use Rattle.row.specs.declared.MoveFault.TheVariants.{Elsewhere, Shut}
 use Rattle.moves.specs.Carts.{verdict_of, cart_answer, cart_verdict, row_verdict, row_accepted, judged_carts, moves_verdict, checked_moves}
 
 -- of any operation that refuses with 10 and 11 and says no more than accepted
 module _ (t : Refusals) (done : t.done ≡ accepts) (numbers : all_among t.plan (10 ∷ 11 ∷ []) ≡ true) where
-  answer_given : (c : ℕ) (a : MoveAnswer) → Given t (verdict_of c a)
-  answer_given c Open = done
-  answer_given c Elsewhere = one_of_more (10 ∷ 11 ∷ []) t.plan 10 numbers (inl refl)
-  answer_given c (Shut s) = one_of_more (10 ∷ 11 ∷ []) t.plan 11 numbers (inr (inl refl))
+  answer_given : (c : ℕ) (a : Result (Unit {0}) MoveFault) → Given t (verdict_of c a)
+  answer_given c (Ok u) = done
+  answer_given c (Err Elsewhere) = one_of_more (10 ∷ 11 ∷ []) t.plan 10 numbers (inl refl)
+  answer_given c (Err (Shut s)) = one_of_more (10 ∷ 11 ∷ []) t.plan 11 numbers (inr (inl refl))
 
   pub row_given : (floor : List ℕ) (c : ℕ) (row : List ℕ) (h l : ℕ) → Given t (cart_verdict floor c row h l)
   row_given floor c row h l = answer_given c (cart_answer floor c row h l)
@@ -31,5 +32,5 @@ module _ (t : Refusals) (done : t.done ≡ accepts) (numbers : all_among t.plan 
 pub moves_given : (floor plan : List ℕ) → Given checking_moves (checked_moves floor plan)
 unfolding checked_moves
 moves_given floor plan =
-    given_after checking_moves refl refl (λ (v : Verdict). v) (λ v. v) (λ v. refl) (moves_verdict floor) floor plan
+    given_after checking_moves refl refl (λ (v : Verdict). v) told (λ e. refl) (moves_verdict floor) floor plan
     (λ f p w. carts_given checking_moves refl refl floor p f.carts 0)

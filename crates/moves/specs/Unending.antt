@@ -1,8 +1,9 @@
 -- Moves are accepted exactly if every cart begins at its start and makes open moves only, without end.
-use Rattle.std.specs.Prelude.{ℕ, ◌+◌, ◌<◌, refl, List}
+use Rattle.std.specs.Prelude.{ℕ, ◌+◌, ◌<◌, refl, List, Result, Ok, Err}
 use Rattle.std.proofs.Common.{arith, subst, ◌∙◌}
 use Rattle.std.proofs.Math.Path.{◌≡◌, sym, ap}
 use Rattle.std.proofs.Math.Bool.{true, false}
+use Rattle.refusal.specs.Results.{told}
 use Rattle.refusal.specs.Stages.{is_accepted}
 use Rattle.refusal.specs.Accepting.{accepted_is}
 use Rattle.refusal.specs.Codes.{refused, code_of}
@@ -16,32 +17,32 @@ use Rattle.plan.specs.RoundTrip.{valid}
 use Rattle.plan.specs.Read.{ReadingCases, floor_refused, plan_refused, both_read, reading_cases, read_on_lem}
 use Rattle.row.specs.Firsts.{FirstAnswer, all_pass, none_fails, first_fault_lem}
 use Rattle.row.specs.Unending.{unending, accepts_all, refused_start, refused_step}
-use Rattle.row.specs.declared.MoveAnswer.{MoveAnswer}
-use Rattle.row.specs.declared.MoveAnswer.TheVariants.{Open, Elsewhere, Shut}
+use Rattle.row.specs.declared.MoveFault.{MoveFault}
+use Rattle.row.specs.declared.MoveFault.TheVariants.{Elsewhere, Shut}
 use Rattle.moves.specs.Carts.{start_of, verdict_of, row_verdict, row_accepted, judged_carts, moves_verdict, checked_moves}
 use Rattle.moves.specs.Refusing.{moves_given}
 use Rattle.moves.specs.Promises.{CartUnending, AllUnending, Moving, FirstRefused, MovesChecked}
 
-only_open : (c : ℕ) (a : MoveAnswer) → verdict_of c a ≡ Accepted → a ≡ Open
-only_open c Open e = refl
-only_open c Elsewhere e = let z : ◌≡◌ {A = ℕ} 0 1 = cc in absurd (omega arith)
-only_open c (Shut s) e = let z : ◌≡◌ {A = ℕ} 0 1 = cc in absurd (omega arith)
+only_open : (c : ℕ) (a : Result (Unit {0}) MoveFault) → verdict_of c a ≡ Accepted → a ≡ Ok tt
+only_open c (Ok u) e = refl
+only_open c (Err Elsewhere) e = let z : ◌≡◌ {A = ℕ} 0 1 = cc in absurd (omega arith)
+only_open c (Err (Shut s)) e = let z : ◌≡◌ {A = ℕ} 0 1 = cc in absurd (omega arith)
 
-pub only_shut : (c k : ℕ) (a : MoveAnswer) → verdict_of c a ≡ verdict_of c (Shut k) → a ≡ Shut k
-only_shut c k Open e = let z = ap (λ (v : Verdict). (code_of v).number) e in absurd (omega arith)
-only_shut c k Elsewhere e = let z = ap (λ (v : Verdict). (code_of v).number) e in absurd (omega arith)
-only_shut c k (Shut s) e = ap Shut (ap (λ (v : Verdict). (code_of v).second) e)
+pub only_shut : (c k : ℕ) (a : Result (Unit {0}) MoveFault) → verdict_of c a ≡ verdict_of c (Err (Shut k)) → a ≡ Err (Shut k)
+only_shut c k (Ok u) e = let z = ap (λ (v : Verdict). (code_of v).number) e in absurd (omega arith)
+only_shut c k (Err Elsewhere) e = let z = ap (λ (v : Verdict). (code_of v).number) e in absurd (omega arith)
+only_shut c k (Err (Shut s)) e = ap (λ (n : ℕ). Err (Shut n)) (ap (λ (v : Verdict). (code_of v).second) e)
 
-only_elsewhere : (c : ℕ) (a : MoveAnswer) → verdict_of c a ≡ verdict_of c Elsewhere → a ≡ Elsewhere
-only_elsewhere c Open e = let z = ap (λ (v : Verdict). (code_of v).number) e in absurd (omega arith)
-only_elsewhere c Elsewhere e = refl
-only_elsewhere c (Shut s) e = let z = ap (λ (v : Verdict). (code_of v).number) e in absurd (omega arith)
+only_elsewhere : (c : ℕ) (a : Result (Unit {0}) MoveFault) → verdict_of c a ≡ verdict_of c (Err Elsewhere) → a ≡ Err Elsewhere
+only_elsewhere c (Ok u) e = let z = ap (λ (v : Verdict). (code_of v).number) e in absurd (omega arith)
+only_elsewhere c (Err Elsewhere) e = refl
+only_elsewhere c (Err (Shut s)) e = let z = ap (λ (v : Verdict). (code_of v).number) e in absurd (omega arith)
 
 -- a refusal names its own cart
-pub same_cart : (c d n k : ℕ) (a : MoveAnswer) → verdict_of c a ≡ AboutPlan (refused n d k) → c ≡ d
-same_cart c d n k Open e = let z : ◌≡◌ {A = ℕ} 0 1 = cc in absurd (omega arith)
-same_cart c d n k Elsewhere e = ap (λ (v : Verdict). (code_of v).first) e
-same_cart c d n k (Shut s) e = ap (λ (v : Verdict). (code_of v).first) e
+pub same_cart : (c d n k : ℕ) (a : Result (Unit {0}) MoveFault) → verdict_of c a ≡ AboutPlan (refused n d k) → c ≡ d
+same_cart c d n k (Ok u) e = let z : ◌≡◌ {A = ℕ} 0 1 = cc in absurd (omega arith)
+same_cart c d n k (Err Elsewhere) e = ap (λ (v : Verdict). (code_of v).first) e
+same_cart c d n k (Err (Shut s)) e = ap (λ (v : Verdict). (code_of v).first) e
 
 module _ (floor : List ℕ) (p : PlanNumbers) where
   -- cart c's row is not refused
@@ -104,13 +105,13 @@ stem_low f plan n e = (valid f plan n e).head.stem
 -- with floor and plan read, the moves decide
 pub moves_read : (floor plan : List ℕ) (f : Floor) (p : PlanNumbers) → ReadAs floor plan f p → checked_moves floor plan ≡ moves_verdict floor f p
 unfolding checked_moves
-moves_read floor plan f p w = read_on_lem (λ v. v) (moves_verdict floor) floor plan f p w
+moves_read floor plan f p w = read_on_lem told (moves_verdict floor) floor plan f p w
 
 pub sound : (floor plan : List ℕ) → checked_moves floor plan ≡ Accepted → Moving floor plan
 unfolding checked_moves
-sound floor plan e = go (reading_cases (λ v. v) (moves_verdict floor) floor plan)
+sound floor plan e = go (reading_cases told (moves_verdict floor) floor plan)
   where
-    go : ReadingCases (λ (v : Verdict). v) (moves_verdict floor) floor plan → Moving floor plan
+    go : ReadingCases told (moves_verdict floor) floor plan → Moving floor plan
     go (floor_refused x q) = let z : ◌≡◌ {A = ℕ} 0 1 = cc in absurd (omega arith)
     go (plan_refused x q) = let z : ◌≡◌ {A = ℕ} 0 1 = cc in absurd (omega arith)
     go (both_read f n w r) = record {

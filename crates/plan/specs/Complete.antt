@@ -1,5 +1,5 @@
 -- PlanNumbers of the table are accepted: what reading accepts is exactly what is valid.
-use Rattle.std.specs.Prelude.{ℕ, suc, ◌+◌, ◌*◌, ◌≤◌, ◌<◌, ◌≡◌, refl, Bool, false, cond, length, get_or}
+use Rattle.std.specs.Prelude.{ℕ, suc, ◌+◌, ◌*◌, ◌≤◌, ◌<◌, ◌≡◌, refl, Bool, false, cond, length, get_or, Result, Ok, Err}
 use Rattle.std.proofs.Common.{mul-le-mul, arith, sym, ap, subst, ◌∙◌, length-append, le-ltb, eq-eqb, ne_eqb}
 use mathlib.Core.List.{List, [], ◌∷◌, ◌++◌, map, flatten, append_assoc, append-nil}
 use Rattle.std.proofs.lemmas.Bool.{lt-leb}
@@ -15,14 +15,14 @@ use Rattle.plan.specs.RoundTrip.{length_plan}
 use Rattle.plan.specs.Passed.{row_sizes}
 use Rattle.plan.specs.Judged.{good_head}
 use Rattle.plan.specs.declared.Head.{Head}
-use Rattle.plan.specs.declared.RowAnswer.{RowAnswer}
-use Rattle.plan.specs.declared.RowAnswer.TheVariants.{Fits, WrongLength, Absent}
+use Rattle.plan.specs.declared.RowFault.TheVariants.{Absent, WrongLength}
+use Rattle.plan.specs.declared.RowFault.{RowFault}
 
-fits_all : (places i : ℕ) (row : List ℕ) → ((s : ℕ) → s < length row → get_or row s 0 < places) → judged_places places i row ≡ Fits
+fits_all : (places i : ℕ) (row : List ℕ) → ((s : ℕ) → s < length row → get_or row s 0 < places) → judged_places places i row ≡ Ok tt
 unfolding judged_places
 fits_all places i [] h = refl
 fits_all places i (p ∷ row) h =
-    ap (λ (b : Bool). cond b (Absent i) (judged_places places (suc i) row)) (lt-leb places p (h 0 (omega arith)))
+    ap (λ (b : Bool). cond b (Err (Absent i)) (judged_places places (suc i) row)) (lt-leb places p (h 0 (omega arith)))
     ∙ fits_all places (suc i) row (λ s l. h (suc s) (omega arith))
 
 in_range : (h : Head) → HeadInRange h → out_of_range h ≡ false
@@ -31,15 +31,15 @@ in_range h r =
     simp (ne_eqb _ _ z, le-ltb 64 h.steps r.steps, lt-leb h.steps h.stem r.stem, le-ltb 16 h.drift r.drift)
 
 -- a row of the head's steps on the floor, while a cart is left
-one_row : (f : Floor) (h : Head) (n : ℕ) (row : List ℕ) → length row ≡ h.steps → judged_places f.places 0 row ≡ Fits → n < f.carts
+one_row : (f : Floor) (h : Head) (n : ℕ) (row : List ℕ) → length row ≡ h.steps → judged_places f.places 0 row ≡ Ok tt → n < f.carts
     → row_fault f h n 5 row ≡ 0
 unfolding judged_row
 one_row f h n row s p l =
-    ap (λ (x : RowAnswer). row_fault_by x f n 5) (ap (λ (b : Bool). cond b (judged_places f.places 0 row) WrongLength) (eq-eqb _ _ s) ∙ p)
+    ap (λ (x : Result (Unit {0}) RowFault). row_fault_by x f n 5) (ap (λ (b : Bool). cond b (judged_places f.places 0 row) (Err WrongLength)) (eq-eqb _ _ s) ∙ p)
     ∙ simp (lt-leb f.carts n l)
 
 rows_fit : (f : Floor) (h : Head) (xs done : List (List ℕ)) (at : ℕ) → AllOf h.steps xs
-    → All (λ (row : List ℕ). judged_places f.places 0 row ≡ Fits) xs
+    → All (λ (row : List ℕ). judged_places f.places 0 row ≡ Ok tt) xs
     → length done + length xs ≡ f.carts → read_rows f h done at (map (of_kind 5) xs) false ≡ accepted (record { head = h; rows = done ++ xs })
 unfolding read_rows
 rows_fit f h [] done at s p l =
@@ -63,8 +63,8 @@ complete f h rows m v =
     let xs = parts h.steps rows in
     let r = v.head in
     let sizes = row_sizes (record { head = h; rows = xs }) f v in
-    let places : All (λ (row : List ℕ). judged_places f.places 0 row ≡ Fits) xs =
-    all_of (λ (row : List ℕ). judged_places f.places 0 row ≡ Fits) [] xs
+    let places : All (λ (row : List ℕ). judged_places f.places 0 row ≡ Ok tt) xs =
+    all_of (λ (row : List ℕ). judged_places f.places 0 row ≡ Ok tt) [] xs
     (λ i l. fits_all f.places 0 (get_or xs i []) (λ s k. v.places i s (omega (arith, v.carts)) (omega (arith, v.steps i (omega (arith, v.carts)))))) in
     let short : length (plan_bytes h rows) ≤ 65536 =
     omega (arith, length_plan h rows, length_bodies 5 h.steps xs sizes, few_rows h.steps (length xs) r.steps (omega (arith, v.carts))) in
@@ -90,7 +90,7 @@ pub file_short : (n : PlanNumbers) → HeadInRange n.head → AllOf n.head.steps
 file_short n r sizes few = omega (arith, file_length_lem n r.some sizes, few_rows n.head.steps (length n.rows) r.steps few)
 
 -- a row of the table's is not refused
-pub row_accepted_lem : (steps places : ℕ) (row : List ℕ) → RowFits steps places row → judged_row row steps places ≡ Fits
+pub row_accepted_lem : (steps places : ℕ) (row : List ℕ) → RowFits steps places row → judged_row row steps places ≡ Ok tt
 unfolding judged_row
 row_accepted_lem steps places row w =
-    ap (λ (b : Bool). cond b (judged_places places 0 row) WrongLength) (eq-eqb _ _ w.size) ∙ fits_all places 0 row w.there
+    ap (λ (b : Bool). cond b (judged_places places 0 row) (Err WrongLength)) (eq-eqb _ _ w.size) ∙ fits_all places 0 row w.there

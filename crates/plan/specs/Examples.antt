@@ -4,6 +4,7 @@ use mathlib.Core.List.{List, [], ◌∷◌, ◌++◌, flatten}
 use Rattle.endian.specs.Little.{bytes, value}
 use Rattle.refusal.specs.Codes.{refused}
 use Rattle.refusal.specs.Outcome.{Outcome, unchanged}
+use Rattle.refusal.specs.Results.{checked}
 use Rattle.refusal.specs.declared.Verdict.{Verdict}
 use Rattle.refusal.specs.declared.Verdict.TheVariants.{Accepted, Written, Floor as AboutFloor, Plan as AboutPlan}
 use Rattle.record.specs.Record.{encoded, layout, split, records_in}
@@ -27,7 +28,7 @@ abbrev two : List ℕ
 two = head 1 0 0 ++ (row 0 ++ row 1)
 
 abbrev verdict : List ℕ → Verdict
-verdict s = (read_both floor s).verdict
+verdict s = checked (read_both floor s)
 
 -- a buffer of so many bytes
 abbrev blank : ℕ → List ℕ
@@ -45,7 +46,7 @@ computing s h n = (verdict s, writing h s n)
 
 -- the floor's refusal first; the head; the order at one offset of a row, the offset of each, and the end
 pub plans :
-    ((read_both [] []).verdict ≡ AboutFloor (refused 7 0 0))
+    (checked (read_both [] []) ≡ AboutFloor (refused 7 0 0))
     × (verdict [] ≡ AboutPlan (refused 7 0 0))
     × (verdict (1 ∷ []) ≡ AboutPlan (refused 2 0 0))
     × (verdict (row 0) ≡ AboutPlan (refused 3 0 0))

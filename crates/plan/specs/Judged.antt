@@ -1,5 +1,5 @@
 -- A plan's numbers judged as reading their records would.
-use Rattle.std.specs.Prelude.{ℕ, zero, suc, ◌+◌, ◌-◌, ◌*◌, ◌≤◌, ◌<◌, ◌≡◌, refl, Bool, true, false, not, eqb, length, take, drop}
+use Rattle.std.specs.Prelude.{ℕ, zero, suc, ◌+◌, ◌-◌, ◌*◌, ◌≤◌, ◌<◌, ◌≡◌, refl, Bool, true, false, not, eqb, length, take, drop, Result, Ok, Err}
 use Rattle.std.proofs.Common.{arith, subst, ◌∙◌, drop_of_length-le, le-ltb, eq-eqb, eqb-true}
 use Rattle.std.proofs.Math.Path.{ap, ap₂}
 use Rattle.std.proofs.Math.Bool.{cond}
@@ -18,8 +18,6 @@ use Rattle.plan.specs.Plan.{PlanNumbers, PlanAnswer, accepted, rejected, out_of_
 use Rattle.plan.specs.Numbers.{Narrow, judged_numbers, head_bytes, row_records, plan_records, plan_bytes}
 use Rattle.plan.specs.RoundTrip.{whole, numbers_back, head_read, length_head, length_plan, plan_encodable}
 use Rattle.plan.specs.declared.Head.{Head}
-use Rattle.plan.specs.declared.HeadAnswer.{HeadAnswer}
-use Rattle.plan.specs.declared.NumbersAnswer.TheVariants.{Good as NumbersGood, Refused as NumbersRefused}
 
 -- the length of a plan laid out: with no rows, with h = 0, and else
 module _ (h : Head) (rows : List ℕ) where
@@ -69,10 +67,10 @@ module _ (f : Floor) (h : Head) (rows : List ℕ) (w : Narrow h) (short : length
       ∙ ap (λ (t : Bool). head_by (cond t 8 0) h) e
 
   pub wide_head : out_of_range h ≡ true → read_plan f (plan_bytes h rows) ≡ rejected (at_offset 8 0)
-  wide_head e = laid_out ∙ ap (λ (a : HeadAnswer). behind_head f a (row_records h rows) false) (head_by_lem true e)
+  wide_head e = laid_out ∙ ap (λ (a : Result Head Refusal). behind_head f a (row_records h rows) false) (head_by_lem true e)
 
   pub good_head : out_of_range h ≡ false → read_plan f (plan_bytes h rows) ≡ read_rows f h [] 10 (row_records h rows) false
-  good_head e = laid_out ∙ ap (λ (a : HeadAnswer). behind_head f a (row_records h rows) false) (head_by_lem false e)
+  good_head e = laid_out ∙ ap (λ (a : Result Head Refusal). behind_head f a (row_records h rows) false) (head_by_lem false e)
 
 -- rows laid out from byte i on, behind those done
 module _ (f : Floor) (h : Head) (rows : List ℕ) where
@@ -108,16 +106,16 @@ pub record Writable (f : Floor) (h : Head) (rows : List ℕ) : Type 0 where
   pub short : length (plan_bytes h rows) ≤ 65536
   pub some : 0 < h.steps
 
-pub good : (f : Floor) (h : Head) (rows : List ℕ) → Narrow h → judged_numbers (read_plan f (plan_bytes h rows)) ≡ NumbersGood → Writable f h rows
+pub good : (f : Floor) (h : Head) (rows : List ℕ) → Narrow h → judged_numbers (read_plan f (plan_bytes h rows)) ≡ Ok tt → Writable f h rows
 good f h rows w e = go (read_plan f (plan_bytes h rows)) refl e
   where
-    go : (a : PlanAnswer) → read_plan f (plan_bytes h rows) ≡ a → judged_numbers a ≡ NumbersGood → Writable f h rows
+    go : (a : PlanAnswer) → read_plan f (plan_bytes h rows) ≡ a → judged_numbers a ≡ Ok tt → Writable f h rows
     go (rejected r) q e = let z : ◌≡◌ {A = ℕ} 0 1 = cc in absurd (omega arith)
     go (accepted n) q e =
         let g = whole f (plan_bytes h rows) n q in
         let b = numbers_back f h rows n w q in
         record { numbers = n; reads = q; short = g.short; some = subst (λ (x : Head). 0 < x.steps) b.0 g.range.some }
 
-pub refusal_of : (a : PlanAnswer) (r : Refusal) → judged_numbers a ≡ NumbersRefused r → a ≡ rejected r
+pub refusal_of : (a : PlanAnswer) (r : Refusal) → judged_numbers a ≡ Err r → a ≡ rejected r
 refusal_of (accepted n) r e = let z : ◌≡◌ {A = ℕ} 0 1 = cc in absurd (omega arith)
 refusal_of (rejected x) r e = let q : x ≡ r = cc in ap rejected q

@@ -1,5 +1,5 @@
 -- Writing a plan's numbers.
-use Rattle.std.specs.Prelude.{ℕ, ◌+◌, ◌*◌, ◌<◌}
+use Rattle.std.specs.Prelude.{ℕ, ◌+◌, ◌*◌, ◌<◌, Result, Ok, Err}
 use mathlib.Core.List.{List, ◌∷◌, ◌++◌, map, flatten}
 use Rattle.endian.specs.Little.{bytes}
 use Rattle.refusal.specs.Outcome.{Outcome, unchanged, written}
@@ -7,13 +7,10 @@ use Rattle.refusal.specs.declared.Verdict.TheVariants.{Floor as AboutFloor, Plan
 use Rattle.record.specs.Record.{Record, layout}
 use Rattle.record.specs.Parts.{parts, of_kind}
 use Rattle.floor.specs.Floor.{read_floor}
-use Rattle.floor.specs.declared.FloorAnswer.{FloorAnswer}
-use Rattle.floor.specs.declared.FloorAnswer.TheVariants.{Read as FloorAccepted, Refused as FloorRefused}
 use Rattle.plan.specs.Plan.{PlanNumbers, PlanAnswer, accepted, rejected, read_plan}
 use Rattle.floor.specs.declared.Floor.{Floor}
 use Rattle.plan.specs.declared.Head.{Head}
-use Rattle.plan.specs.declared.NumbersAnswer.{NumbersAnswer}
-use Rattle.plan.specs.declared.NumbersAnswer.TheVariants.{Good, Refused}
+use Rattle.refusal.specs.declared.Refusal.{Refusal}
 
 -- a head by its three numbers
 abbrev pub head_of : ℕ → ℕ → ℕ → Head
@@ -48,9 +45,9 @@ abbrev pub row_at : ℕ → ℕ → ℕ
 row_at steps c = 10 + c * (4 + steps) + 4
 
 -- whether reading accepts, or its refusal
-abbrev pub judged_numbers : PlanAnswer → NumbersAnswer
-judged_numbers (accepted n) = Good
-judged_numbers (rejected r) = Refused r
+abbrev pub judged_numbers : PlanAnswer → Result (Unit {0}) Refusal
+judged_numbers (accepted n) = Ok tt
+judged_numbers (rejected r) = Err r
 
 -- "numbers that no file could give are refused as reading their file would be (fields are no wider than the file's), then 18 as below"
 abbrev pub by_reading : PlanAnswer → List ℕ → List ℕ → Outcome
@@ -60,9 +57,9 @@ by_reading (rejected r) file out = unchanged (AboutPlan r) out
 abbrev pub write_for : Floor → Head → List ℕ → List ℕ → Outcome
 write_for f h rows out = by_reading (read_plan f (plan_bytes h rows)) (plan_bytes h rows) out
 
-abbrev pub by_floor : FloorAnswer → Head → List ℕ → List ℕ → Outcome
-by_floor (FloorAccepted f) h rows out = write_for f h rows out
-by_floor (FloorRefused r) h rows out = unchanged (AboutFloor r) out
+abbrev pub by_floor : Result Floor Refusal → Head → List ℕ → List ℕ → Outcome
+by_floor (Ok f) h rows out = write_for f h rows out
+by_floor (Err r) h rows out = unchanged (AboutFloor r) out
 
 unfoldable pub write_plan : List ℕ → Head → List ℕ → List ℕ → Outcome
 write_plan floor h rows out = by_floor (read_floor floor) h rows out

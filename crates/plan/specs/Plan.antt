@@ -1,23 +1,19 @@
 -- Reading a plan: "the floor's, then 1, and in each record 2, 3, 4, 5, 8, 9; 7 at the end".
-use Rattle.std.specs.Prelude.{ℕ, zero, suc, ◌+◌, ◌*◌, ◌-◌, Bool, true, false, cond, not, ◌||◌, eqb, leb, ltb, length, take, drop, get_or, replicate}
+use Rattle.std.specs.Prelude.{ℕ, zero, suc, ◌+◌, ◌*◌, ◌-◌, Bool, true, false, cond, not, ◌||◌, eqb, leb, ltb, length, take, drop, get_or, replicate, Result, Ok, Err}
 use mathlib.Core.List.{List, [], ◌∷◌, ◌++◌, map, flatten}
 use Rattle.endian.specs.Little.{value}
 use Rattle.refusal.specs.Codes.{at_offset, first_fault, unless_fault}
 use Rattle.refusal.specs.declared.Refusal.{Refusal}
-use Rattle.refusal.specs.declared.Verdict.{Verdict}
-use Rattle.refusal.specs.declared.Verdict.TheVariants.{Accepted, Floor as AboutFloor, Plan as AboutPlan}
+use Rattle.refusal.specs.declared.Refused.{Refused}
+use Rattle.refusal.specs.declared.Refused.TheVariants.{Floor as RefusedFloor, Plan as RefusedPlan}
 use Rattle.record.specs.Record.{Record, Split, records_in}
-use Rattle.floor.specs.Floor.{empty_floor, read_floor}
+use Rattle.floor.specs.Floor.{read_floor}
 use Rattle.floor.specs.declared.Floor.{Floor}
-use Rattle.floor.specs.declared.FloorAnswer.{FloorAnswer}
-use Rattle.floor.specs.declared.FloorAnswer.TheVariants.{Read as FloorAccepted, Refused as FloorRefused}
 use Rattle.plan.specs.declared.Head.{Head}
-use Rattle.plan.specs.declared.HeadAnswer.{HeadAnswer}
-use Rattle.plan.specs.declared.HeadAnswer.TheVariants.{Good, Refused}
-use Rattle.plan.specs.declared.RowAnswer.{RowAnswer}
-use Rattle.plan.specs.declared.RowAnswer.TheVariants.{Fits, WrongLength, Absent}
 use Rattle.plan.specs.declared.Plan.{Plan}
 use Rattle.plan.specs.declared.PlanRead.{PlanRead}
+use Rattle.plan.specs.declared.RowFault.TheVariants.{Absent, WrongLength}
+use Rattle.plan.specs.declared.RowFault.{RowFault}
 
 -- the numbers that a plan holds: its head, and for each cart in file order a row of places
 pub record PlanNumbers : Type 0 where
@@ -40,38 +36,38 @@ out_of_range h = eqb h.steps 0 || (ltb 64 h.steps || (leb h.steps h.stem || ltb 
 abbrev pub head_fault : ℕ → List ℕ → ℕ
 head_fault kind body = first_fault ((not (eqb kind 4), 3) ∷ (not (eqb (length body) 6), 4) ∷ (out_of_range (head_from body), 8) ∷ [])
 
-abbrev pub head_by : ℕ → Head → HeadAnswer
-head_by n h = unless_fault n (Good h) (λ m. Refused (at_offset m 0))
+abbrev pub head_by : ℕ → Head → Result Head Refusal
+head_by n h = unless_fault n (Ok h) (λ m. Err (at_offset m 0))
 
-unfoldable pub judged_head : ℕ → List ℕ → HeadAnswer
+unfoldable pub judged_head : ℕ → List ℕ → Result Head Refusal
 judged_head kind body = head_by (head_fault kind body) (head_from body)
 
 -- the first record of a file: 2 "cut short", 7 "at the end for no head", or judged
-abbrev pub first_head : List Record → Bool → HeadAnswer
-first_head [] true = Refused (at_offset 2 0)
-first_head [] false = Refused (at_offset 7 0)
+abbrev pub first_head : List Record → Bool → Result Head Refusal
+first_head [] true = Err (at_offset 2 0)
+first_head [] false = Err (at_offset 7 0)
 first_head (r ∷ rs) cut = judged_head r.kind r.body
 
-abbrev pub head_in : Split → HeadAnswer
+abbrev pub head_in : Split → Result Head Refusal
 head_in s = first_head s.records s.cut
 
 -- places from step i on: the lowest step whose place is not on the floor, places being numbered from 0
-unfoldable pub judged_places : ℕ → ℕ → List ℕ → RowAnswer
-judged_places places i [] = Fits
-judged_places places i (p ∷ row) = cond (leb places p) (Absent i) (judged_places places (suc i) row)
+unfoldable pub judged_places : ℕ → ℕ → List ℕ → Result (Unit {0}) RowFault
+judged_places places i [] = Ok tt
+judged_places places i (p ∷ row) = cond (leb places p) (Err (Absent i)) (judged_places places (suc i) row)
 
 -- "A row is judged on the record's body alone": "h bytes, one place a step"
-unfoldable pub judged_row : List ℕ → ℕ → ℕ → RowAnswer
-judged_row body steps places = cond (eqb (length body) steps) (judged_places places 0 body) WrongLength
+unfoldable pub judged_row : List ℕ → ℕ → ℕ → Result (Unit {0}) RowFault
+judged_row body steps places = cond (eqb (length body) steps) (judged_places places 0 body) (Err WrongLength)
 
 -- document 01's number of each answer: 4 "wrong body length", 9 "place not on the floor", 0 for none
-abbrev pub row_number : RowAnswer → ℕ
-row_number Fits = 0
-row_number WrongLength = 4
-row_number (Absent i) = 9
+abbrev pub row_number : Result (Unit {0}) RowFault → ℕ
+row_number (Ok tt) = 0
+row_number (Err WrongLength) = 4
+row_number (Err (Absent i)) = 9
 
 -- behind the head every record is a row, and a second head is 3; 5 "more rows than carts": a record's refusal behind n rows, 0 for none
-abbrev pub row_fault_by : RowAnswer → Floor → ℕ → ℕ → ℕ
+abbrev pub row_fault_by : Result (Unit {0}) RowFault → Floor → ℕ → ℕ → ℕ
 row_fault_by a f n kind = first_fault ((not (eqb kind 5), 3) ∷ (eqb (row_number a) 4, 4) ∷ (leb f.carts n, 5) ∷ (eqb (row_number a) 9, 9) ∷ [])
 
 abbrev pub row_fault : Floor → Head → ℕ → ℕ → List ℕ → ℕ
@@ -102,9 +98,9 @@ abbrev pub rows_from : Floor → Head → List (List ℕ) → ℕ → List ℕ �
 rows_from f h rows at s = read_rows f h rows at (records_in (drop at s)).records (records_in (drop at s)).cut
 
 -- behind a head, whose record is ten bytes, come the rows
-abbrev pub behind_head : Floor → HeadAnswer → List Record → Bool → PlanAnswer
-behind_head f (Good h) rs cut = read_rows f h [] 10 rs cut
-behind_head f (Refused r) rs cut = rejected r
+abbrev pub behind_head : Floor → Result Head Refusal → List Record → Bool → PlanAnswer
+behind_head f (Ok h) rs cut = read_rows f h [] 10 rs cut
+behind_head f (Err r) rs cut = rejected r
 
 abbrev pub after_first : List Record → List Record
 after_first [] = []
@@ -139,32 +135,26 @@ block_rows (suc n) steps block = take steps block ∷ block_rows n steps (drop 6
 abbrev pub held_numbers : ℕ → Head → List ℕ → PlanNumbers
 held_numbers carts h block = record { head = h; rows = block_rows carts h.steps block }
 
--- what reading gives: the verdict, and the floor and plan, or zeros where it refuses
-abbrev pub no_plan : Plan
-no_plan = record { head = record { steps = 0; stem = 0; drift = 0 }; carts = 0; block = zeros 2048 }
-
-abbrev pub refused_read : Verdict → PlanRead
-refused_read v = record { verdict = v; floor = empty_floor; plan = no_plan }
-
-abbrev pub accepted_read : Floor → PlanNumbers → PlanRead
-accepted_read f n = record { verdict = Accepted; floor = f; plan = plan_of n }
+-- what reading gives: the floor and the plan
+abbrev pub accepted_read : Floor → PlanNumbers → Result PlanRead Refused
+accepted_read f n = Ok (record { floor = f; plan = plan_of n })
 
 -- by the floor's answer and then the plan's: a refusal, or what is done with the floor and the plan's numbers
-module _ {A : Type 0} (refuse : Verdict → A) (go : Floor → PlanNumbers → A) where
+module _ {A : Type 0} (refuse : Refused → A) (go : Floor → PlanNumbers → A) where
   abbrev pub after_plan : Floor → PlanAnswer → A
   after_plan f (accepted n) = go f n
-  after_plan f (rejected r) = refuse (AboutPlan r)
+  after_plan f (rejected r) = refuse (RefusedPlan r)
 
-  abbrev pub after_floor : FloorAnswer → List ℕ → A
-  after_floor (FloorAccepted f) s = after_plan f (read_plan f s)
-  after_floor (FloorRefused r) s = refuse (AboutFloor r)
+  abbrev pub after_floor : Result Floor Refusal → List ℕ → A
+  after_floor (Ok f) s = after_plan f (read_plan f s)
+  after_floor (Err r) s = refuse (RefusedFloor r)
 
-abbrev pub plan_read : Floor → PlanAnswer → PlanRead
-plan_read f a = after_plan refused_read accepted_read f a
+abbrev pub plan_read : Floor → PlanAnswer → Result PlanRead Refused
+plan_read f a = after_plan Err accepted_read f a
 
 -- "Reading a plan: the floor's, then" its own
-abbrev pub on_floor : FloorAnswer → List ℕ → PlanRead
-on_floor a s = after_floor refused_read accepted_read a s
+abbrev pub on_floor : Result Floor Refusal → List ℕ → Result PlanRead Refused
+on_floor a s = after_floor Err accepted_read a s
 
-unfoldable pub read_both : List ℕ → List ℕ → PlanRead
+unfoldable pub read_both : List ℕ → List ℕ → Result PlanRead Refused
 read_both floor s = on_floor (read_floor floor) s

@@ -1,16 +1,12 @@
 -- Behind reading: the refusal that it gave, or the numbers that the accepted plan holds.
-use Rattle.std.specs.Prelude.{ℕ, zero, suc, ◌+◌, ◌-◌, ◌*◌, ◌≤◌, ◌<◌, true, false, List, [], ◌∷◌, ◌++◌, length, take, drop, get_or}
+use Rattle.std.specs.Prelude.{ℕ, zero, suc, ◌+◌, ◌-◌, ◌*◌, ◌≤◌, ◌<◌, List, [], ◌∷◌, ◌++◌, length, take, drop, get_or, Result, Ok, Err}
 use Rattle.std.proofs.Common.{arith, sym, ap₂, subst, ◌∙◌, length-drop, drop-drop, length-take-le, ext_get_or}
 use Rattle.std.proofs.Math.Path.{◌≡◌, refl, ap}
-use Rattle.refusal.specs.Stages.{is_accepted}
-use Rattle.refusal.specs.Accepting.{accepted_is}
 use Rattle.refusal.specs.declared.Refusal.{Refusal}
-use Rattle.refusal.specs.declared.Verdict.{Verdict}
-use Rattle.refusal.specs.declared.Verdict.TheVariants.{Floor as AboutFloor, Plan as AboutPlan}
+use Rattle.refusal.specs.declared.Refused.{Refused}
+use Rattle.refusal.specs.declared.Refused.TheVariants.{Floor as RefusedFloor, Plan as RefusedPlan}
 use Rattle.floor.specs.Floor.{read_floor}
 use Rattle.floor.specs.declared.Floor.{Floor}
-use Rattle.floor.specs.declared.FloorAnswer.{FloorAnswer}
-use Rattle.floor.specs.declared.FloorAnswer.TheVariants.{Read as FloorAccepted, Refused as FloorRefused}
 use Rattle.plan.specs.Plan.{PlanNumbers, PlanAnswer, accepted, rejected, read_plan, block_rows, held_numbers, after_plan, after_floor, plan_read, on_floor, read_both}
 use Rattle.plan.specs.After.{after_reading, ReadAs}
 use Rattle.plan.specs.Promises.{AcceptedPlan, PlanReads}
@@ -83,46 +79,46 @@ module _ (floor s : List ℕ) (r : PlanRead) (w : AcceptedPlan floor s r) where
       ap (λ (p : Plan). length p.block) w.held
       ∙ length_block n.rows (short_all n.head.steps n.rows v.head.steps (row_sizes n r.floor v)) (omega (arith, v.carts))
 
-pub accepts_if : (floor s : List ℕ) (r : PlanRead) → PlanReads floor s r → is_accepted r.verdict ≡ true → AcceptedPlan floor s r
-accepts_if floor s r w e = w.accepted (accepted_is _ e)
+pub accepts_if : (floor s : List ℕ) (r : Result PlanRead Refused) → PlanReads floor s r → (x : PlanRead) → r ≡ Ok x → AcceptedPlan floor s x
+accepts_if floor s r w x e = w.accepted x e
 
-module _ {A : Type 0} (refuse : Verdict → A) (go : Floor → PlanNumbers → A) (floor s : List ℕ) where
+module _ {A : Type 0} (refuse : Refused → A) (go : Floor → PlanNumbers → A) (floor s : List ℕ) where
   pub read_on_lem : (f : Floor) (n : PlanNumbers) → ReadAs floor s f n → after_reading refuse go floor s ≡ go f n
   unfolding after_reading
-  read_on_lem f n w = ap (λ (a : FloorAnswer). after_floor refuse go a s) w.floor_read ∙ ap (after_plan refuse go f) w.plan_read_lem
+  read_on_lem f n w = ap (λ (a : Result Floor Refusal). after_floor refuse go a s) w.floor_read ∙ ap (after_plan refuse go f) w.plan_read_lem
 
   -- how it goes: refused, or on with what was read
   pub data ReadingCases : Type 0 where
-    floor_refused : (x : Refusal) → after_reading refuse go floor s ≡ refuse (AboutFloor x) → ReadingCases
-    plan_refused : (x : Refusal) → after_reading refuse go floor s ≡ refuse (AboutPlan x) → ReadingCases
+    floor_refused : (x : Refusal) → after_reading refuse go floor s ≡ refuse (RefusedFloor x) → ReadingCases
+    plan_refused : (x : Refusal) → after_reading refuse go floor s ≡ refuse (RefusedPlan x) → ReadingCases
     both_read : (f : Floor) (n : PlanNumbers) → ReadAs floor s f n → after_reading refuse go floor s ≡ go f n → ReadingCases
 
   pub reading_cases : ReadingCases
   unfolding after_reading
   reading_cases = on_floor_lem (read_floor floor) refl
     where
-      on_plan : (f : Floor) → read_floor floor ≡ FloorAccepted f → (a : PlanAnswer) → read_plan f s ≡ a → ReadingCases
+      on_plan : (f : Floor) → read_floor floor ≡ Ok f → (a : PlanAnswer) → read_plan f s ≡ a → ReadingCases
       on_plan f p (accepted n) q = let w : ReadAs floor s f n = record { floor_read = p; plan_read_lem = q } in both_read f n w (read_on_lem f n w)
-      on_plan f p (rejected x) q = plan_refused x (ap (λ (a : FloorAnswer). after_floor refuse go a s) p ∙ ap (after_plan refuse go f) q)
+      on_plan f p (rejected x) q = plan_refused x (ap (λ (a : Result Floor Refusal). after_floor refuse go a s) p ∙ ap (after_plan refuse go f) q)
 
-      on_floor_lem : (a : FloorAnswer) → read_floor floor ≡ a → ReadingCases
-      on_floor_lem (FloorAccepted f) p = on_plan f p (read_plan f s) refl
-      on_floor_lem (FloorRefused x) p = floor_refused x (ap (λ (a : FloorAnswer). after_floor refuse go a s) p)
+      on_floor_lem : (a : Result Floor Refusal) → read_floor floor ≡ a → ReadingCases
+      on_floor_lem (Ok f) p = on_plan f p (read_plan f s) refl
+      on_floor_lem (Err x) p = floor_refused x (ap (λ (a : Result Floor Refusal). after_floor refuse go a s) p)
 
+  -- accepted: on with its numbers
   module _ (r : PlanRead) where
-    -- accepted: on with its numbers
     pub after_accepted : (w : AcceptedPlan floor s r) → after_reading refuse go floor s ≡ go r.floor w.numbers
     after_accepted w = read_on_lem r.floor w.numbers (record { floor_read = w.floor_read; plan_read_lem = w.plan_read_lem })
 
-    -- refused: as reading is
-    pub after_refused : r ≡ read_both floor s → is_accepted r.verdict ≡ false → after_reading refuse go floor s ≡ refuse r.verdict
-    unfolding after_reading read_both
-    after_refused e q = on_floor_lem (read_floor floor) e
-      where
-        on_plan : (f : Floor) (a : PlanAnswer) → r ≡ plan_read f a → after_plan refuse go f a ≡ refuse r.verdict
-        on_plan f (accepted n) e = let z : ◌≡◌ {A = ℕ} 0 1 = cc in absurd (omega arith)
-        on_plan f (rejected x) e = ap (λ (y : PlanRead). refuse y.verdict) (sym e)
+  -- refused: as reading is
+  pub after_refused : (r : Refused) → Err r ≡ read_both floor s → after_reading refuse go floor s ≡ refuse r
+  unfolding after_reading read_both
+  after_refused r e = on_floor_lem (read_floor floor) e
+    where
+      on_plan : (f : Floor) (a : PlanAnswer) → Err r ≡ plan_read f a → after_plan refuse go f a ≡ refuse r
+      on_plan f (accepted n) e = let z : ◌≡◌ {A = ℕ} 0 1 = cc in absurd (omega arith)
+      on_plan f (rejected x) e = let q : RefusedPlan x ≡ r = cc in ap refuse q
 
-        on_floor_lem : (a : FloorAnswer) → r ≡ on_floor a s → after_floor refuse go a s ≡ refuse r.verdict
-        on_floor_lem (FloorAccepted f) e = on_plan f (read_plan f s) e
-        on_floor_lem (FloorRefused x) e = ap (λ (y : PlanRead). refuse y.verdict) (sym e)
+      on_floor_lem : (a : Result Floor Refusal) → Err r ≡ on_floor a s → after_floor refuse go a s ≡ refuse r
+      on_floor_lem (Ok f) e = on_plan f (read_plan f s) e
+      on_floor_lem (Err x) e = let q : RefusedFloor x ≡ r = cc in ap refuse q

@@ -1,5 +1,5 @@
 -- A refusal of a plan has one of the numbers that document 01 lists.
-use Rattle.std.specs.Prelude.{ℕ, ◌+◌, ◌≡◌, Bool, true, false, cond, not, List, [], ◌∷◌, ◌++◌, eqb, leb, ltb, length}
+use Rattle.std.specs.Prelude.{ℕ, ◌+◌, ◌≡◌, Bool, true, false, cond, not, List, [], ◌∷◌, ◌++◌, eqb, leb, ltb, length, Result, Ok, Err}
 use Rattle.std.proofs.Common.{sym, subst}
 use Rattle.std.proofs.Math.Path.{refl}
 use Rattle.refusal.specs.Codes.{at_offset}
@@ -7,25 +7,23 @@ use Rattle.refusal.specs.Given.{OneOf, Refusals, Given, floor_numbers, plan_numb
 use Rattle.refusal.specs.Numbered.{all_among, one_among, one_of_more, by_number}
 use Rattle.refusal.specs.Held.{given_written}
 use Rattle.refusal.specs.declared.Refusal.{Refusal}
+use Rattle.refusal.specs.Results.{told, checked}
+use Rattle.refusal.specs.declared.Refused.{Refused}
+use Rattle.refusal.specs.declared.Refused.TheVariants.{Floor as RefusedFloor, Plan as RefusedPlan}
 use Rattle.refusal.specs.declared.Verdict.{Verdict}
-use Rattle.refusal.specs.declared.Verdict.TheVariants.{Floor as AboutFloor, Plan as AboutPlan}
+use Rattle.refusal.specs.declared.Verdict.TheVariants.{Plan as AboutPlan}
 use Rattle.record.specs.Record.{Record, records_in}
 use Rattle.floor.specs.Floor.{read_floor}
 use Rattle.floor.specs.Refusing.{refused_number as floor-number}
 use Rattle.floor.specs.declared.Floor.{Floor}
-use Rattle.floor.specs.declared.FloorAnswer.{FloorAnswer}
-use Rattle.floor.specs.declared.FloorAnswer.TheVariants.{Read as FloorAccepted, Refused as FloorRefused}
-use Rattle.plan.specs.Plan.{PlanNumbers, PlanAnswer, accepted, rejected, head_from, out_of_range, judged_head, first_head, judged_row, row_number, read_rows, behind_head, after_first, read_records, read_plan, after_plan, after_floor, refused_read, accepted_read, read_both}
+use Rattle.plan.specs.Plan.{PlanNumbers, PlanAnswer, accepted, rejected, head_from, out_of_range, judged_head, first_head, judged_row, row_number, read_rows, behind_head, after_first, read_records, read_plan, after_plan, after_floor, accepted_read, read_both}
 use Rattle.plan.specs.After.{after_reading, ReadAs}
 use Rattle.plan.specs.Numbers.{plan_bytes, by_reading, by_floor, write_plan}
 use Rattle.plan.specs.declared.Head.{Head}
-use Rattle.plan.specs.declared.HeadAnswer.{HeadAnswer}
-use Rattle.plan.specs.declared.HeadAnswer.TheVariants.{Good, Refused}
-use Rattle.plan.specs.declared.PlanRead.{PlanRead}
 
-abbrev HeadListed : HeadAnswer → Type 0
-HeadListed (Good h) = Unit {0}
-HeadListed (Refused r) = OneOf plan_numbers r.number
+abbrev HeadListed : Result Head Refusal → Type 0
+HeadListed (Ok h) = Unit {0}
+HeadListed (Err r) = OneOf plan_numbers r.number
 
 abbrev Listed : PlanAnswer → Type 0
 Listed (accepted n) = Unit {0}
@@ -36,7 +34,7 @@ judged_listed : (kind : ℕ) (body : List ℕ) → HeadListed (judged_head kind 
 unfolding judged_head
 judged_listed kind body =
     let tests : List (Bool × ℕ) = (not (eqb kind 4), 3) ∷ (not (eqb (length body) 6), 4) ∷ (out_of_range (head_from body), 8) ∷ [] in
-    by_number HeadListed tests (Good (head_from body)) (λ n. Refused (at_offset n 0)) tt (λ n h. one_of_more (3 ∷ 4 ∷ 8 ∷ []) plan_numbers n refl h)
+    by_number HeadListed tests (Ok (head_from body)) (λ n. Err (at_offset n 0)) tt (λ n h. one_of_more (3 ∷ 4 ∷ 8 ∷ []) plan_numbers n refl h)
 
 head_listed : (rs : List Record) (cut : Bool) → HeadListed (first_head rs cut)
 head_listed [] true = one_among plan_numbers 2 refl
@@ -65,10 +63,10 @@ listed f s =
     long (ltb 65536 (length s)) (behind (first_head (records_in s).records (records_in s).cut) (head_listed (records_in s).records (records_in s).cut)
     (λ h. rows_listed f h (after_first (records_in s).records) [] 10 (records_in s).cut))
   where
-    behind : (a : HeadAnswer) → HeadListed a → ((h : Head) → Listed (read_rows f h [] 10 (after_first (records_in s).records) (records_in s).cut))
+    behind : (a : Result Head Refusal) → HeadListed a → ((h : Head) → Listed (read_rows f h [] 10 (after_first (records_in s).records) (records_in s).cut))
         → Listed (behind_head f a (after_first (records_in s).records) (records_in s).cut)
-    behind (Good h) l next = next h
-    behind (Refused r) l next = l
+    behind (Ok h) l next = next h
+    behind (Err r) l next = l
 
     long : (b : Bool) → Listed (read_records f (records_in s).records (records_in s).cut)
         → Listed (cond b (rejected (at_offset 1 0)) (read_records f (records_in s).records (records_in s).cut))
@@ -80,30 +78,30 @@ refused_number f s r e = subst Listed e (listed f s)
 
 -- whatever follows reading gives the floor's and the plan's refusals as its own, and what it gives once both are read
 module _ (t : Refusals) (floors : all_among t.floor floor_numbers ≡ true) (plans : all_among t.plan plan_numbers ≡ true)
-    {A : Type 0} (answer : A → Verdict) (refuse : Verdict → A) (says : (v : Verdict) → answer (refuse v) ≡ v)
+    {A : Type 0} (answer : A → Verdict) (refuse : Refused → A) (says : (e : Refused) → answer (refuse e) ≡ told e)
     (go : Floor → PlanNumbers → A) (floor s : List ℕ) where
-  from_floor : (r : Refusal) → read_floor floor ≡ FloorRefused r → Given t (answer (refuse (AboutFloor r)))
-  from_floor r p = subst (Given t) (sym (says (AboutFloor r))) (one_of_more floor_numbers t.floor r.number floors (floor-number floor r p))
+  from_floor : (r : Refusal) → read_floor floor ≡ Err r → Given t (answer (refuse (RefusedFloor r)))
+  from_floor r p = subst (Given t) (sym (says (RefusedFloor r))) (one_of_more floor_numbers t.floor r.number floors (floor-number floor r p))
 
-  from_plan : (f : Floor) (r : Refusal) → read_plan f s ≡ rejected r → Given t (answer (refuse (AboutPlan r)))
-  from_plan f r q = subst (Given t) (sym (says (AboutPlan r))) (one_of_more plan_numbers t.plan r.number plans (refused_number f s r q))
+  from_plan : (f : Floor) (r : Refusal) → read_plan f s ≡ rejected r → Given t (answer (refuse (RefusedPlan r)))
+  from_plan f r q = subst (Given t) (sym (says (RefusedPlan r))) (one_of_more plan_numbers t.plan r.number plans (refused_number f s r q))
 
   pub given_after : ((f : Floor) (n : PlanNumbers) → ReadAs floor s f n → Given t (answer (go f n))) → Given t (answer (after_reading refuse go floor s))
   unfolding after_reading
   given_after g = on_floor_lem (read_floor floor) refl
     where
-      on_plan : (f : Floor) → read_floor floor ≡ FloorAccepted f → (a : PlanAnswer) → read_plan f s ≡ a → Given t (answer (after_plan refuse go f a))
+      on_plan : (f : Floor) → read_floor floor ≡ Ok f → (a : PlanAnswer) → read_plan f s ≡ a → Given t (answer (after_plan refuse go f a))
       on_plan f p (accepted n) q = g f n (record { floor_read = p; plan_read_lem = q })
       on_plan f p (rejected r) q = from_plan f r q
 
-      on_floor_lem : (a : FloorAnswer) → read_floor floor ≡ a → Given t (answer (after_floor refuse go a s))
-      on_floor_lem (FloorAccepted f) p = on_plan f p (read_plan f s) refl
-      on_floor_lem (FloorRefused r) p = from_floor r p
+      on_floor_lem : (a : Result Floor Refusal) → read_floor floor ≡ a → Given t (answer (after_floor refuse go a s))
+      on_floor_lem (Ok f) p = on_plan f p (read_plan f s) refl
+      on_floor_lem (Err r) p = from_floor r p
 
 -- reading
-pub reading_given : (floor s : List ℕ) → Given reading_plan (read_both floor s).verdict
+pub reading_given : (floor s : List ℕ) → Given reading_plan (checked (read_both floor s))
 unfolding after_reading read_both
-reading_given floor s = given_after reading_plan refl refl (λ (r : PlanRead). r.verdict) refused_read (λ v. refl) accepted_read floor s (λ f n w. refl)
+reading_given floor s = given_after reading_plan refl refl checked Err (λ e. refl) accepted_read floor s (λ f n w. refl)
 
 -- writing: reading's refusals, or 18
 pub writing_given : (floor : List ℕ) (h : Head) (rows before : List ℕ) → Given writing_plan (write_plan floor h rows before).answer
@@ -114,6 +112,6 @@ writing_given floor h rows before = on_floor_lem (read_floor floor) refl
     on_plan f (accepted n) q = given_written writing_plan AboutPlan (plan_bytes h rows) before refl (one_among writing_plan.plan 18 refl)
     on_plan f (rejected r) q = one_of_more plan_numbers writing_plan.plan r.number refl (refused_number f (plan_bytes h rows) r q)
 
-    on_floor_lem : (a : FloorAnswer) → read_floor floor ≡ a → Given writing_plan (by_floor a h rows before).answer
-    on_floor_lem (FloorAccepted f) p = on_plan f (read_plan f (plan_bytes h rows)) refl
-    on_floor_lem (FloorRefused r) p = one_of_more floor_numbers writing_plan.floor r.number refl (floor-number floor r p)
+    on_floor_lem : (a : Result Floor Refusal) → read_floor floor ≡ a → Given writing_plan (by_floor a h rows before).answer
+    on_floor_lem (Ok f) p = on_plan f (read_plan f (plan_bytes h rows)) refl
+    on_floor_lem (Err r) p = one_of_more floor_numbers writing_plan.floor r.number refl (floor-number floor r p)

@@ -1,5 +1,5 @@
 -- What is written reads back as the same numbers, and what was read writes back as the same bytes.
-use Rattle.std.specs.Prelude.{ℕ, zero, suc, ◌+◌, ◌*◌, ◌≤◌, ◌<◌, ◌≡◌, Bool, true, false, cond, ltb, length, take, drop, get_or}
+use Rattle.std.specs.Prelude.{ℕ, zero, suc, ◌+◌, ◌*◌, ◌≤◌, ◌<◌, ◌≡◌, Bool, true, false, cond, ltb, length, take, drop, get_or, Result, Ok, Err}
 use Rattle.std.proofs.Common.{arith, sym, ap, ap₂, subst, ◌∙◌, length-append, length-drop, take-append-drop, take_all, length-take-le, drop-drop, ltb-false}
 use Rattle.std.proofs.Math.Path.{refl}
 use mathlib.Core.List.{List, [], ◌∷◌, ◌++◌, map, flatten, append-nil, append_assoc}
@@ -14,12 +14,10 @@ use Rattle.record.specs.RoundTrip.{AllEncodable, length-encoded, records-layout,
 use Rattle.refusal.specs.Outcome.{Gives, written}
 use Rattle.refusal.specs.Held.{about_floor, about_plan, written_front}
 use Rattle.refusal.specs.declared.Verdict.{Verdict}
-use Rattle.refusal.specs.declared.Verdict.TheVariants.{Accepted, Written, Floor as AboutFloor, Plan as AboutPlan}
+use Rattle.refusal.specs.declared.Verdict.TheVariants.{Written, Plan as AboutPlan}
 use Rattle.floor.specs.Floor.{read_floor}
-use Rattle.floor.specs.declared.FloorAnswer.{FloorAnswer}
-use Rattle.floor.specs.declared.FloorAnswer.TheVariants.{Read as FloorAccepted, Refused as FloorRefused}
 use Rattle.floor.specs.declared.Floor.{Floor}
-use Rattle.plan.specs.Plan.{PlanNumbers, PlanAnswer, accepted, rejected, head_from, judged_places, judged_head, row_fault, onward, read_rows, behind_head, read_records, read_plan, block_of, plan_read, on_floor, read_both}
+use Rattle.plan.specs.Plan.{plan_of, PlanNumbers, PlanAnswer, accepted, rejected, head_from, judged_places, judged_head, row_fault, onward, read_rows, behind_head, read_records, read_plan, block_of, plan_read, on_floor, read_both}
 use Rattle.plan.specs.Numbers.{Narrow, head_bytes, row_records, plan_records, plan_bytes, by_reading, by_floor, write_plan}
 use Rattle.plan.specs.After.{ReadAs}
 use Rattle.plan.specs.Promises.{AcceptedPlan}
@@ -28,13 +26,11 @@ use Rattle.plan.specs.Valid.{HeadInRange, ValidPlan}
 use Rattle.plan.specs.Block.{row_at, short_all}
 use Rattle.plan.specs.Passed.{all_on_floor, head_passed, row_passed}
 use Rattle.plan.specs.declared.Head.{Head}
-use Rattle.plan.specs.declared.RowAnswer.TheVariants.{Fits}
-use Rattle.plan.specs.declared.HeadAnswer.{HeadAnswer}
-use Rattle.plan.specs.declared.HeadAnswer.TheVariants.{Good, Refused}
+use Rattle.refusal.specs.declared.Refusal.{Refusal}
 
 -- every place of every row is on the floor
 abbrev AllOn : ℕ → List (List ℕ) → Type 0
-AllOn places rows = All (λ (row : List ℕ). judged_places places 0 row ≡ Fits) rows
+AllOn places rows = All (λ (row : List ℕ). judged_places places 0 row ≡ Ok tt) rows
 
 -- the records behind an accepted head are rows, one for each cart, of the head's steps
 pub record Rows (f : Floor) (h : Head) (done : List (List ℕ)) (rs : List Record) (cut : Bool) (n : PlanNumbers) : Type 0 where
@@ -108,9 +104,9 @@ from_records f s n [] true l p q e = let z : ◌≡◌ {A = ℕ} 0 1 = cc in abs
 from_records f s n [] false l p q e = let z : ◌≡◌ {A = ℕ} 0 1 = cc in absurd (omega arith)
 from_records f s n (r ∷ rs) cut l p q e = go (judged_head r.kind r.body) refl e
   where
-    go : (a : HeadAnswer) → judged_head r.kind r.body ≡ a → behind_head f a rs cut ≡ accepted n → Whole f s n
-    go (Refused x) j e = let z : ◌≡◌ {A = ℕ} 0 1 = cc in absurd (omega arith)
-    go (Good h) j e =
+    go : (a : Result Head Refusal) → judged_head r.kind r.body ≡ a → behind_head f a rs cut ≡ accepted n → Whole f s n
+    go (Err x) j e = let z : ◌≡◌ {A = ℕ} 0 1 = cc in absurd (omega arith)
+    go (Ok h) j e =
         let w = rows_read f h rs [] 10 cut n e in
         let g = head_passed r.kind r.body h j in
         let head : h ≡ n.head = sym (ap (λ (x : PlanNumbers). x.head) w.numbers) in
@@ -163,7 +159,7 @@ pub written_again : (floor s : List ℕ) (f : Floor) (n : PlanNumbers) → Bytes
     → write_plan floor n.head (flatten n.rows) before ≡ written AboutPlan s before
 unfolding write_plan
 written_again floor s f n b w before =
-    ap (λ (a : FloorAnswer). by_floor a n.head (flatten n.rows) before) w.floor_read
+    ap (λ (a : Result Floor Refusal). by_floor a n.head (flatten n.rows) before) w.floor_read
     ∙ ap (λ (x : List ℕ). by_reading (read_plan f x) x before) (bytes_back f s n b w.plan_read_lem)
     ∙ ap (λ (a : PlanAnswer). by_reading a s before) w.plan_read_lem
 
@@ -214,9 +210,9 @@ numbers_back f h rows n w e =
 module _ (floor : List ℕ) (h : Head) (rows before : List ℕ) (v : Verdict) (after : List ℕ) (w : Narrow h) (k : ℕ) (e : v ≡ Written k) where
   abbrev Back : Type 0
   Back =
-      (f : Floor) × (n : PlanNumbers) × (read_floor floor ≡ FloorAccepted f) × (read_plan f (take k after) ≡ accepted n) × (n.head ≡ h) × (flatten n.rows ≡ rows)
+      (f : Floor) × (n : PlanNumbers) × (read_floor floor ≡ Ok f) × (read_plan f (take k after) ≡ accepted n) × (n.head ≡ h) × (flatten n.rows ≡ rows)
 
-  by_plan : (f : Floor) → read_floor floor ≡ FloorAccepted f → (a : PlanAnswer) → read_plan f (plan_bytes h rows) ≡ a
+  by_plan : (f : Floor) → read_floor floor ≡ Ok f → (a : PlanAnswer) → read_plan f (plan_bytes h rows) ≡ a
       → Gives (by_reading a (plan_bytes h rows) before) v after → Back
   by_plan f p (rejected r) q g = absurd (about_plan r k (sym g.answer ∙ e))
   by_plan f p (accepted n) q g =
@@ -224,9 +220,9 @@ module _ (floor : List ℕ) (h : Head) (rows before : List ℕ) (v : Verdict) (a
       let b = numbers_back f h rows n w q in
       (f, n, p, ap (read_plan f) t ∙ q, b.0, b.1)
 
-  by_floor_lem : (a : FloorAnswer) → read_floor floor ≡ a → Gives (by_floor a h rows before) v after → Back
-  by_floor_lem (FloorRefused r) p g = absurd (about_floor r k (sym g.answer ∙ e))
-  by_floor_lem (FloorAccepted f) p g = by_plan f p (read_plan f (plan_bytes h rows)) refl g
+  by_floor_lem : (a : Result Floor Refusal) → read_floor floor ≡ a → Gives (by_floor a h rows before) v after → Back
+  by_floor_lem (Err r) p g = absurd (about_floor r k (sym g.answer ∙ e))
+  by_floor_lem (Ok f) p g = by_plan f p (read_plan f (plan_bytes h rows)) refl g
 
   pub reads_back : Gives (write_plan floor h rows before) v after → Back
   unfolding write_plan
@@ -243,7 +239,7 @@ valid f s n e =
       steps = size;
       places =
           λ c t l m. all_on_floor f.places 0 (get_or n.rows c [])
-          (each (λ (row : List ℕ). judged_places f.places 0 row ≡ Fits) [] n.rows c w.places (omega (arith, w.carts))) t
+          (each (λ (row : List ℕ). judged_places f.places 0 row ≡ Ok tt) [] n.rows c w.places (omega (arith, w.carts))) t
           (omega (arith, size c l));
     }
 
@@ -254,31 +250,29 @@ row_located f s n e c l =
     row_at n.head.steps n.rows c (short_all n.head.steps n.rows w.range.steps w.sizes) w.sizes (omega (arith, w.carts))
 
 -- an accepted plan writes back as the same bytes
-module _ (floor s : List ℕ) (r : PlanRead) (b : Bytes s) (v : r.verdict ≡ Accepted) where
-  on_plan : (f : Floor) → read_floor floor ≡ FloorAccepted f → (a : PlanAnswer) → read_plan f s ≡ a → r ≡ plan_read f a → AcceptedPlan floor s r
-  on_plan f p (rejected x) q e =
-      let z : AboutPlan x ≡ Accepted = sym (ap (λ (y : PlanRead). y.verdict) e) ∙ v in let y : ◌≡◌ {A = ℕ} 0 1 = cc in absurd (omega arith)
+module _ (floor s : List ℕ) (r : PlanRead) (b : Bytes s) where
+  on_plan : (f : Floor) → read_floor floor ≡ Ok f → (a : PlanAnswer) → read_plan f s ≡ a → Ok r ≡ plan_read f a → AcceptedPlan floor s r
+  on_plan f p (rejected x) q e = let z : ◌≡◌ {A = ℕ} 0 1 = cc in absurd (omega arith)
   on_plan f p (accepted n) q e =
-      let g : f ≡ r.floor = sym (ap (λ (y : PlanRead). y.floor) e) in
+      let is : r ≡ record { floor = f; plan = plan_of n } = cc in
+      let g : f ≡ r.floor = sym (ap (λ (y : PlanRead). y.floor) is) in
       record {
         numbers = n;
-        floor_read = p ∙ ap FloorAccepted g;
+        floor_read = p ∙ ap Ok g;
         plan_read_lem = subst (λ (x : Floor). read_plan x s ≡ accepted n) g q;
-        held = ap (λ (y : PlanRead). y.plan) e;
+        held = ap (λ (y : PlanRead). y.plan) is;
         valid = subst (ValidPlan n) g (valid f s n q);
         writes_back = bytes_back f s n b q;
         written_again = written_again floor s f n b (record { floor_read = p; plan_read_lem = q });
         row =
-            λ c l. ap (λ (y : PlanRead). take n.head.steps (drop (64 * c) y.plan.block)) e
+            λ c l. ap (λ (y : PlanRead). take n.head.steps (drop (64 * c) y.plan.block)) is
             ∙ row_located f s n q c (subst (λ (x : Floor). c < x.carts) (sym g) l);
       }
 
-  on_floor_lem : (a : FloorAnswer) → read_floor floor ≡ a → r ≡ on_floor a s → AcceptedPlan floor s r
-  on_floor_lem (FloorRefused x) p e =
-      let z : AboutFloor x ≡ Accepted = sym (ap (λ (y : PlanRead). y.verdict) e)
-      ∙ v in let y : ◌≡◌ {A = ℕ} 0 1 = cc in absurd (omega arith)
-  on_floor_lem (FloorAccepted f) p e = on_plan f p (read_plan f s) refl e
+  on_floor_lem : (a : Result Floor Refusal) → read_floor floor ≡ a → Ok r ≡ on_floor a s → AcceptedPlan floor s r
+  on_floor_lem (Err x) p e = let z : ◌≡◌ {A = ℕ} 0 1 = cc in absurd (omega arith)
+  on_floor_lem (Ok f) p e = on_plan f p (read_plan f s) refl e
 
-  pub accepts : r ≡ read_both floor s → AcceptedPlan floor s r
+  pub accepts : Ok r ≡ read_both floor s → AcceptedPlan floor s r
   unfolding read_both
   accepts e = on_floor_lem (read_floor floor) refl e

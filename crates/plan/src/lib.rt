@@ -8,7 +8,6 @@ mod writing;
 
 use floor::Floor;
 pub use reading::read;
-use refusal::{Refusal, Verdict};
 pub use rows::{judge_row, row_at};
 pub use writing::{put_numbers, write};
 
@@ -20,29 +19,14 @@ pub struct Head {
     pub drift: usize,
 }
 
-// The first record judged.
+// What is wrong with a row's body: its length, or, on the lowest such step, a place that is not on the floor.
 #[derive(Clone, Copy)]
-pub enum HeadAnswer {
-    Good(Head),
-    Refused(Refusal),
-}
-
-// A row judged on its body: every place is on the floor, or its length is wrong, or the lowest step whose place is absent.
-#[derive(Clone, Copy)]
-pub enum RowAnswer {
-    Fits,
+pub enum RowFault {
     WrongLength,
     Absent(usize),
 }
 
-// A plan's numbers judged before they are written.
-#[derive(Clone, Copy)]
-pub enum NumbersAnswer {
-    Good,
-    Refused(Refusal),
-}
-
-// An accepted plan: cart n's row begins at byte 64 n of the block.
+// An accepted plan: cart n's row begins at byte 64 n of the block, which is fixed memory.
 #[derive(Clone, Copy)]
 pub struct Plan {
     pub head: Head,
@@ -50,10 +34,9 @@ pub struct Plan {
     pub block: [u8; 2048],
 }
 
-// What reading a plan answers: the verdict and, if it is accepted, floor and plan.
+// What reading a plan gives: the floor and the plan.
 #[derive(Clone, Copy)]
 pub struct PlanRead {
-    pub verdict: Verdict,
     pub floor: Floor,
     pub plan: Plan,
 }

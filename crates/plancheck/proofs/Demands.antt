@@ -1,5 +1,5 @@
 -- What the promise gives, clause by clause and byte by byte: a reader of it alone can conclude this.
-use Rattle.std.specs.Prelude.{ℕ, ◌≤◌, ◌<◌, ◌≡◌, refl, ◌⊎◌, List, T, length, get_or}
+use Rattle.std.specs.Prelude.{ℕ, ◌≤◌, ◌<◌, ◌≡◌, refl, ◌⊎◌, List, T, length, get_or, Ok}
 use Rattle.std.proofs.Common.{arith, subst, subst₂, inl, inr, ⊎_elim}
 use Rattle.std.proofs.Math.Path.{subst₃}
 use Rattle.endian.specs.Little.{bytes}
@@ -10,7 +10,6 @@ use Rattle.record.specs.All.{All, each}
 use Rattle.record.specs.Buffer.{stored}
 use Rattle.floor.specs.Floor.{read_floor}
 use Rattle.floor.specs.declared.Floor.{Floor}
-use Rattle.floor.specs.declared.FloorAnswer.TheVariants.{Read as FloorAccepted}
 use Rattle.plan.specs.Plan.{PlanNumbers, rejected, read_plan}
 use Rattle.plan.specs.After.{ReadAs}
 use Rattle.moves.specs.Promises.{Moving, LowestLeft, FirstRefused}
@@ -24,7 +23,7 @@ use Rattle.cltl.specs.Rules.{has_next}
 use Rattle.plancheck.specs.Check.{plan_rows, checked}
 use Rattle.plancheck.specs.Meaning.{drifted, HasGroups, FirstLacking, Plain, Kept, FailingStep, ReadAndOpen, NoneAhead}
 use Rattle.plancheck.specs.Promises.{Means, PlanChecked}
-use Rattle.plancheck.proofs.FirstClause.{FirstClause, first_lacked, Lacks, first_21}
+use Rattle.plancheck.proofs.FirstClause.{first_lacked, first_21}
 use Rattle.plancheck.proofs.Stages.{same_clauses}
 
 ---- Accepted, by the verdict or by C's number.
@@ -80,7 +79,7 @@ pub check_11 : (floor plan sheet : List ℕ) (v : Verdict) → PlanChecked floor
     → (c k : ℕ) → v ≡ AboutPlan (refused 11 c k) → LowestLeft floor p c k
 check_11 floor plan sheet v w f p files c k e = let x = w.plan_refused (refused 11 c k) e (λ z. omega arith) in go x.0 x.1 x.2
   where
-    go : (g : Floor) → read_floor floor ≡ FloorAccepted g
+    go : (g : Floor) → read_floor floor ≡ Ok g
         → (read_plan g plan ≡ rejected (refused 11 c k)) ⊎ ((q : PlanNumbers) × ReadAs floor plan g q × FirstRefused floor g q (AboutPlan (refused 11 c k)))
         → LowestLeft floor p c k
     go g a (inl u) = let x = files.floor_read in let y = files.plan_read_lem in let z : ◌≡◌ {A = ℕ} 0 1 = cc in absurd (omega arith)

@@ -4,6 +4,7 @@ pub mod FirstClause
 pub mod Stages
 pub mod Refusing
 pub mod Claims
+pub mod Checking
 pub mod Demands
 pub mod ShownClause
 pub mod Lines

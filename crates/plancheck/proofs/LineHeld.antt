@@ -1,5 +1,5 @@
 -- The nodes of a line that was read: in order, and its clause's.
-use Rattle.std.specs.Prelude.{ℕ, ◌+◌, ◌-◌, ◌≤◌, ◌<◌, ◌≡◌, List, length, drop}
+use Rattle.std.specs.Prelude.{ℕ, ◌+◌, ◌-◌, ◌≤◌, ◌<◌, ◌≡◌, List, length, drop, Result, Ok}
 use Rattle.std.proofs.Common.{arith, sym, subst, ◌∙◌}
 use Rattle.record.specs.Buffer.{stored}
 use Rattle.grammar.specs.Grammar.{Clause}
@@ -9,7 +9,8 @@ use Rattle.grammar.specs.Nodes.{flat_count, flat_clause}
 use Rattle.grammar.specs.Reader.{clause_line}
 use Rattle.token.specs.Block.{nodes_bytes}
 use Rattle.token.specs.Parts.{PartIs}
-use Rattle.token.specs.declared.PartRead.{PartRead}
+use Rattle.token.specs.declared.Part.{Part}
+use Rattle.token.specs.declared.Fault.{Fault}
 use Rattle.drift.specs.Lacking.{groups_from}
 use Rattle.drift.specs.Tree.{Ordered, clause_tree}
 use Rattle.drift.specs.Need.{SixPairsDo}
@@ -25,7 +26,7 @@ pub record Judgeable (block : List ℕ) (n : ℕ) (c : Clause) : Type 0 where
   pub small : SixPairsDo block (n - 1)
   pub named : groups_from block n 0 ≡ groups c
 
-pub line_held : (s before : List ℕ) (r : PartRead) (block : List ℕ) (n : ℕ) (cs : List Clause) → (l : Line s before r block n cs) → length before ≡ 512
+pub line_held : (s before : List ℕ) (r : Part) (block : List ℕ) (n : ℕ) (cs : List Clause) → (l : Line s before r block n cs) → length before ≡ 512
     → Judgeable block r.n l.clause
 unfolding flat_clause
 line_held s before r block n cs l size =
@@ -47,13 +48,14 @@ line_held s before r block n cs l size =
         record { some = h.1; ordered = subst (Ordered b) z h.0; size = h.2; tree = λ m q. h.3 m (omega (arith, h.1)); small = h.4; named = h.5 }
 
 -- a line read where one is left, ready to be judged
-pub record Ready (s before : List ℕ) (r : PartRead) (block : List ℕ) (n : ℕ) (cs : List Clause) : Type 0 where
+pub record Ready (s before : List ℕ) (r : Part) (block : List ℕ) (n : ℕ) (cs : List Clause) : Type 0 where
   pub line : Line s before r block n cs
   pub judge : Judgeable block r.n line.clause
 
-pub ready : (s before : List ℕ) (r : PartRead) (block : List ℕ) (at n : ℕ) → at < length s
-    → PartIs count_nodes flat_count s 0 128 before r block (clause_line 128 (drop at s)) → (cs : List Clause) → Left s at n cs → length before ≡ 512
+pub ready : {s : List ℕ} {at n : ℕ} {cs : List Clause} {a : Result Part Fault} {r : Part} → Left s at n cs → at < length s → a ≡ Ok r
+    → (before block : List ℕ) → PartIs count_nodes flat_count s 0 128 before a block (clause_line 128 (drop at s)) → length before ≡ 512
     → Ready s before r block n cs
-ready s before r block at n inside h cs left size =
-    let l = next_line s before r block at n inside h cs left in
+ready {s} {at} {n} {cs} {a} {r} left inside e before block h size =
+    let k = subst (λ (x : Result Part Fault). PartIs count_nodes flat_count s 0 128 before x block (clause_line 128 (drop at s))) e h in
+    let l = next_line s at n inside cs left before r block k in
     record { line = l; judge = line_held s before r block n cs l size }

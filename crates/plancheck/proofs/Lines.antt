@@ -1,5 +1,5 @@
 -- The clauses of an accepted sheet, line by line.
-use Rattle.std.specs.Prelude.{ℕ, zero, suc, ◌+◌, ◌-◌, ◌≤◌, ◌<◌, Bool, true, false, drop}
+use Rattle.std.specs.Prelude.{ℕ, zero, suc, ◌+◌, ◌-◌, ◌≤◌, ◌<◌, Bool, true, false, drop, Result, Ok, Err, IsOk}
 use native.Mathlib.Omega.{arith}
 use Rattle.std.proofs.Math.Path.{◌≡◌, refl, sym, ap, subst}
 use Rattle.std.proofs.Common.{◌∙◌, le-ltb, drop_of_length-le}
@@ -15,7 +15,8 @@ use Rattle.grammar.specs.Reader.{Got, got, no, pick, bind, clause_line, lines, a
 use Rattle.grammar.specs.Reader as reader
 use Rattle.grammar.proofs.Promised.{promises}
 use Rattle.token.specs.Parts.{Held, PartIs}
-use Rattle.token.specs.declared.PartRead.{PartRead}
+use Rattle.token.specs.declared.Part.{Part}
+use Rattle.token.specs.declared.Fault.{Fault}
 use Rattle.sheet.specs.Rules.{rules_verdict}
 use Rattle.plancheck.specs.Check.{clauses_of}
 use Rattle.plancheck.proofs.Stages.{sheet_read}
@@ -56,8 +57,12 @@ none_left s at n cs l q = sym (ap listed (ap (λ (u : List ℕ). lines (32 - n) 
     go zero = refl
     go (suc k) = refl
 
+-- a line, and then k lines
+abbrev then_lines : ℕ → Got Clause → Got (List Clause)
+then_lines k g = bind g (λ c m t. bind (lines k t) (λ cs m₁ r₁. got (c ∷ cs) m₁ r₁))
+
 -- a line that was read, where one is left: its clause is the first
-pub record Line (s before : List ℕ) (r : PartRead) (block : List ℕ) (n : ℕ) (cs : List Clause) : Type 0 where
+pub record Line (s before : List ℕ) (r : Part) (block : List ℕ) (n : ℕ) (cs : List Clause) : Type 0 where
   pub clause : Clause
   pub rest : List Clause
   pub first : cs ≡ clause ∷ rest
@@ -68,56 +73,74 @@ pub record Line (s before : List ℕ) (r : PartRead) (block : List ℕ) (n : ℕ
   pub held : Held count_nodes flat_count s 0 128 before r block clause allowed behind
   pub left : Left s r.at (n + 1) rest
 
-module _ (s before : List ℕ) (r : PartRead) (block : List ℕ) (at n : ℕ) (inside : at < length s)
-    (h : PartIs count_nodes flat_count s 0 128 before r block (clause_line 128 (drop at s))) where
-  opened : (k : ℕ) → lines (suc k) (drop at s) ≡ bind (clause_line 128 (drop at s)) (λ c m t. bind (lines k t) (λ cs m₁ r₁. got (c ∷ cs) m₁ r₁))
+module _ (s : List ℕ) (at n : ℕ) (inside : at < length s) where
+  opened : (k : ℕ) → lines (suc k) (drop at s) ≡ then_lines k (clause_line 128 (drop at s))
   unfolding lines
   opened k =
       let e = drop-cons s at 0 inside in
-      ap (λ (u : List ℕ). lines (suc k) u) e ∙ ap (λ (u : List ℕ). bind (clause_line 128 u) (λ c m t. bind (lines k t) (λ cs m₁ r₁. got (c ∷ cs) m₁ r₁))) (sym e)
+      ap (λ (u : List ℕ). lines (suc k) u) e ∙ ap (λ (u : List ℕ). then_lines k (clause_line 128 u)) (sym e)
 
   full : lines 0 (drop at s) ≡ no 14 (drop at s)
   unfolding lines
   full = let e = drop-cons s at 0 inside in ap (λ (u : List ℕ). lines 0 u) e ∙ ap (no 14) (sym e)
 
   module _ (cs : List Clause) (l : Left s at n cs) where
-    by_line : (k : ℕ) → 32 - n ≡ suc k → (g : Got Clause) → PartIs count_nodes flat_count s 0 128 before r block g
-        → bind g (λ c m t. bind (lines k t) (λ cs m₁ r₁. got (c ∷ cs) m₁ r₁)) ≡ got cs l.allowed l.end → Line s before r block n cs
-    unfolding bind
-    by_line k e (no w t) p q = absurd (not_got q)
-    by_line k e (got c m t) p q = behind_it (lines k t) refl q
+    -- the first of the clauses that are left, and the lines behind it
+    first_line : (k : ℕ) × (32 - n ≡ suc k) × (then_lines k (clause_line 128 (drop at s)) ≡ got cs l.allowed l.end)
+    first_line = go (32 - n) refl l.read
       where
-        behind_it : (g : Got (List Clause)) → lines k t ≡ g → bind g (λ cs m₁ r₁. got (c ∷ cs) m₁ r₁) ≡ got cs l.allowed l.end
-            → Line s before r block n cs
-        behind_it (no w u) z q = absurd (not_got q)
-        behind_it (got cs' m' u) z q =
-            let f : cs ≡ c ∷ cs' = sym (ap listed q) in
-            let good : Good c × All Good cs' = subst (All Good) f l.good in
-            let k-is : 32 - (n + 1) ≡ k = omega arith in
-            record {
-              clause = c;
-              rest = cs';
-              first = f;
-              good = good.0;
-              more = omega arith;
-              allowed = m;
-              behind = t;
-              held = p;
-              left = record {
-                few = omega arith;
-                good = good.1;
-                allowed = m';
-                end = u;
-                read = ap (λ (j : ℕ). lines j (drop r.at s)) k-is ∙ ap (λ (v : List ℕ). lines k v) p.behind ∙ z;
-              };
-            }
-
-    pub next_line : Line s before r block n cs
-    next_line = go (32 - n) refl l.read
-      where
-        go : (k : ℕ) → 32 - n ≡ k → lines k (drop at s) ≡ got cs l.allowed l.end → Line s before r block n cs
+        go : (k : ℕ) → 32 - n ≡ k → lines k (drop at s) ≡ got cs l.allowed l.end
+            → (k : ℕ) × (32 - n ≡ suc k) × (then_lines k (clause_line 128 (drop at s)) ≡ got cs l.allowed l.end)
         go zero e q = absurd (not_got (sym full ∙ q))
-        go (suc k) e q = by_line k e (clause_line 128 (drop at s)) h (sym (opened k) ∙ q)
+        go (suc k) e q = (k, e, sym (opened k) ∙ q)
+
+    -- it reads
+    pub line_reads : (before block : List ℕ) (a : Result Part Fault) → PartIs count_nodes flat_count s 0 128 before a block (clause_line 128 (drop at s))
+        → IsOk a
+    unfolding bind
+    line_reads before block a h = let f = first_line in go a (clause_line 128 (drop at s)) h f.0 f.2
+      where
+        go : (a : Result Part Fault) (g : Got Clause) → PartIs count_nodes flat_count s 0 128 before a block g → (k : ℕ)
+            → then_lines k g ≡ got cs l.allowed l.end → IsOk a
+        go (Ok r) g p k q = refl
+        go (Err f) (got c m t) p k q = absurd p
+        go (Err f) (no w t) p k q = absurd (not_got q)
+
+    module _ (before : List ℕ) (r : Part) (block : List ℕ)
+        (h : PartIs count_nodes flat_count s 0 128 before (Ok r) block (clause_line 128 (drop at s))) where
+      by_line : (k : ℕ) → 32 - n ≡ suc k → (g : Got Clause) → PartIs count_nodes flat_count s 0 128 before (Ok r) block g
+          → then_lines k g ≡ got cs l.allowed l.end → Line s before r block n cs
+      unfolding bind
+      by_line k e (no w t) p q = absurd (not_got q)
+      by_line k e (got c m t) p q = behind_it (lines k t) refl q
+        where
+          behind_it : (g : Got (List Clause)) → lines k t ≡ g → bind g (λ cs m₁ r₁. got (c ∷ cs) m₁ r₁) ≡ got cs l.allowed l.end
+              → Line s before r block n cs
+          behind_it (no w u) z q = absurd (not_got q)
+          behind_it (got cs' m' u) z q =
+              let f : cs ≡ c ∷ cs' = sym (ap listed q) in
+              let good : Good c × All Good cs' = subst (All Good) f l.good in
+              let k-is : 32 - (n + 1) ≡ k = omega arith in
+              record {
+                clause = c;
+                rest = cs';
+                first = f;
+                good = good.0;
+                more = omega arith;
+                allowed = m;
+                behind = t;
+                held = p;
+                left = record {
+                  few = omega arith;
+                  good = good.1;
+                  allowed = m';
+                  end = u;
+                  read = ap (λ (j : ℕ). lines j (drop r.at s)) k-is ∙ ap (λ (v : List ℕ). lines k v) p.behind ∙ z;
+                };
+              }
+
+      pub next_line : Line s before r block n cs
+      next_line = let f = first_line in by_line f.0 f.1 (clause_line 128 (drop at s)) h f.2
 
 pub accepted_short : (s : List ℕ) → rules_verdict s ≡ Accepted → length s ≤ 16384
 unfolding rules_verdict

@@ -1,10 +1,11 @@
 -- What a refusal means, stage by stage.
-use Rattle.std.specs.Prelude.{ℕ, ◌+◌, ◌<◌, ◌≡◌, Bool, true, false, not, cond, ◌⊎◌, List, [], ◌∷◌, T, eqb, get_or}
+use Rattle.std.specs.Prelude.{ℕ, ◌+◌, ◌<◌, ◌≡◌, Bool, true, false, not, cond, ◌⊎◌, List, [], ◌∷◌, T, eqb, get_or, Result, Ok, Err}
 use Rattle.std.proofs.Common.{arith, sym, ap, subst, ◌∙◌, inr, eqb-true}
 use Rattle.std.proofs.Math.Path.{refl}
 use Rattle.std.proofs.Math.Logic.{inl}
 use Rattle.std.proofs.lemmas.Bool.{eqb-false}
 use Rattle.endian.specs.Little.{Bytes}
+use Rattle.refusal.specs.Results.{told}
 use Rattle.refusal.specs.Codes.{refused}
 use Rattle.refusal.specs.Stages.{is_accepted, and_then}
 use Rattle.refusal.specs.Given.{OneOf, Given, plan_numbers, moves_numbers, sheet_numbers, clause_numbers, checking_moves, checking_plan}
@@ -17,14 +18,12 @@ use Rattle.record.specs.All.{All}
 use Rattle.floor.specs.Floor.{read_floor}
 use Rattle.floor.specs.Refusing.{refused_number as floor-number}
 use Rattle.floor.specs.declared.Floor.{Floor}
-use Rattle.floor.specs.declared.FloorAnswer.{FloorAnswer}
-use Rattle.floor.specs.declared.FloorAnswer.TheVariants.{Read as FloorAccepted, Refused as FloorRefused}
 use Rattle.plan.specs.Plan.{PlanNumbers, PlanAnswer, accepted, rejected, read_plan, after_plan, after_floor}
 use Rattle.plan.specs.After.{after_reading, ReadAs}
 use Rattle.plan.specs.RoundTrip.{valid}
 use Rattle.plan.specs.Refusing.{refused_number as plan-number}
-use Rattle.row.specs.declared.MoveAnswer.{MoveAnswer}
-use Rattle.row.specs.declared.MoveAnswer.TheVariants.{Open, Elsewhere, Shut}
+use Rattle.row.specs.declared.MoveFault.{MoveFault}
+use Rattle.row.specs.declared.MoveFault.TheVariants.{Elsewhere, Shut}
 use Rattle.moves.specs.Carts.{verdict_of, cart_answer, moves_verdict}
 use Rattle.moves.specs.Refusing.{row_given}
 use Rattle.moves.specs.Promises.{AllUnending, Moving, FirstRefused}
@@ -123,7 +122,7 @@ module _ (floor plan sheet : List ℕ) where
   abbrev pub Meant : Verdict → Type 0
   Meant Accepted = Unit {0}
   Meant (Written n) = ⊥
-  Meant (AboutFloor x) = read_floor floor ≡ FloorRefused x
+  Meant (AboutFloor x) = read_floor floor ≡ Err x
   Meant (AboutPlan x) = PlanRefused floor plan x ⊎ ((x.number ≡ 20) × Conflict20 floor plan x.first x.second)
   Meant (AboutRules x) = SheetRefused floor plan sheet x ⊎ ClauseRefused x
 
@@ -301,10 +300,11 @@ module _ (floor plan sheet : List ℕ) where
             inl (moving, free, rules_read_lem sheet _ (sym (ap read_verdict e)))
 
     -- a row's refusal is about the plan
-    row_refused : (c : ℕ) (a : MoveAnswer) → FirstRefused floor f p (verdict_of c a) → is_accepted (verdict_of c a) ≡ false → Meant (verdict_of c a)
-    row_refused c Open w e = let z : ◌≡◌ {A = ℕ} 0 1 = cc in absurd (omega arith)
-    row_refused c Elsewhere w e = inl (f, files.floor_read, inr (p, files, w))
-    row_refused c (Shut s) w e = inl (f, files.floor_read, inr (p, files, w))
+    row_refused : (c : ℕ) (a : Result (Unit {0}) MoveFault) → FirstRefused floor f p (verdict_of c a) → is_accepted (verdict_of c a) ≡ false
+        → Meant (verdict_of c a)
+    row_refused c (Ok u) w e = let z : ◌≡◌ {A = ℕ} 0 1 = cc in absurd (omega arith)
+    row_refused c (Err Elsewhere) w e = inl (f, files.floor_read, inr (p, files, w))
+    row_refused c (Err (Shut s)) w e = inl (f, files.floor_read, inr (p, files, w))
 
     -- narrow places, by the verdict on them
     on_conflict : AllUnending floor f p
@@ -346,11 +346,11 @@ module _ (floor plan sheet : List ℕ) where
   unfolding checked after_reading
   meant fb = on_floor_lem (read_floor floor) refl
     where
-      on_plan : (f : Floor) → read_floor floor ≡ FloorAccepted f → (a : PlanAnswer) → read_plan f plan ≡ a
-          → Meant (after_plan (λ v. v) (stages floor sheet) f a)
+      on_plan : (f : Floor) → read_floor floor ≡ Ok f → (a : PlanAnswer) → read_plan f plan ≡ a
+          → Meant (after_plan told (stages floor sheet) f a)
       on_plan f e (accepted p) q = on_moves fb f p (record { floor_read = e; plan_read_lem = q })
       on_plan f e (rejected x) q = inl (f, e, inl q)
 
-      on_floor_lem : (a : FloorAnswer) → read_floor floor ≡ a → Meant (after_floor (λ v. v) (stages floor sheet) a plan)
-      on_floor_lem (FloorAccepted f) e = on_plan f e (read_plan f plan) refl
-      on_floor_lem (FloorRefused x) e = e
+      on_floor_lem : (a : Result Floor Refusal) → read_floor floor ≡ a → Meant (after_floor told (stages floor sheet) a plan)
+      on_floor_lem (Ok f) e = on_plan f e (read_plan f plan) refl
+      on_floor_lem (Err x) e = e

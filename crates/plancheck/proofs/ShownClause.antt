@@ -1,13 +1,12 @@
 -- "A clause refused by its number (as in 16 and 17) is shown as its own part of the sheet, picked by the verdict": what is shown is the clause that was
 -- judged.
-use Rattle.std.specs.Prelude.{ℕ, ◌<◌, ◌≡◌, List, [], ◌∷◌, ◌++◌, length, take, drop, get_or}
+use Rattle.std.specs.Prelude.{ℕ, ◌<◌, ◌≡◌, List, [], ◌∷◌, ◌++◌, length, drop, get_or}
 use Rattle.std.proofs.Common.{arith, sym, subst, inl, inr, length-drop}
 use Rattle.refusal.specs.Codes.{code_about, code_of, bytes_of, Fits32}
 use Rattle.refusal.specs.declared.Refusal.{Refusal}
 use Rattle.refusal.specs.declared.Verdict.{Verdict}
 use Rattle.refusal.specs.declared.Verdict.TheVariants.{Rules as AboutRules}
 use Rattle.clause.specs.Clause.{line_start, clause_in, span}
-use Rattle.clause.specs.Meaning.{IsClause}
 use Rattle.clause.specs.Promises.{Picked, Shown}
 use Rattle.clause.specs.Lines.{clause_at, clause_found, ends_from, ended}
 use Rattle.clause.specs.Demands.{Named, no_other_line}

@@ -4,6 +4,7 @@ use Rattle.std.proofs.Common.{arith, sym, ◌∙◌, inl, inr, eq-eqb, eqb-true}
 use Rattle.std.proofs.Math.Path.{◌≡◌, ap, ap₂}
 use mathlib.Core.List.{List}
 use Rattle.endian.specs.Little.{Bytes}
+use Rattle.refusal.specs.Results.{told}
 use Rattle.refusal.specs.Codes.{refused}
 use Rattle.refusal.specs.Stages.{is_accepted, and_then}
 use Rattle.refusal.specs.Accepting.{both_accepted, stops, goes_on}
@@ -125,7 +126,7 @@ module _ (floor plan sheet : List ℕ) where
 
   pub stages_read : (f : Floor) (p : PlanNumbers) → ReadAs floor plan f p → checked floor plan sheet ≡ stages floor sheet f p
   unfolding checked
-  stages_read f p files = read_on_lem (λ v. v) (stages floor sheet) floor plan f p files
+  stages_read f p files = read_on_lem told (stages floor sheet) floor plan f p files
 
   -- with floor and plan read as these
   pub accepted_as : (f : Floor) (p : PlanNumbers) → ReadAs floor plan f p → checked floor plan sheet ≡ Accepted
@@ -140,9 +141,9 @@ module _ (floor plan sheet : List ℕ) where
   -- what is accepted could be read
   pub accepted_read_lem : checked floor plan sheet ≡ Accepted → (f : Floor) × (p : PlanNumbers) × ReadAs floor plan f p
   unfolding checked
-  accepted_read_lem e = go (reading_cases (λ v. v) (stages floor sheet) floor plan)
+  accepted_read_lem e = go (reading_cases told (stages floor sheet) floor plan)
     where
-      go : ReadingCases (λ (v : Verdict). v) (stages floor sheet) floor plan → (f : Floor) × (p : PlanNumbers) × ReadAs floor plan f p
+      go : ReadingCases told (stages floor sheet) floor plan → (f : Floor) × (p : PlanNumbers) × ReadAs floor plan f p
       go (floor_refused x q) = let z : ◌≡◌ {A = ℕ} 0 1 = cc in absurd (omega arith)
       go (plan_refused x q) = let z : ◌≡◌ {A = ℕ} 0 1 = cc in absurd (omega arith)
       go (both_read f n w r) = (f, n, w)

@@ -1,19 +1,22 @@
 -- The clauses in one pass: what was found so far, and what is still to be said.
-use Rattle.std.specs.Prelude.{ℕ, suc, ◌+◌, ◌/◌, ◌%◌, ◌^◌, ◌≤◌, ◌<◌, ◌≡◌, Bool, eqb, ltb, length}
+use Rattle.std.specs.Prelude.{ℕ, suc, ◌+◌, ◌/◌, ◌%◌, ◌^◌, ◌≤◌, ◌<◌, ◌≡◌, Bool, eqb, ltb, length, Result, Ok, Err}
 use Rattle.std.proofs.Common.{arith, add-one, ◌∙◌, eq-eqb, ne_eqb}
+use Rattle.std.specs.Result.{result_and}
 use Rattle.std.proofs.Math.Path.{refl, sym, ap, ap₂}
 use Rattle.std.proofs.Math.Bool.{true, false, cond}
 use mathlib.Core.List.{List, [], ◌∷◌}
 use Rattle.refusal.specs.Codes.{refused}
 use Rattle.refusal.specs.Stages.{is_accepted, and_then}
-use Rattle.refusal.specs.Accepting.{accepted_is, stops, goes_on}
+use Rattle.refusal.specs.Results.{told, checked}
+use Rattle.refusal.specs.Accepting.{accepted_is, stops, goes_on, refused_stops}
+use Rattle.refusal.specs.declared.Refused.{Refused}
 use Rattle.refusal.specs.declared.Verdict.{Verdict}
 use Rattle.refusal.specs.declared.Verdict.TheVariants.{Accepted, Rules as AboutRules}
 use Rattle.grammar.specs.Grammar.{Clause}
 use Rattle.grammar.specs.Groups.{groups}
 use Rattle.grammar.specs.Reader.{read_sheet}
 use Rattle.sheet.specs.Rules.{rules_verdict}
-use Rattle.token.specs.declared.PartRead.{PartRead}
+use Rattle.token.specs.declared.Part.{Part}
 use Rattle.cltl.specs.Meaning.{Rows}
 use Rattle.cltl.specs.Rules.{rules, has_next}
 use Rattle.cltl.specs.Step.{failing}
@@ -47,6 +50,11 @@ in_order_lem x b f c k = go (is_accepted x) refl
     go false e =
         ap (λ (v : Verdict). and_then v (and_then f (and_then c k))) (stops x b e) ∙ stops x _ e
         ∙ sym (ap (λ (v : Verdict). and_then v (and_then (and_then (and_then x f) c) k)) (stops x b e) ∙ stops x _ e)
+
+-- results one after the other
+pub checked_and : {A B : Type 0} (a : Result A Refused) (b : Result B Refused) → checked (result_and a b) ≡ and_then (checked a) (checked b)
+checked_and (Ok x) b = refl
+checked_and (Err e) b = sym (stops (told e) (checked b) (refused_stops e))
 
 abbrev next_from : ℕ → ℕ → List Clause → Verdict
 next_from d n cs = cond (eqb d 0) Accepted (next_verdict n cs)
@@ -129,7 +137,7 @@ module _ (P : Rows) (d : ℕ) where
       go true = refl
       go false = refl
 
-  module _ (many : ℕ) (s before : List ℕ) (r : PartRead) (block : List ℕ) (at n : ℕ) (next found : Verdict) (g : Going many s at n next found)
+  module _ (many : ℕ) (s before : List ℕ) (r : Part) (block : List ℕ) (at n : ℕ) (next found : Verdict) (g : Going many s at n next found)
       (l : Line s before r block n g.rest) where
     -- the first group that the clause names and the floor lacks
     abbrev lacking : List ℕ

@@ -1,6 +1,7 @@
 -- "Checking a plan: floor, plan, moves, sheet as above; then 16 with d above 0, X outside a count (lowest clause, 0); then 17, lowest clause
 -- not true (clause, step)." Document 02: 2) between moves and sheet 20, 6) "after the sheet is read and before 16" 21.
 use Rattle.std.specs.Prelude.{ℕ, suc, cond, List, [], ◌∷◌, eqb, ltb, get_or}
+use Rattle.refusal.specs.Results.{told}
 use Rattle.refusal.specs.Codes.{refused}
 use Rattle.refusal.specs.Stages.{and_then}
 use Rattle.refusal.specs.declared.Verdict.{Verdict}
@@ -86,4 +87,4 @@ stages floor sheet f p =
     (and_then (rules_verdict sheet) (clauses_verdict (plan_rows floor f p) p.head.drift f.groups (clauses_of (read_sheet sheet)))))
 
 unfoldable pub checked : List ℕ → List ℕ → List ℕ → Verdict
-checked floor plan sheet = after_reading (λ v. v) (stages floor sheet) floor plan
+checked floor plan sheet = after_reading told (stages floor sheet) floor plan

@@ -2,6 +2,7 @@
 pub mod Check
 pub mod Meaning
 pub mod Turns
+pub mod Readable
 -- promises
 pub mod Promises
 -- worked cases

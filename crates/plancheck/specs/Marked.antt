@@ -1,5 +1,5 @@
 -- The tables of a plan's marks show what its rows bear, and the words of its groups their carts.
-use Prim.Native.Nat.{ℕ, zero, suc, ◌+◌, ◌*◌, ◌-◌, ◌^◌, ◌≤◌, ◌<◌}
+use Prim.Native.Nat.{ℕ, zero, suc, ◌*◌, ◌-◌, ◌^◌, ◌≤◌, ◌<◌}
 use Rattle.std.proofs.Common.{arith, sym, ◌∙◌, ⊎_elim, pow_pos, get_or-take, get_or-drop}
 use Rattle.std.specs.Prelude.{◌≡◌, Bool, List, get_or, drop, length}
 use Rattle.std.proofs.Math.Path.{ap, fun_ext}

@@ -1,11 +1,10 @@
 -- What the verdicts of the check mean.
-use Rattle.std.specs.Prelude.{ℕ, ◌≤◌, ◌<◌, ◌≡◌, ◌⊎◌, List, [], ◌∷◌, ◌++◌, T, length, take, drop, get_or}
+use Rattle.std.specs.Prelude.{ℕ, ◌≤◌, ◌<◌, ◌≡◌, ◌⊎◌, List, [], ◌∷◌, ◌++◌, T, length, take, drop, get_or, Ok}
 use Rattle.refusal.specs.declared.Refusal.{Refusal}
 use Rattle.refusal.specs.declared.Verdict.TheVariants.{Plan as AboutPlan, Rules as AboutRules}
 use Rattle.record.specs.All.{All}
 use Rattle.floor.specs.Floor.{read_floor}
 use Rattle.floor.specs.declared.Floor.{Floor}
-use Rattle.floor.specs.declared.FloorAnswer.TheVariants.{Read as FloorAccepted}
 use Rattle.plan.specs.Plan.{PlanNumbers, rejected, read_plan}
 use Rattle.plan.specs.Numbers.{head_of}
 use Rattle.plan.specs.After.{ReadAs}
@@ -67,7 +66,7 @@ module _ (floor plan : List ℕ) where
   -- about the plan, but for 20: refused as it is read, or, once read, as the first cart is whose moves are refused
   abbrev pub PlanRefused : Refusal → Type 0
   PlanRefused x =
-      (f : Floor) × (read_floor floor ≡ FloorAccepted f)
+      (f : Floor) × (read_floor floor ≡ Ok f)
       × ((read_plan f plan ≡ rejected x) ⊎ ((p : PlanNumbers) × ReadAs floor plan f p × FirstRefused floor f p (AboutPlan x)))
 
 module _ (floor plan sheet : List ℕ) where

@@ -1,5 +1,5 @@
 -- What the check of a plan promises: the whole claim.
-use Rattle.std.specs.Prelude.{ℕ, ◌≤◌, ◌≡◌, ◌↔◌, List}
+use Rattle.std.specs.Prelude.{ℕ, ◌≤◌, ◌≡◌, ◌↔◌, List, Err}
 use Rattle.endian.specs.Little.{bytes}
 use Rattle.refusal.specs.Codes.{refused}
 use Rattle.refusal.specs.Given.{OneOf, Given, clause_numbers, checking_plan}
@@ -10,7 +10,6 @@ use Rattle.record.specs.All.{All}
 use Rattle.record.specs.Buffer.{stored}
 use Rattle.floor.specs.Floor.{read_floor}
 use Rattle.floor.specs.declared.Floor.{Floor}
-use Rattle.floor.specs.declared.FloorAnswer.TheVariants.{Refused as FloorRefused}
 use Rattle.plan.specs.Plan.{PlanNumbers}
 use Rattle.plan.specs.After.{ReadAs}
 use Rattle.moves.specs.Promises.{Moving}
@@ -64,6 +63,6 @@ module _ (floor plan sheet : List ℕ) where
     -- a number that comes with a clause comes with one that the sheet has
     pub names_clause_lem : (x : Refusal) → v ≡ AboutRules x → OneOf clause_numbers x.number → NamesClause sheet x.first x.second
     -- every other refusal is that of the floor, the plan, its moves or the sheet, in this order
-    pub floor_refused : (x : Refusal) → v ≡ AboutFloor x → read_floor floor ≡ FloorRefused x
+    pub floor_refused : (x : Refusal) → v ≡ AboutFloor x → read_floor floor ≡ Err x
     pub plan_refused : (x : Refusal) → v ≡ AboutPlan x → (x.number ≡ 20 → ⊥) → PlanRefused floor plan x
     pub sheet_refused : (x : Refusal) → v ≡ AboutRules x → (OneOf clause_numbers x.number → ⊥) → SheetRefused floor plan sheet x

@@ -1,5 +1,5 @@
 -- What one clause says of 16, for the clauses in one pass.
-use Rattle.std.specs.Prelude.{ℕ, false, cond, eqb}
+use Rattle.std.specs.Prelude.{ℕ, cond, eqb}
 use Rattle.grammar.specs.Grammar.{Clause}
 use Rattle.refusal.specs.Codes.{refused}
 use Rattle.refusal.specs.declared.Verdict.{Verdict}

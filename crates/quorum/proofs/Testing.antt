@@ -8,7 +8,3 @@ yes b bit r e q = q ∙ sym (ap (λ (t : Bool). cond t bit 0) e)
 
 pub no : (b : Bool) (bit r : ℕ) → b ≡ false → r ≡ 0 → r ≡ cond b bit 0
 no b bit r e q = q ∙ sym (ap (λ (t : Bool). cond t bit 0) e)
-
--- a bit of the table
-pub told : (b : Bool) (bit r k : ℕ) → bit ≡ k → r ≡ cond b bit 0 → r ≡ cond b k 0
-told b bit r k e q = q ∙ ap (λ (t : ℕ). cond b t 0) e

@@ -1,56 +1,27 @@
 // The steps whose words have bits enough. A table of the bits is lent: to join its words makes vectors of a loop where to move bits does not.
-ghost use Rattle.std.specs.Prelude.{ℕ, ◌+◌, ◌^◌, ◌≤◌, ◌<◌, ◌≡◌, cond, leb, eqb, length, get_or};
+ghost use Rattle.std.specs.Prelude.{ℕ, ◌+◌, ◌^◌, ◌≤◌, ◌<◌, ◌≡◌, Bool, leb, length, get_or};
 ghost use Rattle.std.specs.Int.Count.{ones};
 ghost use Rattle.mask.specs.Mask.{Row};
 ghost use Rattle.quorum.specs.Words.{Bits};
 
-fn if_same(x: u32, y: u32, bit: u32) -> u32
-    ensures { result ≡ cond (eqb x y) bit 0 }
-{
-    if x == y { bit } else { 0 }
-}
-
-fn if_enough(m: u32, n: u32, bit: u32) -> u32
-    ensures { result ≡ cond (leb m n) bit 0 }
-{
-    if m <= n { bit } else { 0 }
-}
-
-// Of the n words from `at` on, those that are x.
-fn same(w: &[u32; 81], at: usize, x: u32, n: usize, bits: &[u32; 41]) -> u32
-    requires w_len { length w.now ≡ 81 }
-    requires n_bound { (n ≤ 32) × (at + n ≤ 81) }
+// Of n numbers, those that the test accepts. A bit is read before its test, or the loop makes no vectors.
+pub(crate) fn row_of<F: Fn(usize) -> bool>(n: usize, bits: &[u32; 41], test: F) -> u32
+    requires n_bound { n ≤ 32 }
     requires bits { Bits bits.now }
-    ensures { Row n result (λ j. eqb (get_or w.now (at + j) 0) x) }
+    requires callable { (j : ℕ) → j < n → F.pre test j }
+    ensures { (f : ℕ → Bool) → ((j : ℕ) (r : Bool) → j < n → F.post test j r → r ≡ f j) → Row n result f }
 {
     let mut row = 0;
-    let mut j = 0;
-    while j < n {
-        row = row | if_same(w[at + j], x, bits[j]);
-        j += 1;
+    for j in 0..n {
+        let bit = bits[j];
+        row |= if test(j) { bit } else { 0 };
     }
     row
 }
 
-// Of the n words from `at` on, those with at least m bits.
-fn counted(w: &[u32; 81], at: usize, m: u32, n: usize, bits: &[u32; 41]) -> u32
-    requires w_len { length w.now ≡ 81 }
-    requires n_bound { (n ≤ 32) × (at + n ≤ 81) }
-    requires bits { Bits bits.now }
-    ensures { Row n result (λ j. leb m (ones (get_or w.now (at + j) 0))) }
-{
-    let mut row = 0;
-    let mut j = 0;
-    while j < n {
-        row = row | if_enough(m, u32::count_ones(w[at + j]), bits[j]);
-        j += 1;
-    }
-    row
-}
-
-// The same, where the words have bits of carts alone: more carts than there are no word has, and all carts or at least one need no counting.
+// Of the n words from `at` on, those with at least m bits, where the words have bits of carts alone: more carts than there are no word has, and all carts
+// or at least one need no counting.
 fn part(w: &[u32; 81], at: usize, m: usize, carts: usize, n: usize, bits: &[u32; 41]) -> u32
-    requires w_len { length w.now ≡ 81 }
     requires carts_bound { (carts ≤ 32) × (n ≤ 32) × (at + n ≤ 81) }
     requires bits { Bits bits.now }
     requires by_index { (j : ℕ) → j < n → get_or w.now (at + j) 0 < 2 ^ carts }
@@ -60,15 +31,31 @@ fn part(w: &[u32; 81], at: usize, m: usize, carts: usize, n: usize, bits: &[u32;
         return 0;
     }
     if m == carts {
-        return same(w, at, crate::words::lowest(carts), n, bits);
+        let all = crate::words::lowest(carts);
+        return row_of(n, bits, move |j| w[at + j] == all);
     }
     if m == 1 {
-        return same(w, at, 0, n, bits) ^ crate::words::lowest(n);
+        return row_of(n, bits, move |j| w[at + j] == 0) ^ crate::words::lowest(n);
     }
-    counted(w, at, m as u32, n, bits)
+    row_of(n, bits, move |j| m as u32 <= w[at + j].count_ones())
 }
 
-// Of the h words from `from` on, those with at least m bits, in two parts: there are 32 bits in the table.
+// The row of h numbers from `from` on in two parts, each made from its first number and its size: there are 32 bits in the table.
+pub(crate) fn in_parts<F: Fn(usize, usize) -> u32>(from: usize, h: usize, part: F) -> u64
+    requires h_bound { (h ≤ 64) × (from + h ≤ 2048) }
+    requires callable { (at n : ℕ) → from ≤ at → at + n ≤ from + h → n ≤ 32 → F.pre part at n }
+    ensures { (f : ℕ → Bool) → ((at n r : ℕ) → from ≤ at → at + n ≤ from + h → n ≤ 32 → F.post part at n r → Row n r (λ j. f (at + j)))
+        → Row h result (λ j. f (from + j)) }
+{
+    if h <= 32 {
+        return part(from, h) as u64;
+    }
+    let low = part(from, 32) as u64;
+    let high = part(from + 32, h - 32) as u64;
+    low | (high << 32)
+}
+
+// Of the h words from `from` on, those with at least m bits.
 pub(crate) fn at_least(
     w: &[u32; 81],
     from: usize,
@@ -77,16 +64,10 @@ pub(crate) fn at_least(
     h: usize,
     bits: &[u32; 41],
 ) -> u64
-    requires w_len { length w.now ≡ 81 }
     requires carts_bound { (carts ≤ 32) × (h ≤ 64) × (from + h ≤ 81) }
     requires bits { Bits bits.now }
     requires by_index { (s : ℕ) → s < h → get_or w.now (from + s) 0 < 2 ^ carts }
     ensures { Row h result (λ s. leb m (ones (get_or w.now (from + s) 0))) }
 {
-    if h <= 32 {
-        return part(w, from, m, carts, h, bits) as u64;
-    }
-    let low = part(w, from, m, carts, 32, bits) as u64;
-    let high = part(w, from + 32, m, carts, h - 32, bits) as u64;
-    low | (high << 32)
+    in_parts(from, h, move |at, n| part(w, at, m, carts, n, bits))
 }

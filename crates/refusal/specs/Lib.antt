@@ -1,6 +1,7 @@
 -- definitions
 pub mod Codes
 pub mod Stages
+pub mod Results
 pub mod Given
 pub mod Outcome
 -- worked cases

@@ -4,6 +4,7 @@
 ghost use Rattle.std.specs.Prelude.{◌≡◌};
 ghost use Rattle.refusal.specs.Codes.{refused, at_offset, code_about, code_of, bytes_of};
 ghost use Rattle.refusal.specs.Stages.{is_accepted};
+ghost use Rattle.refusal.specs.Results.{told, checked, wrote};
 
 // A refusal's number and its two further numbers.
 #[derive(Clone, Copy)]
@@ -13,7 +14,16 @@ pub struct Refusal {
     pub second: u32,
 }
 
-// What an operation answers: accepted, or a result of so many bytes written, or a refusal and the file that it is about.
+// A refusal and the file that it is about.
+#[derive(Clone, Copy)]
+pub enum Refused {
+    Floor(Refusal),
+    Plan(Refusal),
+    Rules(Refusal),
+}
+
+// What any operation answers, as its four numbers tell it: accepted, or a result of so many bytes written, or refused. Operations themselves give results.
+// Kept: `code_of`, `verdict_bytes` and the theorems on `Given` and `Answered` are of every verdict.
 #[derive(Clone, Copy)]
 pub enum Verdict {
     Accepted,
@@ -108,11 +118,41 @@ pub fn verdict_bytes(v: Verdict) -> [u8; 16]
 pub fn accepts(v: Verdict) -> bool
     ensures { result ≡ is_accepted v }
 {
-    match v {
-        Verdict::Accepted => true,
-        Verdict::Written(_) => false,
-        Verdict::Floor(_) => false,
-        Verdict::Plan(_) => false,
-        Verdict::Rules(_) => false,
+    matches!(v, Verdict::Accepted)
+}
+
+impl From<Refused> for Verdict {
+    ghost from_gives = { λ e v. v ≡ told e };
+
+    fn from(e: Refused) -> Verdict {
+        match e {
+            Refused::Floor(r) => Verdict::Floor(r),
+            Refused::Plan(r) => Verdict::Plan(r),
+            Refused::Rules(r) => Verdict::Rules(r),
+        }
+    }
+}
+
+// What a check answers: nothing, or a refusal.
+impl From<Result<(), Refused>> for Verdict {
+    ghost from_gives = { λ r v. v ≡ checked r };
+
+    fn from(r: Result<(), Refused>) -> Verdict {
+        match r {
+            Ok(()) => Verdict::Accepted,
+            Err(e) => e.into(),
+        }
+    }
+}
+
+// What writing answers: how many bytes it wrote, or a refusal.
+impl From<Result<u32, Refused>> for Verdict {
+    ghost from_gives = { λ r v. v ≡ wrote r };
+
+    fn from(r: Result<u32, Refused>) -> Verdict {
+        match r {
+            Ok(n) => Verdict::Written(n),
+            Err(e) => e.into(),
+        }
     }
 }

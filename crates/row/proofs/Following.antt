@@ -1,7 +1,7 @@
 -- Lanes followed along the links of a place: what holds before each turn.
 use Prim.Native.Nat.{ℕ, zero, suc, ◌+◌, ◌-◌, ◌≤◌, ◌<◌}
 use native.Mathlib.Omega.{arith}
-use mathlib.Core.Path.{◌≡◌, sym, ap, ap₂, subst, ◌∙◌}
+use mathlib.Core.Path.{◌≡◌, refl, sym, ap, ap₂, subst, ◌∙◌}
 use mathlib.Core.Bool.{Bool, true, false, ◌&&◌, ◌||◌}
 use mathlib.Core.Logic.{◌⊎◌, inl, inr}
 use mathlib.Core.List.{List, []}
@@ -12,7 +12,10 @@ use Rattle.floor.specs.Numbers.{lane_at}
 use Rattle.floor.specs.Promises.{AcceptedFloor}
 use Rattle.floor.specs.declared.Floor.{Floor}
 use Rattle.row.specs.Moves.{bit, opens, some_lane_opens, lanes_in}
-use Rattle.row.specs.Chain.{Leads}
+use Rattle.row.specs.Chain.{Leads, Chained}
+use Rattle.std.proofs.Math.Logic.{∥∥₁_elim, ∥∥₁_map}
+use Rattle.std.proofs.Math.Bool.{Bool-set}
+use Rattle.std.proofs.Math.Bridge.{le_prop}
 use Rattle.row.proofs.Linked.{Linked, linked, ended, later}
 use Rattle.row.proofs.FloorBytes.{lane_count, lane_byte}
 
@@ -84,3 +87,32 @@ module _ (s next : List ℕ) (f : Floor) (w : AcceptedFloor s f) (c a b k : ℕ)
     falls n q =
         let e : get_or next it.lane 0 ≡ n = ap (λ (i : ℕ). get_or next i 0) lane_is ∙ sym q in
         subst (λ (x : ℕ). rank n < rank x) (sym it.is) (sinks n (subst (λ (x : ℕ). (x ≡ 0) ⊎ (suc it.lane < x)) e (later (lanes_in s) next a it.rest)))
+
+---- The same where it is only known that some lane is such.
+module _ (s next : List ℕ) (f : Floor) (w : AcceptedFloor s f) (c a b k : ℕ) (g : ∥ Following s next c a b k ∥₁) where
+  pub none_opens : k ≡ 0 → false ≡ some_lane_opens (lanes_in s) c a b
+  none_opens z = ∥∥₁_elim g (Bool-set _ _) (λ x. none_open s next f w c a b k x z)
+
+  module _ (some : k ≡ 0 → ⊥) where
+    pub link_below : k - 1 < f.lanes
+    link_below = ∥∥₁_elim g le_prop (λ x. lane_below s next f w c a b k x some)
+
+    pub link_falls : (n : ℕ) → n ≡ get_or next (k - 1) 0 → rank n < rank k
+    link_falls n q = ∥∥₁_elim g le_prop (λ x. falls s next f w c a b k x some n q)
+
+    module _ (at : ℕ) (here : at ≡ lane_at f (k - 1)) (t : Bool) (e : t ≡ (eqb (get_or s (at + 4 + 1) 0) b && bit c (get_or s (at + 4 + 2) 0))) where
+      pub link_opens : t ≡ true → true ≡ some_lane_opens (lanes_in s) c a b
+      link_opens z = ∥∥₁_elim g (Bool-set _ _) (λ x. found s next f w c a b k x some at here t e z)
+
+      pub link_again : t ≡ false → (n : ℕ) → n ≡ get_or next (k - 1) 0 → ∥ Following s next c a b n ∥₁
+      link_again z n q = ∥∥₁_map g (λ x. again s next f w c a b k x some at here t e z n q)
+
+-- from the first link of a place on
+pub first_link : (s first next : List ℕ) (c a b k : ℕ) → ∥ Chained (lanes_in s) first next 0 ∥₁ → a < 256 → k ≡ get_or first a 0
+    → ∥ Following s next c a b k ∥₁
+first_link s first next c a b k g below e = ∥∥₁_map g (λ chained. record {
+  from = 0;
+  within = omega arith;
+  leads = subst (λ (n : ℕ). Leads (lanes_in s) next a n 0) (sym e) (chained a below);
+  same = refl;
+})

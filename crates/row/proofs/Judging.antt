@@ -1,5 +1,6 @@
 -- The moves of a row judged from its first step on: what holds before each turn.
 use Prim.Native.Nat.{ℕ, suc, ◌-◌, ◌≤◌, ◌<◌}
+use Rattle.std.specs.Prelude.{Err}
 use native.Mathlib.Omega.{arith}
 use mathlib.Core.Path.{◌≡◌, sym, ap, ◌∙◌}
 use mathlib.Core.Bool.{Bool, true, false, not}
@@ -9,7 +10,7 @@ use Rattle.refusal.specs.Faults.{not_is}
 use Rattle.row.specs.Lasso.{next_step}
 use Rattle.row.specs.Moves.{is_open, lowest_shut, judged_moves}
 use Rattle.row.specs.Judged.{open_on, shut_here, at_start}
-use Rattle.row.specs.declared.MoveAnswer.TheVariants.{Shut}
+use Rattle.row.specs.declared.MoveFault.TheVariants.{Shut}
 
 -- the steps from i on decide
 pub record Judging (lanes : List (List ℕ)) (c start : ℕ) (row : List ℕ) (l i : ℕ) : Type 0 where
@@ -29,7 +30,7 @@ module _ (lanes : List (List ℕ)) (c start : ℕ) (row : List ℕ) (l : ℕ) wh
     move : (b : Bool) → t ≡ b → is_open lanes c (get_or row i 0) (get_or row (next_step (length row) l i) 0) ≡ b
     move b z = ap (λ (s : ℕ). is_open lanes c (get_or row i 0) (get_or row s 0)) (sym at) ∙ sym e ∙ z
 
-    pub shut : not t ≡ true → Shut i ≡ judged_moves lanes c start row (length row) l
+    pub shut : not t ≡ true → Err (Shut i) ≡ judged_moves lanes c start row (length row) l
     shut z = sym (w.same ∙ shut_here lanes c row (length row) l i m (move false (not_is t true z)))
 
     pub onward : not t ≡ false → Judging lanes c start row l (suc i)

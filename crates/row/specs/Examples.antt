@@ -1,9 +1,9 @@
 -- The definitions on small cases, by computation.
-use Rattle.std.specs.Prelude.{◌≡◌, refl, true, false, List, [], ◌∷◌, ℕ}
+use Rattle.std.specs.Prelude.{◌≡◌, refl, true, false, List, [], ◌∷◌, ℕ, Result, Ok, Err}
 use Rattle.row.specs.Lasso.{next_step, step_of}
 use Rattle.row.specs.Moves.{some_lane_opens, is_open, lowest_shut, judged_moves}
-use Rattle.row.specs.declared.MoveAnswer.{MoveAnswer}
-use Rattle.row.specs.declared.MoveAnswer.TheVariants.{Open, Elsewhere, Shut}
+use Rattle.row.specs.declared.MoveFault.{MoveFault}
+use Rattle.row.specs.declared.MoveFault.TheVariants.{Elsewhere, Shut}
 
 -- one lane, from place 0 to place 1 for class 0
 abbrev one_way : List (List ℕ)
@@ -18,11 +18,11 @@ abbrev two_ways : List (List ℕ)
 two_ways = (0 ∷ 1 ∷ 5 ∷ []) ∷ (1 ∷ 0 ∷ 1 ∷ []) ∷ (1 ∷ 0 ∷ 4 ∷ []) ∷ []
 
 -- the row 0 1 of a cart of class 2, by its start and the lap's first step
-abbrev judged : ℕ → ℕ → MoveAnswer
+abbrev judged : ℕ → ℕ → Result (Unit {0}) MoveFault
 judged start l = judged_moves two_ways 2 start (0 ∷ 1 ∷ []) 2 l
 
 -- a row from place 0 on a floor whose one lane is from 0 to 1, for class 0
-abbrev one_way_row : List ℕ → ℕ → ℕ → MoveAnswer
+abbrev one_way_row : List ℕ → ℕ → ℕ → Result (Unit {0}) MoveFault
 one_way_row row h l = judged_moves one_way 0 0 row h l
 
 pub worked :
@@ -42,9 +42,9 @@ pub worked :
     -- "either opens it"
     × (is_open two_ways 0 1 0 ≡ true)
     × (is_open two_ways 2 1 0 ≡ true)
-    × (judged 0 0 ≡ Open)
+    × (judged 0 0 ≡ Ok tt)
     -- 10 before 11
-    × (judged 1 1 ≡ Elsewhere)
+    × (judged 1 1 ≡ Err Elsewhere)
     -- a cart parks on any place: with no lane on the floor, on a place that none leaves, beside a lane that leaves it, whatever its class
     × (is_open [] 0 0 0 ≡ true)
     × (is_open one_way 7 1 1 ≡ true)
@@ -53,16 +53,16 @@ pub worked :
     × (is_open to_itself 1 0 0 ≡ true)
     × (is_open to_itself 0 0 1 ≡ false)
     -- the closing move too: the lap is the last step alone, or the only one
-    × (judged 0 1 ≡ Open)
-    × (judged_moves [] 7 3 (3 ∷ []) 1 0 ≡ Open)
+    × (judged 0 1 ≡ Ok tt)
+    × (judged_moves [] 7 3 (3 ∷ []) 1 0 ≡ Ok tt)
     -- but from another start it is refused
-    × (judged_moves [] 7 2 (3 ∷ []) 1 0 ≡ Elsewhere)
+    × (judged_moves [] 7 2 (3 ∷ []) 1 0 ≡ Err Elsewhere)
     -- 11 at the step left for another place, and not where the cart was parked before or after it
-    × (one_way_row (0 ∷ 0 ∷ 1 ∷ 1 ∷ []) 4 2 ≡ Open)
-    × (one_way_row (0 ∷ 0 ∷ 1 ∷ 1 ∷ []) 4 0 ≡ Shut 3)
-    × (judged_moves [] 0 0 (0 ∷ 0 ∷ 1 ∷ 1 ∷ []) 4 2 ≡ Shut 1)
+    × (one_way_row (0 ∷ 0 ∷ 1 ∷ 1 ∷ []) 4 2 ≡ Ok tt)
+    × (one_way_row (0 ∷ 0 ∷ 1 ∷ 1 ∷ []) 4 0 ≡ Err (Shut 3))
+    × (judged_moves [] 0 0 (0 ∷ 0 ∷ 1 ∷ 1 ∷ []) 4 2 ≡ Err (Shut 1))
     -- the lowest of two
-    × (judged_moves [] 0 0 (0 ∷ 0 ∷ 1 ∷ 0 ∷ []) 4 0 ≡ Shut 1)
+    × (judged_moves [] 0 0 (0 ∷ 0 ∷ 1 ∷ 0 ∷ []) 4 0 ≡ Err (Shut 1))
 unfolding next_step step_of some_lane_opens is_open lowest_shut judged_moves
 worked = (
   refl,

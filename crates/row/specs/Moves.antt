@@ -1,11 +1,11 @@
 -- Moves: which are open, and what is refused of a row.
-use Rattle.std.specs.Prelude.{ℕ, ◌/◌, ◌%◌, ◌^◌, Bool, false, cond, ◌&&◌, ◌||◌, List, [], ◌∷◌, eqb, get_or}
+use Rattle.std.specs.Prelude.{ℕ, ◌/◌, ◌%◌, ◌^◌, Bool, false, cond, ◌&&◌, ◌||◌, List, [], ◌∷◌, eqb, get_or, Result, Ok, Err}
 use Rattle.record.specs.Parts.{parts}
 use Rattle.floor.specs.Numbers.{numbers_of}
 use Rattle.row.specs.First.{first_failing}
 use Rattle.row.specs.Lasso.{next_step}
-use Rattle.row.specs.declared.MoveAnswer.{MoveAnswer}
-use Rattle.row.specs.declared.MoveAnswer.TheVariants.{Open, Elsewhere, Shut}
+use Rattle.row.specs.declared.MoveFault.{MoveFault}
+use Rattle.row.specs.declared.MoveFault.TheVariants.{Elsewhere, Shut}
 
 -- "classes (a byte each; bit c opens it to class c)"
 abbrev pub bit : ℕ → ℕ → Bool
@@ -37,9 +37,9 @@ abbrev pub open_at : List (List ℕ) → ℕ → List ℕ → ℕ → ℕ → �
 open_at lanes class row h l s = is_open lanes class (get_or row s 0) (get_or row (next_step h l s) 0)
 
 -- the lowest of n steps from s on that is left by a move that is not open
-unfoldable pub lowest_shut : List (List ℕ) → ℕ → List ℕ → ℕ → ℕ → ℕ → ℕ → MoveAnswer
-lowest_shut lanes class row h l n s = first_failing (open_at lanes class row h l) Shut (λ end. Open) n s
+unfoldable pub lowest_shut : List (List ℕ) → ℕ → List ℕ → ℕ → ℕ → ℕ → ℕ → Result (Unit {0}) MoveFault
+lowest_shut lanes class row h l n s = first_failing (open_at lanes class row h l) (λ k. Err (Shut k)) (λ end. Ok tt) n s
 
 -- "10 first place is not the start .., then 11 no open lane", which document 02, 1) gives only between two different places
-unfoldable pub judged_moves : List (List ℕ) → ℕ → ℕ → List ℕ → ℕ → ℕ → MoveAnswer
-judged_moves lanes class start row h l = cond (eqb (get_or row 0 0) start) (lowest_shut lanes class row h l h 0) Elsewhere
+unfoldable pub judged_moves : List (List ℕ) → ℕ → ℕ → List ℕ → ℕ → ℕ → Result (Unit {0}) MoveFault
+judged_moves lanes class start row h l = cond (eqb (get_or row 0 0) start) (lowest_shut lanes class row h l h 0) (Err Elsewhere)

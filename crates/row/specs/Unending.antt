@@ -1,5 +1,5 @@
 -- Moves are accepted exactly if they are open at every counter, without end; a refused step is the lowest.
-use Rattle.std.specs.Prelude.{ℕ, suc, ◌+◌, ◌<◌, Bool, List, get_or}
+use Rattle.std.specs.Prelude.{ℕ, suc, ◌+◌, ◌<◌, Bool, List, get_or, Result, Ok, Err}
 use native.Mathlib.Omega.{arith}
 use Rattle.std.proofs.Math.Path.{◌≡◌, refl, ap, ap₂, subst}
 use Rattle.std.proofs.Common.{sym, ◌∙◌}
@@ -14,28 +14,29 @@ use Rattle.row.specs.Meaning.{Unending, Lowest}
 use Rattle.row.specs.Judged.{at_start}
 use Rattle.row.specs.Parking.{shut_apart}
 use Rattle.row.specs.Round.{step_low, step_below, step_next}
-use Rattle.row.specs.declared.MoveAnswer.{MoveAnswer}
-use Rattle.row.specs.declared.MoveAnswer.TheVariants.{Open, Elsewhere, Shut}
+use Rattle.row.specs.declared.MoveFault.{MoveFault}
+use Rattle.row.specs.declared.MoveFault.TheVariants.{Elsewhere, Shut}
 
 module _ (lanes : List (List ℕ)) (class : ℕ) (row : List ℕ) (h l : ℕ) where
-  abbrev whole : MoveAnswer
+  abbrev whole : Result (Unit {0}) MoveFault
   whole = lowest_shut lanes class row h l h 0
 
   -- no step refused: every one is left by an open move
-  all_open : whole ≡ Open → (k : ℕ) → k < h → open_at lanes class row h l k ≡ true
+  all_open : whole ≡ Ok tt → (k : ℕ) → k < h → open_at lanes class row h l k ≡ true
   unfolding lowest_shut
   all_open e k q =
-      all_pass (open_at lanes class row h l) Shut (λ end. Open) h 0 (λ k f u. let z : ◌≡◌ {A = ℕ} 0 1 = cc in absurd (omega arith)) e k
+      all_pass (open_at lanes class row h l) (λ k. Err (Shut k)) (λ end. Ok tt) h 0 (λ k f u. let z : ◌≡◌ {A = ℕ} 0 1 = cc in absurd (omega arith)) e k
       (omega arith) (omega arith)
 
-  none_shut : ((k : ℕ) → k < h → open_at lanes class row h l k ≡ true) → whole ≡ Open
+  none_shut : ((k : ℕ) → k < h → open_at lanes class row h l k ≡ true) → whole ≡ Ok tt
   unfolding lowest_shut
-  none_shut f = none_fails (open_at lanes class row h l) Shut (λ end. Open) h 0 (λ k p q. f k (omega arith))
+  none_shut f = none_fails (open_at lanes class row h l) (λ k. Err (Shut k)) (λ end. Ok tt) h 0 (λ k p q. f k (omega arith))
 
-  lowest : (k : ℕ) → whole ≡ Shut k → Lowest lanes class row h l k
+  lowest : (k : ℕ) → whole ≡ Err (Shut k) → Lowest lanes class row h l k
   unfolding lowest_shut
   lowest k e =
-      let w = first_fault_lem (open_at lanes class row h l) Shut (λ end. Open) h 0 (λ u. let z : ◌≡◌ {A = ℕ} 0 1 = cc in absurd (omega arith)) in
+      let other : whole ≡ Ok tt → ⊥ = λ u. let z : ◌≡◌ {A = ℕ} 0 1 = cc in omega arith in
+      let w = first_fault_lem (open_at lanes class row h l) (λ k. Err (Shut k)) (λ end. Ok tt) h 0 other in
       let s = w.is in
       let z : w.at ≡ k = cc in
       let top : 0 + h ≡ h = omega arith in
@@ -43,11 +44,11 @@ module _ (lanes : List (List ℕ)) (class : ℕ) (row : List ℕ) (h l : ℕ) wh
       subst (Lowest lanes class row h l) z (record { first = f; departs = shut_apart lanes class _ _ f.fails })
 
   -- only such moves are accepted
-  pub unending : (start : ℕ) → l < h → judged_moves lanes class start row h l ≡ Open → Unending lanes class start row h l
+  pub unending : (start : ℕ) → l < h → judged_moves lanes class start row h l ≡ Ok tt → Unending lanes class start row h l
   unfolding judged_moves
   unending start some e = go (eqb (get_or row 0 0) start) refl e
     where
-      go : (b : Bool) → eqb (get_or row 0 0) start ≡ b → cond b whole Elsewhere ≡ Open → Unending lanes class start row h l
+      go : (b : Bool) → eqb (get_or row 0 0) start ≡ b → cond b whole (Err Elsewhere) ≡ Ok tt → Unending lanes class start row h l
       go false q e = let z : ◌≡◌ {A = ℕ} 0 1 = cc in absurd (omega arith)
       go true q e = record {
         begins = eqb-true _ _ q;
@@ -57,28 +58,28 @@ module _ (lanes : List (List ℕ)) (class : ℕ) (row : List ℕ) (h l : ℕ) wh
       }
 
   -- and all such moves are
-  pub accepts_all : (start : ℕ) → l < h → Unending lanes class start row h l → judged_moves lanes class start row h l ≡ Open
+  pub accepts_all : (start : ℕ) → l < h → Unending lanes class start row h l → judged_moves lanes class start row h l ≡ Ok tt
   unfolding judged_moves
   accepts_all start some w =
-      ap (λ (b : Bool). cond b whole Elsewhere) (eq-eqb _ _ w.begins)
+      ap (λ (b : Bool). cond b whole (Err Elsewhere)) (eq-eqb _ _ w.begins)
       ∙ none_shut (λ k p.
       let here : step_of h l k ≡ k = step_low h l k p in
       let then : step_of h l (suc k) ≡ next_step h l k = step_next h l some k ∙ ap (next_step h l) here in
       ap₂ (λ (x y : ℕ). is_open lanes class (get_or row x 0) (get_or row y 0)) (sym here) (sym then) ∙ w.open_at_lem k)
 
   -- 10: it begins elsewhere
-  pub refused_start : (start : ℕ) → judged_moves lanes class start row h l ≡ Elsewhere → get_or row 0 0 ≡ start → ⊥
+  pub refused_start : (start : ℕ) → judged_moves lanes class start row h l ≡ Err Elsewhere → get_or row 0 0 ≡ start → ⊥
   unfolding lowest_shut
   refused_start start e q =
-      each_answer (open_at lanes class row h l) Shut (λ end. Open) h 0 (λ (a : MoveAnswer). a ≡ Elsewhere → ⊥)
+      each_answer (open_at lanes class row h l) (λ k. Err (Shut k)) (λ end. Ok tt) h 0 (λ (a : Result (Unit {0}) MoveFault). a ≡ Err Elsewhere → ⊥)
       (λ k u. let z : ◌≡◌ {A = ℕ} 0 1 = cc in omega arith) (λ k u. let z : ◌≡◌ {A = ℕ} 0 1 = cc in omega arith)
       (sym (at_start lanes class row h l start q) ∙ e)
 
   -- 11: it begins at the start, and the step is the lowest
-  pub refused_step : (start k : ℕ) → judged_moves lanes class start row h l ≡ Shut k → (get_or row 0 0 ≡ start) × Lowest lanes class row h l k
+  pub refused_step : (start k : ℕ) → judged_moves lanes class start row h l ≡ Err (Shut k) → (get_or row 0 0 ≡ start) × Lowest lanes class row h l k
   unfolding judged_moves
   refused_step start k e = go (eqb (get_or row 0 0) start) refl e
     where
-      go : (b : Bool) → eqb (get_or row 0 0) start ≡ b → cond b whole Elsewhere ≡ Shut k → (get_or row 0 0 ≡ start) × Lowest lanes class row h l k
+      go : (b : Bool) → eqb (get_or row 0 0) start ≡ b → cond b whole (Err Elsewhere) ≡ Err (Shut k) → (get_or row 0 0 ≡ start) × Lowest lanes class row h l k
       go false q e = let z : ◌≡◌ {A = ℕ} 0 1 = cc in absurd (omega arith)
       go true q e = (eqb-true _ _ q, lowest k e)

@@ -4,13 +4,12 @@
 mod lanes;
 mod moves;
 
-pub use lanes::link;
-pub use moves::{judge_moves, next_step};
+pub use lanes::{Lanes, link};
+pub use moves::next_step;
 
-// The moves of a row judged: all open, or it begins elsewhere than at the start, or the lowest step left by a move that is not open.
-#[derive(Clone, Copy)]
-pub enum MoveAnswer {
-    Open,
+// What is refused of a row's moves: it begins elsewhere than at the start, or the lowest step that is left by a move that is not open.
+#[derive(Clone, Copy, Debug, PartialEq, Eq)]
+pub enum MoveFault {
     Elsewhere,
     Shut(usize),
 }

@@ -1,23 +1,25 @@
 -- Chains in the cycle of levels: what holds before each turn.
 use Prim.Native.Nat.{ℕ, suc, ◌+◌, ◌-◌, ◌≤◌, ◌<◌}
 use native.Mathlib.Omega.{arith}
-use mathlib.Core.Path.{◌≡◌, refl, sym, ap, subst, ◌∙◌}
-use mathlib.Core.Bool.{Bool, true, false}
+use mathlib.Core.Path.{◌≡◌, refl, sym, subst}
+use mathlib.Core.Bool.{Bool}
 use mathlib.Core.List.{List, [], ◌∷◌, ◌++◌}
 use lib.ListN.{length, drop}
+use Rattle.std.specs.Prelude.{Result, Ok, Err}
 use Rattle.grammar.specs.Grammar.{Form, and, or}
 use Rattle.grammar.specs.Limits.{nodes}
-use Rattle.grammar.specs.Nodes.{Node, two_n, Op₂, and₂, or₂, flat}
-use Rattle.grammar.specs.Reader.{Got, got, no, Reader, chain, and_chain, or_chain, smalls, untils, ands, ors}
+use Rattle.grammar.specs.Nodes.{two_n, Op₂, and₂, or₂, flat}
+use Rattle.grammar.specs.Reader.{Got, got, no, Reader, chain, and_chain, or_chain, untils, ands, ors}
 use Rattle.token.specs.Block.{two_byte}
 use Rattle.token.specs.Parts.{PartIs}
 use Rattle.sheet.specs.Ranks.{LeafOf, leaf_nodes, leaf_flat, leaf_reader}
 use Rattle.token.specs.More.{WithNode}
-use Rattle.token.specs.Operator.{OperatorAt}
+use Rattle.token.specs.Operator.{Stands, Lacks}
 use Rattle.token.specs.Joined.{part_length}
-use Rattle.sheet.specs.Room.{flat_size, Room, room, refused_part}
-use Rattle.sheet.specs.Chained.{Chain, begun, ended, spent, onward}
-use Rattle.token.specs.declared.PartRead.{PartRead}
+use Rattle.sheet.specs.Room.{flat_size, Room, room}
+use Rattle.sheet.specs.Chained.{Chain, chain_refused, begun, ended, spent, broken, onward}
+use Rattle.token.specs.declared.Part.{Part}
+use Rattle.token.specs.declared.Fault.{Fault}
 
 -- the two chains
 pub data Joint : Type 0 where
@@ -56,20 +58,24 @@ unfolding ands and_chain ors or_chain
 whole_is inner conj level left t = refl
 whole_is inner disj level left t = refl
 
-module _ (inner : Bool) (k : Joint) (level : ℕ) (s : List ℕ) (at n left : ℕ) where
-  abbrev pub Turn : List ℕ → PartRead → List ℕ → Type 0
-  Turn before r block =
-      Chain (leaf_nodes inner) (leaf_flat inner) (flat_size inner) (joint_byte k) (joint_op k) (joint k) (flat-joint inner k) (links inner k level) s n left before
-      (whole inner k level left (drop at s)) r block
+module _ (inner : Bool) (k : Joint) (level : ℕ) (s : List ℕ) (at n left : ℕ) (before : List ℕ) where
+  abbrev P : Result Part Fault → List ℕ → Got (Form (LeafOf inner)) → Type 0
+  P r after g = PartIs (leaf_nodes inner) (leaf_flat inner) s n left before r after g
 
-  -- whatever stood in the block before the first part was read into it
-  abbrev pub Turns : List ℕ → PartRead → List ℕ → PartRead → Type 0
-  Turns block₀ r₀ block r =
-      (before : List ℕ) → length before ≡ 512 → PartIs (leaf_nodes inner) (leaf_flat inner) s n left before r₀ block₀ (links inner k level left (drop at s))
-      → Turn before r block
+  abbrev pub Turn : Part → List ℕ → Type 0
+  Turn r block =
+      Chain (leaf_nodes inner) (leaf_flat inner) (flat_size inner) (joint_byte k) (joint_op k) (joint k) (flat-joint inner k) (links inner k level) s n left
+      before (whole inner k level left (drop at s)) r block
 
-  pub first_turn : (block : List ℕ) (r : PartRead) → Turns block r block r
-  first_turn block r before long h =
+  pub first_refused : (f : Fault) (block : List ℕ) → P (Err f) block (links inner k level left (drop at s))
+      → P (Err f) block (whole inner k level left (drop at s))
+  first_refused f block h =
+      subst (P (Err f) block) (sym (whole_is inner k level left (drop at s)))
+      (chain_refused (leaf_nodes inner) (leaf_flat inner) (flat_size inner) (joint_byte k) (joint_op k) (joint k) (flat-joint inner k)
+      (links inner k level) s n left before f block (drop at s) h)
+
+  pub first_turn : (r : Part) (block : List ℕ) → P (Ok r) block (links inner k level left (drop at s)) → Turn r block
+  first_turn r block h =
       subst
       (λ g. Chain (leaf_nodes inner) (leaf_flat inner) (flat_size inner) (joint_byte k) (joint_op k) (joint k) (flat-joint inner k)
       (links inner k level) s n left before g r block)
@@ -77,44 +83,49 @@ module _ (inner : Bool) (k : Joint) (level : ℕ) (s : List ℕ) (at n left : �
       (begun (leaf_nodes inner) (leaf_flat inner) (flat_size inner) (joint_byte k) (joint_op k) (joint k) (flat-joint inner k)
       (links inner k level) s n left before r block (drop at s) h)
 
-  module _ (before : List ℕ) (r : PartRead) (block : List ℕ) (w : Turn before r block) where
-    pub turn_room : r.fault ≡ 0 → Room n left r
-    turn_room e = room inner s n left before r block w.so_far w.part e
+  module _ (r : Part) (block : List ℕ) (w : Turn r block) where
+    pub turn_room : Room n left r
+    turn_room = room inner s n left before r block (got w.tree w.allowed w.rest) w.part
 
     pub turn_size : length before ≡ 512 → n + left ≤ 128 → length block ≡ length before
-    turn_size long few = part_length (leaf_nodes inner) (leaf_flat inner) (flat_size inner) s n left before r block w.so_far w.part long few
+    turn_size long few =
+        part_length (leaf_nodes inner) (leaf_flat inner) (flat_size inner) s n left before (Ok r) block (got w.tree w.allowed w.rest) w.part long few
 
-    module _ (i : ℕ) (op : OperatorAt s r (joint_byte k) i) where
-      pub turn_ended : length s ≤ i → PartIs (leaf_nodes inner) (leaf_flat inner) s n left before r block (whole inner k level left (drop at s))
-      turn_ended out =
-          ended (leaf_nodes inner) (leaf_flat inner) (flat_size inner) (joint_byte k) (joint_op k) (joint k) (flat-joint inner k)
-          (links inner k level) s n left before
-          (whole inner k level left (drop at s)) r block w i op out
+    pub turn_ended : Lacks s r.at (joint_byte k) → P (Ok r) block (whole inner k level left (drop at s))
+    turn_ended op =
+        ended (leaf_nodes inner) (leaf_flat inner) (flat_size inner) (joint_byte k) (joint_op k) (joint k) (flat-joint inner k)
+        (links inner k level) s n left before (whole inner k level left (drop at s)) r block w op
 
-      pub turn_spent : i < length s → r.left ≡ 0 → whole inner k level left (drop at s) ≡ no 14 (drop i s)
-      turn_spent l z =
+    module _ (i : ℕ) (op : Stands s r.at (joint_byte k) i) where
+      pub turn_spent : r.left ≡ 0 → whole inner k level left (drop at s) ≡ no 14 (drop i s)
+      turn_spent z =
           spent (leaf_nodes inner) (leaf_flat inner) (flat_size inner) (joint_byte k) (joint_op k) (joint k) (flat-joint inner k)
-          (links inner k level) s n left before
-          (whole inner k level left (drop at s)) r block w i op l z
+          (links inner k level) s n left before (whole inner k level left (drop at s)) r block w i op z
 
-      pub turn_on : i < length s → (0 < r.left) → length before ≡ 512 → n + left ≤ 128 → (p : PartRead) (late : List ℕ)
-          → PartIs (leaf_nodes inner) (leaf_flat inner) s r.n (r.left - 1) block p late (links inner k level (r.left - 1) (drop (i + 1) s))
-          → (q : PartRead) (after : List ℕ) → WithNode late p (two_byte (joint_op k) ∷ (r.n - 1) ∷ (p.n - 1) ∷ 0 ∷ []) q after → Turn before q after
-          × (q.left < r.left)
-      turn_on l some long few p late next q after put =
-          let e : i + 1 ≡ suc i = omega arith in
-          onward (leaf_nodes inner) (leaf_flat inner) (flat_size inner) (joint_byte k) (joint_op k) (joint k) (flat-joint inner k)
-          (links inner k level) s n left before
-          (whole inner k level left (drop at s)) r block w i op l (r.left - 1) (omega arith) long few p late
-          (subst (λ (j : ℕ). PartIs (leaf_nodes inner) (leaf_flat inner) s r.n (r.left - 1) block p late
-          (links inner k level (r.left - 1) (drop j s))) e next) q after put
+      -- another part behind the operator
+      module _ (some : 0 < r.left) (long : length before ≡ 512) (few : n + left ≤ 128) (late : List ℕ) where
+        abbrev Next : Result Part Fault → Type 0
+        Next p = PartIs (leaf_nodes inner) (leaf_flat inner) s r.n (r.left - 1) block p late (links inner k level (r.left - 1) (drop (i + 1) s))
 
-  -- another part behind an operator: the block's length, and the nodes
-  pub next_part : (r : PartRead) (block : List ℕ) (i : ℕ) (p : PartRead) (late : List ℕ)
-      → PartIs (leaf_nodes inner) (leaf_flat inner) s r.n (r.left - 1) block p late (links inner k level (r.left - 1) (drop (i + 1) s))
-      → length block ≡ 512 → r.n + (r.left - 1) ≤ 128 → (length late ≡ 512) × (p.fault ≡ 0 → Room r.n (r.left - 1) p)
-  next_part r block i p late h long few =
-      let g = links inner k level (r.left - 1) (drop (i + 1) s) in (
-        part_length (leaf_nodes inner) (leaf_flat inner) (flat_size inner) s r.n (r.left - 1) block p late g h long few ∙ long,
-        λ e. room inner s r.n (r.left - 1) block p late g h e,
-      )
+        behind_it : (p : Result Part Fault) → Next p
+            → PartIs (leaf_nodes inner) (leaf_flat inner) s r.n (r.left - 1) block p late (links inner k level (r.left - 1) (drop (suc i) s))
+        behind_it p next =
+            let e : i + 1 ≡ suc i = omega arith in
+            subst (λ (j : ℕ). PartIs (leaf_nodes inner) (leaf_flat inner) s r.n (r.left - 1) block p late (links inner k level (r.left - 1) (drop j s))) e next
+
+        pub turn_broken : (f : Fault) → Next (Err f) → P (Err f) late (whole inner k level left (drop at s))
+        turn_broken f next =
+            broken (leaf_nodes inner) (leaf_flat inner) (flat_size inner) (joint_byte k) (joint_op k) (joint k) (flat-joint inner k)
+            (links inner k level) s n left before (whole inner k level left (drop at s)) r block w i op (r.left - 1) (omega arith) late f
+            (behind_it (Err f) next) (turn_size long few)
+
+        module _ (p : Part) (next : Next (Ok p)) where
+          pub next_room : Room r.n (r.left - 1) p
+          next_room = room inner s r.n (r.left - 1) block p late (links inner k level (r.left - 1) (drop (i + 1) s)) next
+
+          pub turn_on : (q : Part) (after : List ℕ) → WithNode late p (two_byte (joint_op k) ∷ (r.n - 1) ∷ (p.n - 1) ∷ 0 ∷ []) q after
+              → Turn q after × (q.left < r.left)
+          turn_on q after put =
+              onward (leaf_nodes inner) (leaf_flat inner) (flat_size inner) (joint_byte k) (joint_op k) (joint k) (flat-joint inner k)
+              (links inner k level) s n left before (whole inner k level left (drop at s)) r block w i op (r.left - 1) (omega arith) late long few p
+              (behind_it (Ok p) next) q after put

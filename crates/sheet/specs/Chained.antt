@@ -1,7 +1,7 @@
 -- A chain read part by part.
 use Prim.Native.Nat.{ℕ, zero, suc, ◌+◌, ◌-◌, ◌≤◌, ◌<◌}
 use Rattle.std.proofs.Common.{arith, subst, ◌∙◌, eqb-true}
-use Rattle.std.specs.Prelude.{◌≡◌, Bool, length, drop}
+use Rattle.std.specs.Prelude.{◌≡◌, Bool, length, drop, Result, Ok, Err}
 use Rattle.std.proofs.Math.Path.{refl, sym, ap}
 use Rattle.std.proofs.Math.Bool.{true, false}
 use mathlib.Core.List.{List, [], ◌∷◌, ◌++◌}
@@ -14,9 +14,10 @@ use Rattle.grammar.proofs.Agree.{more_stop, more_out, more_go}
 use Rattle.token.specs.Block.{two_byte}
 use Rattle.token.specs.Parts.{Held, PartIs}
 use Rattle.token.specs.More.{WithNode}
-use Rattle.token.specs.Joined.{two_parts}
-use Rattle.token.specs.Operator.{OperatorAt}
-use Rattle.token.specs.declared.PartRead.{PartRead}
+use Rattle.token.specs.Joined.{stay, two_parts}
+use Rattle.token.specs.Operator.{Stands, Lacks}
+use Rattle.token.specs.declared.Part.{Part}
+use Rattle.token.specs.declared.Fault.{Fault}
 
 bind-bind : {A : Type 0} (g : Got A) (f : A → A) (k : A → ℕ → List ℕ → Got A) → bind g (λ b m t. k (f b) m t) ≡ bind (bind g (λ b m t. got (f b) m t)) k
 unfolding bind
@@ -29,97 +30,106 @@ module _ {L : Type 0} (leaf_nodes : L → ℕ) (leaf_flat : L → ℕ → List N
     ≡ (flat leaf_nodes leaf_flat a b ++ flat leaf_nodes leaf_flat d (b + nodes leaf_nodes a)) ++
     (two_n o ((b + nodes leaf_nodes a) - 1) (((b + nodes leaf_nodes a) + nodes leaf_nodes d) - 1) ∷ []))
     (sub : Reader (Form L)) (s : List ℕ) where
-  -- the parts so far, and that the rest of the chain gives the answer
-  pub record Chain (n left : ℕ) (before : List ℕ) (g : Got (Form L)) (r : PartRead) (block : List ℕ) : Type 0 where
-    pub fuel : ℕ
-    pub so_far : Got (Form L)
-    pub part : PartIs leaf_nodes leaf_flat s n left before r block so_far
-    pub same : g ≡ bind so_far (λ a m t. chain_more c mk sub fuel a m t)
-    pub enough : r.left ≤ fuel
+  module _ (n left : ℕ) (before : List ℕ) where
+    abbrev P : Result Part Fault → List ℕ → Got (Form L) → Type 0
+    P r after g = PartIs leaf_nodes leaf_flat s n left before r after g
 
-  pub begun : (n left : ℕ) (before : List ℕ) (r : PartRead) (block : List ℕ) (t : List ℕ) → PartIs leaf_nodes leaf_flat s n left before r block (sub left t)
-      → Chain n left before (chain c mk sub left t) r block
-  unfolding chain bind
-  begun n left before r block t p = go (sub left t) p
-    where
-      go : (g : Got (Form L)) → PartIs leaf_nodes leaf_flat s n left before r block g → Chain n left before (bind g (λ a m r. chain_more c mk sub m a m r)) r block
-      go (got a m u) h = record { fuel = m; so_far = got a m u; part = h; same = refl; enough = omega (arith, h.allowed) }
-      go (no w u) h = record { fuel = 0; so_far = no w u; part = h; same = refl; enough = omega (arith, h.none) }
+    -- the parts so far, and that the rest of the chain gives the answer
+    pub record Chain (g : Got (Form L)) (r : Part) (block : List ℕ) : Type 0 where
+      pub fuel : ℕ
+      pub tree : Form L
+      pub allowed : ℕ
+      pub rest : List ℕ
+      pub part : Held leaf_nodes leaf_flat s n left before r block tree allowed rest
+      pub same : g ≡ chain_more c mk sub fuel tree allowed rest
+      pub enough : r.left ≤ fuel
 
-  module _ (n left : ℕ) (before : List ℕ) (g : Got (Form L)) (r : PartRead) (block : List ℕ) (w : Chain n left before g r block) (i : ℕ)
-      (op : OperatorAt s r c i) where
-    -- no operator: the chain is what was read
-    pub ended : length s ≤ i → PartIs leaf_nodes leaf_flat s n left before r block g
-    unfolding bind chain_more chain_at
-    ended out = go w.so_far w.part w.same
+    -- the first part is refused, or read
+    pub chain_refused : (f : Fault) (block t : List ℕ) → P (Err f) block (sub left t) → P (Err f) block (chain c mk sub left t)
+    unfolding chain
+    chain_refused f block t h =
+        stay leaf_nodes leaf_flat leaf_nodes leaf_flat s n left n left before before f block (sub left t) h refl (λ a m r. chain_more c mk sub m a m r)
+
+    pub begun : (r : Part) (block t : List ℕ) → P (Ok r) block (sub left t) → Chain (chain c mk sub left t) r block
+    unfolding chain bind
+    begun r block t p = go (sub left t) p
       where
-        stop : (f : ℕ) (a : Form L) (m : ℕ) (t : List ℕ) → ((u : List ℕ) → skip t ≡ c ∷ u → ⊥) → (v : List ℕ) → skip t ≡ v
-            → chain_more c mk sub f a m t ≡ got a m t
-        stop zero a m t none [] e = ap (chain_at c mk a m t _) e
-        stop (suc f) a m t none [] e = ap (chain_at c mk a m t _) e
-        stop f a m t none (b ∷ u) e = by (eqb b c) refl
-          where
-            by : (x : Bool) → eqb b c ≡ x → chain_more c mk sub f a m t ≡ got a m t
-            by true q = absurd (none u (e ∙ ap (λ (k : ℕ). k ∷ u) (eqb-true b c q)))
-            by false q = more_stop c mk sub a t f m b u e q
+        go : (g : Got (Form L)) → P (Ok r) block g → Chain (bind g (λ a m r. chain_more c mk sub m a m r)) r block
+        go (got a m u) h = record { fuel = m; tree = a; allowed = m; rest = u; part = h; same = refl; enough = omega (arith, h.allowed) }
+        go (no w u) h = absurd h
 
-        go : (x : Got (Form L)) → PartIs leaf_nodes leaf_flat s n left before r block x → g ≡ bind x (λ a m t. chain_more c mk sub w.fuel a m t)
-            → PartIs leaf_nodes leaf_flat s n left before r block g
-        go (no v t) h e = subst (PartIs leaf_nodes leaf_flat s n left before r block) (sym e) h
-        go (got a m t) h e =
-            let none : (u : List ℕ) → skip t ≡ c ∷ u → ⊥ = λ u q. op.none out h.fine u (ap skip h.behind ∙ q) in
-            subst (PartIs leaf_nodes leaf_flat s n left before r block) (sym (e ∙ stop w.fuel a m t none (skip t) refl)) h
-
-    -- an operator with no node left for it
-    pub spent : i < length s → r.left ≡ 0 → g ≡ no 14 (drop i s)
-    unfolding bind
-    spent at zero_left = go w.so_far w.part w.same
-      where
-        go : (x : Got (Form L)) → PartIs leaf_nodes leaf_flat s n left before r block x → g ≡ bind x (λ a m t. chain_more c mk sub w.fuel a m t)
-            → g ≡ no 14 (drop i s)
-        go (no v t) h e = absurd (h.some (op.read at))
-        go (got a m t) h e =
-            let z : m ≡ 0 = sym h.allowed ∙ zero_left in
-            e ∙ ap (λ (k : ℕ). chain_more c mk sub w.fuel a k t) z
-            ∙ more_out c mk sub a t w.fuel (drop (suc i) s) (ap skip (sym h.behind) ∙ op.there at)
-            ∙ ap (no 14) (sym (op.here at))
-
-    -- the operator, another part and the operator's node
-    module _ (at : i < length s) (k : ℕ) (some : r.left ≡ suc k) (long : length before ≡ 512) (few : n + left ≤ 128) (p : PartRead) (late : List ℕ)
-        (next : PartIs leaf_nodes leaf_flat s r.n k block p late (sub k (drop (suc i) s))) (q : PartRead) (after : List ℕ)
-        (put : WithNode late p (two_byte o ∷ (r.n - 1) ∷ (p.n - 1) ∷ 0 ∷ []) q after) where
-      joined_left : (x : Got (Form L)) → PartIs leaf_nodes leaf_flat s r.n k block p late x → (a : Form L)
-          → PartIs leaf_nodes leaf_flat s n left before q after (bind x (λ d m₂ t₂. got (mk a d) m₂ t₂)) → q.left ≤ k
-      unfolding bind
-      joined_left (no v t) h a z = omega (arith, z.none)
-      joined_left (got d m t) h a z = omega (arith, z.allowed, h.allowed, h.kept, h.slots)
-
-      pub onward : Chain n left before g q after × (q.left < r.left)
-      unfolding bind
-      onward = go w.so_far w.part w.same w.fuel w.enough
+    module _ (g : Got (Form L)) (r : Part) (block : List ℕ) (w : Chain g r block) where
+      -- no operator: the chain is what was read
+      pub ended : Lacks s r.at c → P (Ok r) block g
+      unfolding chain_more chain_at
+      ended op =
+          subst (P (Ok r) block) (sym (w.same ∙ stop w.fuel w.tree w.allowed w.rest (λ u q. op.none u (ap skip w.part.behind ∙ q)) (skip w.rest) refl)) w.part
         where
-          go : (x : Got (Form L)) → PartIs leaf_nodes leaf_flat s n left before r block x → g ≡ bind x (λ a m t. chain_more c mk sub w.fuel a m t)
-              → (f : ℕ) → r.left ≤ f → Chain n left before g q after × (q.left < r.left)
-          go (no v t) h e f l = absurd (h.some (op.read at))
-          go (got a m t) h e f l = step w.fuel refl
+          stop : (f : ℕ) (a : Form L) (m : ℕ) (t : List ℕ) → ((u : List ℕ) → skip t ≡ c ∷ u → ⊥) → (v : List ℕ) → skip t ≡ v
+              → chain_more c mk sub f a m t ≡ got a m t
+          stop zero a m t none [] e = ap (chain_at c mk a m t _) e
+          stop (suc f) a m t none [] e = ap (chain_at c mk a m t _) e
+          stop f a m t none (b ∷ u) e = by (eqb b c) refl
             where
-              m_is : m ≡ suc k
-              m_is = sym h.allowed ∙ some
+              by : (x : Bool) → eqb b c ≡ x → chain_more c mk sub f a m t ≡ got a m t
+              by true q = absurd (none u (e ∙ ap (λ (k : ℕ). k ∷ u) (eqb-true b c q)))
+              by false q = more_stop c mk sub a t f m b u e q
 
-              step : (f : ℕ) → w.fuel ≡ f → Chain n left before g q after × (q.left < r.left)
-              step zero z = absurd (omega (arith, w.enough))
-              step (suc f) z =
-                  let here : Held leaf_nodes leaf_flat s n left before r block a (suc k) t =
-                  subst (λ (j : ℕ). Held leaf_nodes leaf_flat s n left before r block a j t) m_is h in
+      module _ (i : ℕ) (op : Stands s r.at c i) where
+        -- an operator with no node left for it
+        pub spent : r.left ≡ 0 → g ≡ no 14 (drop i s)
+        spent z =
+            w.same ∙ ap (λ (k : ℕ). chain_more c mk sub w.fuel w.tree k w.rest) (sym w.part.allowed ∙ z)
+            ∙ more_out c mk sub w.tree w.rest w.fuel (drop (suc i) s) (ap skip (sym w.part.behind) ∙ op.there)
+            ∙ ap (no 14) (sym op.here)
+
+        -- the operator and another part
+        module _ (k : ℕ) (some : r.left ≡ suc k) (late : List ℕ) where
+          goes_on : (f : ℕ) → w.fuel ≡ suc f
+              → g ≡ bind (bind (sub k (drop (suc i) s)) (λ d m₂ t₂. got (mk w.tree d) m₂ t₂)) (λ a m t. chain_more c mk sub f a m t)
+          goes_on f z =
+              w.same ∙ ap (λ (j : ℕ). chain_more c mk sub j w.tree w.allowed w.rest) z
+              ∙ ap (λ (j : ℕ). chain_more c mk sub (suc f) w.tree j w.rest) (sym w.part.allowed ∙ some)
+              ∙ more_go c mk sub w.tree w.rest f k (drop (suc i) s) (ap skip (sym w.part.behind) ∙ op.there)
+              ∙ bind-bind (sub k (drop (suc i) s)) (mk w.tree) (λ a m t. chain_more c mk sub f a m t)
+
+          -- that part is refused
+          pub broken : (f : Fault) → PartIs leaf_nodes leaf_flat s r.n k block (Err f) late (sub k (drop (suc i) s)) → length block ≡ length before
+              → P (Err f) late g
+          broken f next size = by_fuel w.fuel refl
+            where
+              by_fuel : (j : ℕ) → w.fuel ≡ j → P (Err f) late g
+              by_fuel zero z = absurd (omega (arith, w.enough))
+              by_fuel (suc j) z =
                   let x = sub k (drop (suc i) s) in
-                  let part = two_parts leaf_nodes leaf_flat fl s o mk flat-mk n left before r block a k t here long few p late x next q after put in
-                  let low = joined_left x next a part in
-                  let same : g ≡ bind (bind x (λ d m₂ t₂. got (mk a d) m₂ t₂)) (λ a m t. chain_more c mk sub f a m t) =
-                  e ∙ ap (λ (j : ℕ). chain_more c mk sub j a m t) z ∙ ap (λ (j : ℕ). chain_more c mk sub (suc f) a j t) m_is
-                  ∙ more_go c mk sub a t f k (drop (suc i) s) (ap skip (sym h.behind) ∙ op.there at)
-                  ∙ bind-bind x (mk a) (λ a m t. chain_more c mk sub f a m t) in (
-                    record
-                        { fuel = f; so_far = bind x (λ d m₂ t₂. got (mk a d) m₂ t₂); part = part; same = same; enough = omega (arith, low, w.enough) },
-                    omega
-                        (arith, low),
-                  )
+                  let first = stay leaf_nodes leaf_flat leaf_nodes leaf_flat s r.n k n left block before f late x next size
+                  (λ d m₂ t₂. got (mk w.tree d) m₂ t₂) in
+                  subst (P (Err f) late) (sym (goes_on j z))
+                  (stay leaf_nodes leaf_flat leaf_nodes leaf_flat s n left n left before before f late (bind x (λ d m₂ t₂. got (mk w.tree d) m₂ t₂)) first refl
+                  (λ a m t. chain_more c mk sub j a m t))
+
+          -- or read, and the operator's node is put behind it
+          module _ (long : length before ≡ 512) (few : n + left ≤ 128) (p : Part)
+              (next : PartIs leaf_nodes leaf_flat s r.n k block (Ok p) late (sub k (drop (suc i) s))) (q : Part) (after : List ℕ)
+              (put : WithNode late p (two_byte o ∷ (r.n - 1) ∷ (p.n - 1) ∷ 0 ∷ []) q after) where
+            pub onward : Chain g q after × (q.left < r.left)
+            unfolding bind
+            onward = by_fuel w.fuel refl
+              where
+                here : Held leaf_nodes leaf_flat s n left before r block w.tree (suc k) w.rest
+                here = subst (λ (j : ℕ). Held leaf_nodes leaf_flat s n left before r block w.tree j w.rest) (sym w.part.allowed ∙ some) w.part
+
+                go : (f : ℕ) → w.fuel ≡ suc f → (x : Got (Form L)) → PartIs leaf_nodes leaf_flat s r.n k block (Ok p) late x
+                    → g ≡ bind (bind x (λ d m₂ t₂. got (mk w.tree d) m₂ t₂)) (λ a m t. chain_more c mk sub f a m t) → Chain g q after × (q.left < r.left)
+                go f z (no v t) y e = absurd y
+                go f z (got d m t) y e =
+                    let part : Held leaf_nodes leaf_flat s n left before q after (mk w.tree d) m t =
+                    two_parts leaf_nodes leaf_flat fl s o mk flat-mk n left before r block w.tree k w.rest here long few p late (got d m t) y q after put in
+                    let low : q.left ≤ k = omega (arith, part.allowed, y.allowed, y.kept, y.slots) in (
+                      record { fuel = f; tree = mk w.tree d; allowed = m; rest = t; part = part; same = e; enough = omega (arith, low, w.enough) },
+                      omega (arith, low),
+                    )
+
+                by_fuel : (j : ℕ) → w.fuel ≡ j → Chain g q after × (q.left < r.left)
+                by_fuel zero z = absurd (omega (arith, w.enough))
+                by_fuel (suc f) z = go f z (sub k (drop (suc i) s)) next (goes_on f z)

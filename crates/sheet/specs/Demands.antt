@@ -3,13 +3,13 @@ use Rattle.std.specs.Prelude.{ℕ, suc, ◌<◌, ◌≡◌, refl, ◌⊎◌, ◌
 use Rattle.std.proofs.Common.{arith, sym, subst, ◌∙◌, inl, inr}
 use Rattle.std.proofs.Math.Path.{ap}
 use Rattle.refusal.specs.Codes.{at_offset}
-use Rattle.refusal.specs.Given.{OneOf, sheet_numbers, accepts, writes, Given, reading_sheet}
+use Rattle.refusal.specs.Given.{OneOf, sheet_numbers, Given, reading_sheet}
 use Rattle.refusal.specs.declared.Refusal.{Refusal}
 use Rattle.refusal.specs.declared.Verdict.{Verdict}
 use Rattle.refusal.specs.declared.Verdict.TheVariants.{Accepted, Written, Floor, Plan, Rules as AboutRules}
 use Rattle.grammar.specs.Grammar.{Clause, Sheet}
 use Rattle.grammar.specs.Limits.{FewBytes}
-use Rattle.grammar.specs.Answers.{AcceptedSheet, InSheet, RefusedBy, BeginsInRange, Never, Beyond, Allowed, OutOfRange}
+use Rattle.grammar.specs.Answers.{AcceptedSheet, RefusedBy, BeginsInRange, Never, Beyond, Allowed, OutOfRange}
 use Rattle.grammar.specs.Reader.{Read, accepted, refused, read_sheet}
 use Rattle.sheet.specs.Rules.{read_verdict, rules_verdict}
 use Rattle.sheet.specs.Promises.{RulesRead}

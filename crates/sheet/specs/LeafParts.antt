@@ -1,5 +1,5 @@
 -- Leaves as parts: a mark, and a count at its `[`.
-use Rattle.std.specs.Prelude.{ℕ, suc, ◌<◌, ◌≡◌, refl, Bool, List, eqb, length, get_or, drop}
+use Rattle.std.specs.Prelude.{ℕ, suc, ◌<◌, ◌≡◌, refl, Bool, List, eqb, length, get_or, drop, Result, Ok, Err}
 use Rattle.std.proofs.Common.{sym, ◌∙◌, drop-cons, eq-eqb, ne_eqb}
 use Rattle.std.proofs.Math.Path.{ap}
 use Rattle.std.proofs.Math.Bool.{true}
@@ -11,13 +11,16 @@ use Rattle.token.specs.Leaves.{LeafIs}
 use Rattle.token.specs.Parts.{PartIs}
 use Rattle.token.specs.Counts.{count_got}
 use Rattle.token.specs.Placed.{placed_part}
-use Rattle.token.specs.declared.PartRead.{PartRead}
+use Rattle.token.specs.declared.Part.{Part}
+use Rattle.token.specs.declared.Fault.{Fault}
 
-pub mark_part : (s : List ℕ) (n left : ℕ) (before : List ℕ) (r : PartRead) (after : List ℕ) (g : Got ℕ) → LeafIs mark_n s n left before r after g
+pub mark_part : (s : List ℕ) (n left : ℕ) (before : List ℕ) (r : Result Part Fault) (after : List ℕ) (g : Got ℕ) → LeafIs mark_n s n left before r after g
     → PartIs mark_nodes flat_mark s n left before r after (bind g (λ x m t. got (Form.leaf x) m t))
 unfolding bind flat flat_mark
-mark_part s n left before r after (no w t) h = h.part
-mark_part s n left before r after (got x m t) h = placed_part mark_n mark_nodes flat_mark s n left before r after x (Form.leaf x) m t refl h
+mark_part s n left before (Err f) after (no w t) h = h.part
+mark_part s n left before (Ok r) after (no w t) h = absurd h
+mark_part s n left before (Err f) after (got x m t) h = absurd h
+mark_part s n left before (Ok r) after (got x m t) h = placed_part mark_n mark_nodes flat_mark s n left before r after x (Form.leaf x) m t refl h
 
 module _ (s : List ℕ) (level left i : ℕ) (l : i < length s) where
   -- what a count gives, as a leaf of a clause

@@ -1,7 +1,7 @@
 -- The sheet line by line.
 use Prim.Native.Nat.{ℕ, zero, suc, ◌-◌, ◌≤◌, ◌<◌}
 use Rattle.std.proofs.Common.{arith, sym, ◌∙◌, drop_of_length-le, lt-ltb, le-ltb}
-use Rattle.std.specs.Prelude.{◌≡◌, Bool, get_or}
+use Rattle.std.specs.Prelude.{◌≡◌, Bool, get_or, Ok, Err}
 use Rattle.std.proofs.Math.Path.{refl, ap}
 use mathlib.Core.List.{List, [], ◌∷◌}
 use Rattle.std.proofs.Math.ListN.{length, drop, length-drop}
@@ -15,7 +15,8 @@ use Rattle.grammar.specs.Nodes.{flat_count}
 use Rattle.grammar.specs.Reader.{Got, got, no, pick, bind, clause_line, lines, Read, outcome, start, read_sheet}
 use Rattle.token.specs.Parts.{PartIs}
 use Rattle.sheet.specs.Rules.{read_verdict, rules_verdict, lines_verdict}
-use Rattle.token.specs.declared.PartRead.{PartRead}
+use Rattle.token.specs.declared.Part.{Part}
+use Rattle.token.specs.declared.Fault.{Fault}
 
 module _ (s : List ℕ) where
   pub too_long : 16384 < length s → rules_verdict s ≡ AboutRules (at_offset 12 0)
@@ -65,8 +66,7 @@ module _ (s : List ℕ) where
       ap (λ (u : List ℕ). lines_verdict (length s) (lines 0 u)) e ∙ ap (λ (j : ℕ). AboutRules (at_offset 14 j)) n
 
   -- a line, by what reading it gave
-  module _ (before : List ℕ) (r : PartRead) (block : List ℕ) (k at : ℕ) (l : at < length s)
-      (h : PartIs count_nodes flat_count s 0 128 before r block (clause_line 128 (drop at s))) where
+  module _ (before block : List ℕ) (k at : ℕ) (l : at < length s) where
     sees : from_line (suc k) at ≡ lines_verdict (length s) (bind (clause_line 128 (drop at s)) (λ c m t. bind (lines k t) (λ cs m₁ r₁. got (c ∷ cs) m₁ r₁)))
     unfolding lines
     sees =
@@ -74,26 +74,28 @@ module _ (s : List ℕ) where
         ap (λ (u : List ℕ). lines_verdict (length s) (lines (suc k) u)) e
         ∙ ap (λ (u : List ℕ). lines_verdict (length s) (bind (clause_line 128 u) (λ c m t. bind (lines k t) (λ cs m₁ r₁. got (c ∷ cs) m₁ r₁)))) (sym e)
 
-    pub line_refused : (r.fault ≡ 0 → ⊥) → from_line (suc k) at ≡ AboutRules (at_offset r.fault r.at)
+    pub line_refused : (f : Fault) → PartIs count_nodes flat_count s 0 128 before (Err f) block (clause_line 128 (drop at s))
+        → from_line (suc k) at ≡ AboutRules (at_offset f.number f.at)
     unfolding bind
-    line_refused some = sees ∙ go (clause_line 128 (drop at s)) h
+    line_refused f h = sees ∙ go (clause_line 128 (drop at s)) h
       where
-        go : (g : Got Clause) → PartIs count_nodes flat_count s 0 128 before r block g
-            → lines_verdict (length s) (bind g (λ c m t. bind (lines k t) (λ cs m₁ r₁. got (c ∷ cs) m₁ r₁))) ≡ AboutRules (at_offset r.fault r.at)
-        go (got c m t) w = absurd (some w.fine)
+        go : (g : Got Clause) → PartIs count_nodes flat_count s 0 128 before (Err f) block g
+            → lines_verdict (length s) (bind g (λ c m t. bind (lines k t) (λ cs m₁ r₁. got (c ∷ cs) m₁ r₁))) ≡ AboutRules (at_offset f.number f.at)
+        go (got c m t) w = absurd w
         go (no v t) w =
-            let n : length s - length t ≡ r.at = omega (arith, ap length w.behind, length-drop r.at s, w.inside) in
-            ap (λ (j : ℕ). AboutRules (at_offset v j)) n ∙ ap (λ (x : ℕ). AboutRules (at_offset x r.at)) (sym w.number)
+            let n : length s - length t ≡ f.at = omega (arith, ap length w.behind, length-drop f.at s, w.inside) in
+            ap (λ (j : ℕ). AboutRules (at_offset v j)) n ∙ ap (λ (x : ℕ). AboutRules (at_offset x f.at)) (sym w.number)
 
-    pub line_read : r.fault ≡ 0 → from_line (suc k) at ≡ from_line k r.at
+    pub line_read : (r : Part) → PartIs count_nodes flat_count s 0 128 before (Ok r) block (clause_line 128 (drop at s))
+        → from_line (suc k) at ≡ from_line k r.at
     unfolding bind
-    line_read fine = sees ∙ go (clause_line 128 (drop at s)) h
+    line_read r h = sees ∙ go (clause_line 128 (drop at s)) h
       where
         same : (c : Clause) (g : Got (List Clause)) → lines_verdict (length s) (bind g (λ cs m₁ r₁. got (c ∷ cs) m₁ r₁)) ≡ lines_verdict (length s) g
         same c (got cs m t) = refl
         same c (no w t) = refl
 
-        go : (g : Got Clause) → PartIs count_nodes flat_count s 0 128 before r block g
+        go : (g : Got Clause) → PartIs count_nodes flat_count s 0 128 before (Ok r) block g
             → lines_verdict (length s) (bind g (λ c m t. bind (lines k t) (λ cs m₁ r₁. got (c ∷ cs) m₁ r₁))) ≡ from_line k r.at
         go (got c m t) w = same c (lines k t) ∙ ap (λ (u : List ℕ). lines_verdict (length s) (lines k u)) (sym w.behind)
-        go (no v t) w = absurd (w.some fine)
+        go (no v t) w = absurd w

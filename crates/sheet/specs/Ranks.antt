@@ -1,12 +1,13 @@
 -- What the readers of the four levels and of leaves give.
-use Rattle.std.specs.Prelude.{ℕ, Bool, true, false, List, drop}
+use Rattle.std.specs.Prelude.{ℕ, Bool, true, false, List, drop, Result}
 use Rattle.grammar.specs.Grammar.{Form, Rank, small, untils, ands, ors, Counted}
 use Rattle.grammar.specs.Limits.{mark_nodes, count_nodes}
 use Rattle.grammar.specs.Nodes.{Node, flat_mark, flat_count}
 use Rattle.grammar.specs.Reader as reader
 use Rattle.grammar.specs.Reader.{Got, got, Reader, bind, marks, counts}
 use Rattle.token.specs.Parts.{PartIs}
-use Rattle.token.specs.declared.PartRead.{PartRead}
+use Rattle.token.specs.declared.Part.{Part}
+use Rattle.token.specs.declared.Fault.{Fault}
 
 -- the definition's reader of a rank
 abbrev pub by_rank : {L : Type 0} → (ℕ → Reader L) → Rank → ℕ → Reader (Form L)
@@ -33,11 +34,11 @@ leaf_reader true = λ i. marks
 leaf_reader false = counts
 
 -- a part of a rank, from an offset on
-abbrev pub Reads : Bool → Rank → ℕ → List ℕ → ℕ → ℕ → ℕ → List ℕ → PartRead → List ℕ → Type 0
+abbrev pub Reads : Bool → Rank → ℕ → List ℕ → ℕ → ℕ → ℕ → List ℕ → Result Part Fault → List ℕ → Type 0
 Reads inner k level s at n left before r after =
     PartIs (leaf_nodes inner) (leaf_flat inner) s n left before r after (by_rank (leaf_reader inner) k level left (drop at s))
 
 -- a leaf, at its first byte
-abbrev pub LeafReads : Bool → ℕ → List ℕ → ℕ → ℕ → ℕ → List ℕ → PartRead → List ℕ → Type 0
+abbrev pub LeafReads : Bool → ℕ → List ℕ → ℕ → ℕ → ℕ → List ℕ → Result Part Fault → List ℕ → Type 0
 LeafReads inner level s i n left before r after =
     PartIs (leaf_nodes inner) (leaf_flat inner) s n left before r after (bind (leaf_reader inner level left (drop i s)) (λ x m r₁. got (Form.leaf x) m r₁))

@@ -1,5 +1,5 @@
 -- The definition keeps what reading a sheet promises.
-use Rattle.std.specs.Prelude.{ℕ, ◌≡◌, refl, ◌⊎◌, List}
+use Rattle.std.specs.Prelude.{ℕ, ◌≡◌, refl, List}
 use Rattle.std.proofs.Common.{sym, subst, inl, inr}
 use Rattle.refusal.specs.Given.{OneOf, sheet_numbers, Given, reading_sheet}
 use Rattle.refusal.specs.declared.Verdict.{Verdict}

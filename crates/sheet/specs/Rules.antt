@@ -1,6 +1,7 @@
 -- Reading a rule sheet: the verdict on it.
-use Rattle.std.specs.Prelude.{ℕ, ◌-◌, List, length}
+use Rattle.std.specs.Prelude.{ℕ, ◌-◌, List, length, Result, Ok, Err}
 use Rattle.refusal.specs.Codes.{at_offset}
+use Rattle.token.specs.declared.Fault.{Fault}
 use Rattle.refusal.specs.declared.Verdict.{Verdict}
 use Rattle.refusal.specs.declared.Verdict.TheVariants.{Accepted, Rules as AboutRules}
 use Rattle.grammar.specs.Grammar.{Clause}
@@ -13,6 +14,11 @@ read_verdict (refused w k) = AboutRules (at_offset w k)
 
 unfoldable pub rules_verdict : List ℕ → Verdict
 rules_verdict s = read_verdict (read_sheet s)
+
+-- by what reading the lines told
+abbrev pub told_verdict : Result (Unit {0}) Fault → Verdict
+told_verdict (Ok u) = Accepted
+told_verdict (Err f) = AboutRules (at_offset f.number f.at)
 
 -- by the lines: an offset is what stands before the refused byte
 abbrev pub lines_verdict : ℕ → Got (List Clause) → Verdict

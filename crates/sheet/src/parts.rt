@@ -6,96 +6,102 @@ ghost use Rattle.sheet.specs.Ranks.{Reads, LeafReads};
 ghost use Rattle.sheet.specs.Small.{prefix_kind};
 
 use token::{
-    PartRead, count_end, expect, mark, operator_at, reach_at, refused, spaces, with_one, with_two,
-    word,
+    Binary, Fault, Part, Unary, count_end, expect, mark, operator_at, reach_at, refused, spaces,
+    with_one, with_two, word,
 };
 
-// A prefix operator's node by its byte, 0 for any other byte.
-fn prefix_kind(b: u8) -> u8
+// A prefix operator, by its byte.
+#[tactic(auto, unfolding(crate::specs::Small::prefix_kind))]
+fn prefix_kind(b: u8) -> Option<Unary>
     ensures { result ≡ prefix_kind b }
 {
-    if b == b'!' {
-        return 2;
+    match b {
+        b'!' => Some(Unary::Not),
+        b'X' => Some(Unary::Next),
+        b'F' => Some(Unary::Finally),
+        b'G' => Some(Unary::Globally),
+        _ => None,
     }
-    if b == b'X' {
-        return 3;
-    }
-    if b == b'F' {
-        return 4;
-    }
-    if b == b'G' { 5 } else { 0 }
 }
 
 // A smallest part: `true`, a part in parentheses, a prefix operator before a smallest part, a mark in inner text, or a count.
 #[cycle(and_part_leaf_part_or_part_small_part_until_part)]
 fn small_part(
     s: &[u8],
-    at: usize,
+    p: Part,
     level: usize,
     inner: bool,
-    left: usize,
-    n: usize,
-    nodes: &mut [u8],
-) -> PartRead
-    requires { (at ≤ length s.now) × (length s.now ≤ 16384) × (n + left ≤ 128) × (length nodes.old ≡ 512) }
-    ensures { Reads inner small level s.now at n left nodes.old result nodes.new }
+    nodes: &mut [u8; 512],
+) -> Result<Part, Fault>
+    requires { (p.at ≤ length s.now) × (length s.now ≤ 16384) × (p.n + p.left ≤ 128) }
+    ensures { Reads inner small level s.now p.at p.n p.left nodes.old result nodes.new }
 {
-    let i = spaces(s, at);
+    let i = spaces(s, p.at);
     if s.len() <= i {
-        return refused(13, i);
+        return Err(refused(13, i));
     }
     let b = s[i];
     if b == b't' {
-        return word(s, i, left, n, nodes);
+        return word(s, Part { at: i, ..p }, nodes);
     }
     if b == b'(' {
         if level == 0 {
-            return refused(14, i);
+            return Err(refused(14, i));
         }
-        let r = or_part(s, i + 1, level - 1, inner, left, n, nodes);
+        let r = or_part(s, Part { at: i + 1, ..p }, level - 1, inner, nodes)?;
         return expect(s, r, b')');
     }
-    let kind = prefix_kind(b);
-    if kind == 0 {
-        return leaf_part(s, i, level, inner, left, n, nodes);
+    match prefix_kind(b) {
+        None => leaf_part(s, Part { at: i, ..p }, level, inner, nodes),
+        Some(o) => {
+            if level == 0 {
+                return Err(refused(14, i));
+            }
+            if p.left == 0 {
+                return Err(refused(14, i));
+            }
+            let operand = Part {
+                at: i + 1,
+                left: p.left - 1,
+                ..p
+            };
+            let q = small_part(s, operand, level - 1, inner, nodes)?;
+            Ok(with_one(nodes, q, o))
+        }
     }
-    if level == 0 {
-        return refused(14, i);
-    }
-    if left == 0 {
-        return refused(14, i);
-    }
-    let r = small_part(s, i + 1, level - 1, inner, left - 1, n, nodes);
-    with_one(nodes, r, kind)
 }
 
 // A leaf at its first byte: a mark in inner text, and a count in a clause.
 #[cycle(and_part_leaf_part_or_part_small_part_until_part)]
 fn leaf_part(
     s: &[u8],
-    i: usize,
+    p: Part,
     level: usize,
     inner: bool,
-    left: usize,
-    n: usize,
-    nodes: &mut [u8],
-) -> PartRead
-    requires { (i < length s.now) × (length s.now ≤ 16384) × (n + left ≤ 128) × (length nodes.old ≡ 512) }
-    ensures { LeafReads inner level s.now i n left nodes.old result nodes.new }
+    nodes: &mut [u8; 512],
+) -> Result<Part, Fault>
+    requires { (p.at < length s.now) × (length s.now ≤ 16384) × (p.n + p.left ≤ 128) }
+    ensures { LeafReads inner level s.now p.at p.n p.left nodes.old result nodes.new }
 {
     if inner {
-        return mark(s, i, left, n, nodes);
+        return mark(s, p, nodes);
     }
+    let i = p.at;
     if s[i] != b'[' {
-        return refused(13, i);
+        return Err(refused(13, i));
     }
     if level == 0 {
-        return refused(14, i);
+        return Err(refused(14, i));
     }
-    if left == 0 {
-        return refused(14, i);
+    if p.left == 0 {
+        return Err(refused(14, i));
     }
-    let r = or_part(s, i + 1, level - 1, true, left - 1, n, nodes);
+    let text = Part {
+        at: i + 1,
+        left: p.left - 1,
+        ..p
+    };
+    let r = or_part(s, text, level - 1, true, nodes)?;
     count_end(s, r, nodes)
 }
 
@@ -103,87 +109,88 @@ fn leaf_part(
 #[cycle(and_part_leaf_part_or_part_small_part_until_part)]
 fn until_part(
     s: &[u8],
-    at: usize,
+    p: Part,
     level: usize,
     inner: bool,
-    left: usize,
-    n: usize,
-    nodes: &mut [u8],
-) -> PartRead
-    requires { (at ≤ length s.now) × (length s.now ≤ 16384) × (n + left ≤ 128) × (length nodes.old ≡ 512) }
-    ensures { Reads inner untils level s.now at n left nodes.old result nodes.new }
+    nodes: &mut [u8; 512],
+) -> Result<Part, Fault>
+    requires { (p.at ≤ length s.now) × (length s.now ≤ 16384) × (p.n + p.left ≤ 128) }
+    ensures { Reads inner untils level s.now p.at p.n p.left nodes.old result nodes.new }
 {
-    let r = small_part(s, at, level, inner, left, n, nodes);
-    let k = reach_at(s, r);
-    let i = k.at;
-    if s.len() <= i {
-        return r;
+    let r = small_part(s, p, level, inner, nodes)?;
+    match reach_at(s, r.at) {
+        None => Ok(r),
+        Some(k) => {
+            if level == 0 {
+                return Err(refused(14, k.at));
+            }
+            if r.left == 0 {
+                return Err(refused(14, k.at));
+            }
+            let rest = Part {
+                at: k.at + 1,
+                left: r.left - 1,
+                ..r
+            };
+            let q = until_part(s, rest, level - 1, inner, nodes)?;
+            Ok(with_two(nodes, q, k.operator, r.n - 1))
+        }
     }
-    if level == 0 {
-        return refused(14, i);
-    }
-    if r.left == 0 {
-        return refused(14, i);
-    }
-    let a = r.n;
-    let q = until_part(s, i + 1, level - 1, inner, r.left - 1, a, nodes);
-    with_two(nodes, q, k.kind, a - 1)
 }
 
-// An and-chain: until-chains joined by `&`, to the left.
+// An and-chain: until-chains joined by `&`, to the left. One function for this and the or-chain, told what joins it, was proved
+// and is slower by 6 %: 718,581 instructions against 678,864 for bench/inputs/c.
 #[cycle(and_part_leaf_part_or_part_small_part_until_part)]
 fn and_part(
     s: &[u8],
-    at: usize,
+    p: Part,
     level: usize,
     inner: bool,
-    left: usize,
-    n: usize,
-    nodes: &mut [u8],
-) -> PartRead
-    requires { (at ≤ length s.now) × (length s.now ≤ 16384) × (n + left ≤ 128) × (length nodes.old ≡ 512) }
-    ensures { Reads inner ands level s.now at n left nodes.old result nodes.new }
+    nodes: &mut [u8; 512],
+) -> Result<Part, Fault>
+    requires { (p.at ≤ length s.now) × (length s.now ≤ 16384) × (p.n + p.left ≤ 128) }
+    ensures { Reads inner ands level s.now p.at p.n p.left nodes.old result nodes.new }
 {
-    let mut r = until_part(s, at, level, inner, left, n, nodes);
-    loop {
-        let i = operator_at(s, r, b'&');
-        if s.len() <= i {
-            return r;
-        }
+    let mut r = until_part(s, p, level, inner, nodes)?;
+    while let Some(i) = operator_at(s, r.at, b'&') {
         if r.left == 0 {
-            return refused(14, i);
+            return Err(refused(14, i));
         }
-        let a = r.n;
-        let q = until_part(s, i + 1, level, inner, r.left - 1, a, nodes);
-        r = with_two(nodes, q, 6, a - 1);
+        let next = Part {
+            at: i + 1,
+            left: r.left - 1,
+            ..r
+        };
+        let q = until_part(s, next, level, inner, nodes)?;
+        r = with_two(nodes, q, Binary::And, r.n - 1);
     }
+    Ok(r)
 }
 
 // An or-chain: and-chains joined by `|`, to the left.
 #[cycle(and_part_leaf_part_or_part_small_part_until_part)]
 pub(crate) fn or_part(
     s: &[u8],
-    at: usize,
+    p: Part,
     level: usize,
     inner: bool,
-    left: usize,
-    n: usize,
-    nodes: &mut [u8],
-) -> PartRead
-    requires { (at ≤ length s.now) × (length s.now ≤ 16384) × (n + left ≤ 128) × (length nodes.old ≡ 512) }
-    ensures { Reads inner ors level s.now at n left nodes.old result nodes.new }
+    nodes: &mut [u8; 512],
+) -> Result<Part, Fault>
+    requires { (p.at ≤ length s.now) × (length s.now ≤ 16384) × (p.n + p.left ≤ 128) }
+    ensures { Reads inner ors level s.now p.at p.n p.left nodes.old result nodes.new }
 {
-    let mut r = and_part(s, at, level, inner, left, n, nodes);
-    loop {
-        let i = operator_at(s, r, b'|');
-        if s.len() <= i {
-            return r;
-        }
+    let mut r = and_part(s, p, level, inner, nodes)?;
+    while let Some(i) = operator_at(s, r.at, b'|') {
         if r.left == 0 {
-            return refused(14, i);
+            return Err(refused(14, i));
         }
-        let a = r.n;
-        let q = and_part(s, i + 1, level, inner, r.left - 1, a, nodes);
-        r = with_two(nodes, q, 7, a - 1);
+        let next = Part {
+            at: i + 1,
+            left: r.left - 1,
+            ..r
+        };
+        let q = and_part(s, next, level, inner, nodes)?;
+        r = with_two(nodes, q, Binary::Or, r.n - 1);
     }
+    Ok(r)
 }

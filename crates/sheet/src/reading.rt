@@ -1,58 +1,64 @@
 // Reading a rule sheet line by line.
-ghost use Rattle.std.specs.Prelude.{◌≡◌, ◌≤◌, ◌<◌, length, drop};
+ghost use Rattle.std.specs.Prelude.{◌≡◌, ◌≤◌, ◌<◌, length, drop, IfErr};
 ghost use Rattle.grammar.specs.Limits.{count_nodes};
 ghost use Rattle.grammar.specs.Nodes.{flat_count};
 ghost use Rattle.grammar.specs.Reader.{clause_line};
-ghost use Rattle.refusal.specs.Codes.{at_offset};
-ghost use Rattle.refusal.specs.declared.Verdict.TheVariants.{Rules as AboutRules};
+ghost use Rattle.refusal.specs.Results.{checked};
 ghost use Rattle.token.specs.Parts.{PartIs};
 ghost use Rattle.sheet.specs.Promises.{RulesRead};
+ghost use Rattle.sheet.specs.Rules.{rules_verdict, told_verdict};
 
 use crate::parts::or_part;
-use refusal::Verdict;
-use token::{PartRead, expect};
+use refusal::Refused;
+use token::{Fault, Part, expect, refused};
 
 // A line: a clause and byte 10. The clause's nodes are put into the block, its own the last.
-pub fn read_clause(s: &[u8], at: usize, nodes: &mut [u8]) -> PartRead
-    requires { (at ≤ length s.now) × (length s.now ≤ 16384) × (length nodes.old ≡ 512) }
+pub fn read_clause(s: &[u8], at: usize, nodes: &mut [u8; 512]) -> Result<Part, Fault>
+    requires { (at ≤ length s.now) × (length s.now ≤ 16384) }
     ensures { PartIs count_nodes flat_count s.now 0 128 nodes.old result nodes.new
         (clause_line 128 (drop at s.now)) }
 {
-    let r = or_part(s, at, 32, false, 128, 0, nodes);
+    let start = Part {
+        at,
+        left: 128,
+        n: 0,
+    };
+    let r = or_part(s, start, 32, false, nodes)?;
     expect(s, r, 10)
 }
 
-// A refusal of the sheet at an offset.
-fn refuse_at(number: u32, at: usize) -> Verdict
-    requires { at ≤ 16384 }
-    ensures { result ≡ AboutRules (at_offset number at) }
+// Reads line after line, at most 32 of them.
+fn read_lines(s: &[u8]) -> Result<(), Fault>
+    ensures answer { told_verdict result ≡ rules_verdict s.now }
+    ensures inside { IfErr result (λ f. f.at ≤ 16384) }
 {
-    Verdict::Rules(refusal::at_offset(number, at as u32))
+    if 16384 < s.len() {
+        return Err(refused(12, 0));
+    }
+    if s.len() == 0 {
+        return Err(refused(7, 0));
+    }
+    let mut nodes = [0u8; 512];
+    let mut at = 0;
+    for _line in 0..32u32 {
+        if s.len() <= at {
+            return Ok(());
+        }
+        let r = read_clause(s, at, &mut nodes)?;
+        at = r.at;
+    }
+    if at < s.len() {
+        return Err(refused(14, at));
+    }
+    Ok(())
 }
 
 // Reads a rule sheet.
-pub fn read(s: &[u8]) -> Verdict
-    ensures { RulesRead s.now result }
+pub fn read(s: &[u8]) -> Result<(), Refused>
+    ensures { RulesRead s.now (checked result) }
 {
-    if 16384 < s.len() {
-        return refuse_at(12, 0);
+    match read_lines(s) {
+        Ok(()) => Ok(()),
+        Err(f) => Err(Refused::Rules(refusal::at_offset(f.number, f.at as u32))),
     }
-    if s.len() == 0 {
-        return refuse_at(7, 0);
-    }
-    let mut nodes = [0u8; 512];
-    let mut at: usize = 0;
-    let mut k: usize = 32;
-    while at < s.len() {
-        if k == 0 {
-            return refuse_at(14, at);
-        }
-        let r = read_clause(s, at, &mut nodes);
-        if r.fault != 0 {
-            return refuse_at(r.fault, r.at);
-        }
-        at = r.at;
-        k -= 1;
-    }
-    Verdict::Accepted
 }

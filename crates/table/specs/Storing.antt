@@ -1,6 +1,8 @@
 -- Words stored one after the other, upwards or downwards.
-use Rattle.std.specs.Prelude.{ℕ, ◌+◌, ◌-◌, ◌≤◌, ◌<◌, ◌≡◌, refl, List, get_or, length, set}
-use Rattle.std.proofs.Common.{sym, ap, subst, ◌∙◌, inl, inr, ⊎_elim, arith, length-set, get_or-set_same, get_or-set_other}
+use Rattle.std.specs.Prelude.{ℕ, ◌+◌, ◌-◌, ◌≤◌, ◌<◌, ◌≡◌, refl, List, get_or, length, set, replicate}
+use Rattle.std.proofs.Common.{sym, ap, subst, ◌∙◌, inl, inr, ⊎_elim, arith, rules, length-set, get_or-set_same, get_or-set_other}
+use borrow.Rule.Slice.PartMut.{put_mid}
+use Rattle.std.proofs.lemmas.List.{length-replicate, places}
 use Rattle.cltl.proofs.Basics.{lt_or_le}
 use Rattle.table.specs.Table.{Stored, Apart}
 
@@ -55,6 +57,22 @@ module _ (P : ℕ → ℕ → Type 0) (at : ℕ) where
     below = λ j u. q.below j u ∙ r.below j (omega arith);
     above = λ j u. q.above j u ∙ r.above j u;
   }
+
+-- up to the end
+pub ended : {P : ℕ → ℕ → Type 0} {at from to end : ℕ} {before after : List ℕ} → to ≡ end → Stored P at from to before after
+    → Stored P at from end before after
+ended {P} {at} {from} {to} {end} {before} {after} e r = subst (λ (n : ℕ). Stored P at from n before after) e r
+
+-- a part filled with one word
+pub filled : (at from to x start k n : ℕ) (t part : List ℕ) → start ≡ at + from → k ≡ to - from → n ≡ to - from → from ≤ to → at + to ≤ length t
+    → part ≡ replicate n x → Stored (λ s y. y ≡ x) at from to t (put_mid start k t part)
+filled at from to x start k n t part e f g p room same =
+    let size : length part ≡ to - from = ap length same ∙ length-replicate n x ∙ g in record {
+      kept = search (rules, places, size);
+      each = λ s u v. search (rules, places, size);
+      below = λ j u. search (rules, places, size);
+      above = λ j u. search (rules, places, size);
+    }
 
 -- words with P have Q
 pub stored_of : (P Q : ℕ → ℕ → Type 0) (at from to : ℕ) (before after : List ℕ) → ((s x : ℕ) → from ≤ s → s < to → P s x → Q s x)

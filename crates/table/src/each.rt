@@ -1,11 +1,25 @@
 // Tables made word by word.
-ghost use Rattle.std.specs.Prelude.{not, ◌||◌, ◌+◌, ◌<◌, ◌≤◌, length};
+ghost use Rattle.std.specs.Prelude.{ℕ, not, ◌||◌, ◌+◌, ◌^◌, ◌<◌, ◌≤◌, Bool, length, get_or};
 ghost use Rattle.row.specs.Lasso.{next_step};
 ghost use Rattle.cltl.specs.Rules.{join};
 ghost use Rattle.mask.specs.Mask.{signed};
-ghost use Rattle.table.specs.Table.{told, Table, Apart};
+ghost use Rattle.table.specs.Table.{told, Word, Table, Apart};
 
 use crate::words::{flip, join_word};
+
+// The table at k, each word made of those at a and b by a rule for words. It may ask for words of 32 bits alone.
+fn each_word<F: Fn(u32, u32) -> u32>(t: &mut [u32], a: usize, b: usize, k: usize, h: usize, rule: F)
+    requires h_in_bounds { (a + h ≤ length t.old) × (b + h ≤ length t.old) × (k + h ≤ length t.old) }
+    requires apart { Apart a k h × Apart b k h }
+    requires callable { (x y : ℕ) → x < 2 ^ 32 → y < 2 ^ 32 → F.pre rule x y }
+    ensures { (f : ℕ → ℕ → Bool)
+        → ((s r : ℕ) → s < h → F.post rule (get_or t.old (a + s) 0) (get_or t.old (b + s) 0) r → Word (λ i. f i s) r)
+        → Table f k h t.old t.new }
+{
+    for s in 0..h {
+        t[k + s] = rule(t[a + s], t[b + s]);
+    }
+}
 
 // "and" (p) or "or" of the tables at a and b.
 pub fn join_table(p: bool, t: &mut [u32], a: usize, b: usize, k: usize, h: usize)
@@ -13,11 +27,7 @@ pub fn join_table(p: bool, t: &mut [u32], a: usize, b: usize, k: usize, h: usize
     requires apart { Apart a k h × Apart b k h }
     ensures { Table (λ i s. join p (told t.old a i s) (told t.old b i s)) k h t.old t.new }
 {
-    let mut s = 0;
-    while s < h {
-        t[k + s] = join_word(p, t[a + s], t[b + s]);
-        s += 1;
-    }
+    each_word(t, a, b, k, h, |x, y| join_word(p, x, y));
 }
 
 // The or of two texts: that whose table begins at a (pa), or its negation, and the one at b (pb), or its negation.
@@ -29,11 +39,7 @@ pub fn either_table(pa: bool, pb: bool, t: &mut [u32], a: usize, b: usize, k: us
 {
     let flip_a = flip(pa);
     let flip_b = flip(pb);
-    let mut s = 0;
-    while s < h {
-        t[k + s] = (t[a + s] ^ flip_a) | (t[b + s] ^ flip_b);
-        s += 1;
-    }
+    each_word(t, a, b, k, h, |x, y| (x ^ flip_a) | (y ^ flip_b));
 }
 
 // "not": inner text is exact, so its negation is the complement.
@@ -41,11 +47,7 @@ pub fn not_table(t: &mut [u32], a: usize, k: usize, h: usize)
     requires { (a + h ≤ length t.old) × (k + h ≤ length t.old) × Apart a k h }
     ensures { Table (λ i s. not (told t.old a i s)) k h t.old t.new }
 {
-    let mut s = 0;
-    while s < h {
-        t[k + s] = t[a + s] ^ u32::MAX;
-        s += 1;
-    }
+    each_word(t, a, a, k, h, |x, _| x ^ u32::MAX);
 }
 
 // What is true a step later, the lap's first step after the last.
@@ -54,10 +56,8 @@ pub fn next_table(t: &mut [u32], a: usize, k: usize, h: usize, l: usize)
     ensures { Table (λ i s. told t.old a i (next_step h l s)) k h t.old t.new }
 {
     let last = h - 1;
-    let mut s = 0;
-    while s < last {
+    for s in 0..last {
         t[k + s] = t[a + s + 1];
-        s += 1;
     }
     t[k + last] = t[a + l];
 }

@@ -13,9 +13,7 @@ fn over_lap(p: bool, t: &[u32], b: usize, h: usize, l: usize) -> u32
     ensures { Word (λ i. straight p (λ s. p) (told t.now b i) (not p) (h - l) l) result }
 {
     let mut v = same_word(!p);
-    let mut s = h;
-    while l < s {
-        s -= 1;
+    for s in (l..h).rev() {
         v = join_word(!p, t[b + s], v);
     }
     v
@@ -26,11 +24,7 @@ fn put_lap(t: &mut [u32], k: usize, h: usize, l: usize, v: u32)
     requires { (l < h) × (k + h ≤ length t.old) }
     ensures { Stored (λ s x. x ≡ v) k l h t.old t.new }
 {
-    let mut s = l;
-    while s < h {
-        t[k + s] = v;
-        s += 1;
-    }
+    t[k + l..k + h].fill(v);
 }
 
 // F (p) or G of the table at b: once over the lap, then backwards through the run-in, with a table c of p at every step.

@@ -25,16 +25,15 @@ pub(crate) fn back(
     ensures word { Word (λ i. straight p (told t.old a i) (told t.old b i) (on rest i) (to - from) from) result }
 {
     let mut v = rest;
-    let mut s = to;
-    while from < s {
-        s -= 1;
+    for s in (from..to).rev() {
         v = mix_word(p, t[a + s], t[b + s], v);
         t[k + s] = v;
     }
     v
 }
 
-// "until" (p) or "release": backwards over the lap for what is true at its first step, then backwards over all steps.
+// "until" (p) or "release": backwards over the lap for what is true at its first step, then backwards over all steps. h and l are no mask::Lasso, which
+// would ask of until_table, next_table and ever_table that h is 64 at most.
 pub fn until_table(p: bool, t: &mut [u32], a: usize, b: usize, k: usize, h: usize, l: usize)
     requires l_lt_h { (l < h) × (a + h ≤ length t.old) × (b + h ≤ length t.old) × (k + h ≤ length t.old) }
     requires apart { Apart a k h × Apart b k h }

@@ -18,7 +18,7 @@ pub fn flip(p: bool) -> u32
     same_word(!p)
 }
 
-// "and" (p) or "or".
+// "and" (p) or "or": mask::join_row is the same of rows of 64 bits; one for both would ask for a trait that says what & and | do to bits, no plainer.
 pub(crate) fn join_word(p: bool, a: u32, b: u32) -> u32
     ensures { Word (λ i. join p (on a i) (on b i)) result }
 {

@@ -1,8 +1,8 @@
 -- An operator's node behind its operands': the part that it makes.
-use Rattle.std.specs.Prelude.{ℕ, suc, ◌+◌, ◌-◌, ◌*◌, ◌≤◌, ◌≡◌, Bool, cond, drop}
+use Rattle.std.specs.Prelude.{ℕ, suc, ◌+◌, ◌-◌, ◌*◌, ◌≤◌, ◌≡◌, Result, Ok, Err, drop}
 use native.Mathlib.Omega.{arith}
 use Rattle.std.proofs.Math.Path.{refl, ap, ap₂}
-use Rattle.std.proofs.Common.{sym, subst, ◌∙◌, eq-eqb, ne_eqb}
+use Rattle.std.proofs.Common.{sym, subst, ◌∙◌}
 use mathlib.Core.List.{List, [], ◌∷◌, ◌++◌, append_assoc, append-nil}
 use Rattle.std.proofs.Math.ListN.{length, length-append}
 use Rattle.record.specs.Buffer.{stored}
@@ -10,12 +10,12 @@ use Rattle.record.specs.Stored.{stored_more, length-stored}
 use Rattle.grammar.specs.Grammar.{Form, amount}
 use Rattle.grammar.specs.Limits.{nodes}
 use Rattle.grammar.specs.Nodes.{Node, top_n, mark_n, count_n, one_n, two_n, Op₁, Op₂, flat}
-use Rattle.grammar.specs.Reader.{Got, got, no, bind}
+use Rattle.grammar.specs.Reader.{Got, got, no, Reader, bind}
 use Rattle.token.specs.Block.{one_byte, two_byte, node_bytes, nodes_bytes}
-use Rattle.token.specs.Leaves.{PartRefused}
 use Rattle.token.specs.Parts.{Held, PartIs}
 use Rattle.token.specs.More.{more_one, WithNode}
-use Rattle.token.specs.declared.PartRead.{PartRead}
+use Rattle.token.specs.declared.Part.{Part}
+use Rattle.token.specs.declared.Fault.{Fault}
 
 four : (x : Node) → length (node_bytes x) ≡ 4
 four top_n = refl
@@ -46,21 +46,20 @@ stored_nodes before n ns ms room =
     ap (λ (k : ℕ). stored (stored before (4 * n) (nodes_bytes ns)) k (nodes_bytes ms)) at
     ∙ stored_more before (4 * n) (nodes_bytes ns) (nodes_bytes ms) (omega arith) ∙ ap (stored before (4 * n)) (sym (nodes_append ns ms))
 
--- a refused part stays refused
-pub stay : (s before mid early : List ℕ) (r : PartRead) (node : List ℕ) (q : PartRead) (after : List ℕ) (w : ℕ) (t : List ℕ)
-    → PartRefused s mid r early w t → length mid ≡ length before → WithNode early r node q after → PartRefused s before q after w t
-stay s before mid early r node q after w t k long g =
-    let e : q ≡ r = g.part ∙ ap (λ (b : Bool). cond b (more_one r) r) (ne_eqb _ _ k.some) in
-    let b : after ≡ early = g.block ∙ ap (λ (b : Bool). cond b (stored early (4 * r.n) node) early) (ne_eqb _ _ k.some) in
-    record {
-      number = ap (λ (x : PartRead). x.fault) e ∙ k.number;
-      some = λ z. k.some (sym (ap (λ (x : PartRead). x.fault) e) ∙ z);
-      none = ap (λ (x : PartRead). x.left) e ∙ k.none;
-      nodes = ap (λ (x : PartRead). x.n) e ∙ k.nodes;
-      behind = ap (λ (x : PartRead). drop x.at s) e ∙ k.behind;
-      inside = subst (λ (x : PartRead). x.at ≤ length s) (sym e) k.inside;
-      block = ap length b ∙ k.block ∙ long;
-    }
+-- a refused part stays refused, whatever was to follow it
+pub stay : {L M : Type 0} (leaf_nodes : L → ℕ) (leaf_flat : L → ℕ → List Node) (leaf_nodes₁ : M → ℕ) (leaf_flat₁ : M → ℕ → List Node) (s : List ℕ)
+    (n left n₁ left₁ : ℕ) (mid before : List ℕ) (f : Fault) (after : List ℕ) (g : Got (Form L))
+    → PartIs leaf_nodes leaf_flat s n left mid (Err f) after g → length mid ≡ length before → (k : Form L → Reader (Form M))
+    → PartIs leaf_nodes₁ leaf_flat₁ s n₁ left₁ before (Err f) after (bind g k)
+unfolding bind
+stay leaf_nodes leaf_flat leaf_nodes₁ leaf_flat₁ s n left n₁ left₁ mid before f after (got a m t) h long k = absurd h
+stay leaf_nodes leaf_flat leaf_nodes₁ leaf_flat₁ s n left n₁ left₁ mid before f after (no w t) h long k = record {
+  number = h.number;
+  some = h.some;
+  behind = h.behind;
+  inside = h.inside;
+  block = h.block ∙ long;
+}
 
 module _ {L : Type 0} (leaf_nodes : L → ℕ) (leaf_flat : L → ℕ → List Node)
     (fl : (a : Form L) (b : ℕ) → length (flat leaf_nodes leaf_flat a b) ≡ nodes leaf_nodes a) (s : List ℕ) where
@@ -71,56 +70,51 @@ module _ {L : Type 0} (leaf_nodes : L → ℕ) (leaf_flat : L → ℕ → List N
   Fl a b = flat leaf_nodes leaf_flat a b
 
   -- a node put behind a part that was read
-  module _ (n left : ℕ) (before mid : List ℕ) (r : PartRead) (m : ℕ) (t : List ℕ) (x : Node) (q : PartRead) (after : List ℕ)
-      (ns : List Node) (b : Form L) (is : Fl b n ≡ ns ++ (x ∷ [])) (fine : r.fault ≡ 0) (behind : drop r.at s ≡ t) (inside : r.at ≤ length s)
+  module _ (n left : ℕ) (before mid : List ℕ) (r : Part) (m : ℕ) (t : List ℕ) (x : Node) (q : Part) (after : List ℕ)
+      (ns : List Node) (b : Form L) (is : Fl b n ≡ ns ++ (x ∷ [])) (behind : drop r.at s ≡ t) (inside : r.at ≤ length s)
       (allowed : r.left ≡ m) (slots : r.n ≡ n + length ns) (kept : r.n + r.left + 1 ≡ n + left) (block : mid ≡ stored before (4 * n) (nodes_bytes ns))
       (long : length before ≡ 512) (few : n + left ≤ 128) (g : WithNode mid r (node_bytes x) q after) where
     pub put_behind : Held leaf_nodes leaf_flat s n left before q after b m t
     put_behind =
-        let e : q ≡ more_one r = g.part ∙ ap (λ (b : Bool). cond b (more_one r) r) (eq-eqb _ _ fine) in
-        let o : after ≡ stored mid (4 * r.n) (node_bytes x) =
-        g.block ∙ ap (λ (b : Bool). cond b (stored mid (4 * r.n) (node_bytes x)) mid) (eq-eqb _ _ fine) in
-        let nq : q.n ≡ r.n + 1 = ap (λ (p : PartRead). p.n) e in
-        let lq : q.left ≡ r.left = ap (λ (p : PartRead). p.left) e in
+        let e : q ≡ more_one r = g.part in
+        let nq : q.n ≡ r.n + 1 = ap (λ (p : Part). p.n) e in
+        let lq : q.left ≡ r.left = ap (λ (p : Part). p.left) e in
         let size = ap length is ∙ length-append ns (x ∷ []) in
         record {
-          fine = ap (λ (p : PartRead). p.fault) e ∙ fine;
-          behind = ap (λ (p : PartRead). drop p.at s) e ∙ behind;
-          inside = subst (λ (p : PartRead). p.at ≤ length s) (sym e) inside;
+          behind = ap (λ (p : Part). drop p.at s) e ∙ behind;
+          inside = subst (λ (p : Part). p.at ≤ length s) (sym e) inside;
           allowed = lq ∙ allowed;
           slots = omega arith;
           kept = omega arith;
           block =
-              o ∙ ap₂ (λ (l : List ℕ) (k : ℕ). stored l (4 * k) (node_bytes x)) block slots
+              g.block ∙ ap₂ (λ (l : List ℕ) (k : ℕ). stored l (4 * k) (node_bytes x)) block slots
               ∙ ap (stored (stored before (4 * n) (nodes_bytes ns)) (4 * (n + length ns))) (sym (nodes_one x))
               ∙ stored_nodes before n ns (x ∷ []) (omega arith) ∙ ap (λ (l : List Node). stored before (4 * n) (nodes_bytes l)) (sym is);
         }
 
   -- an operator over one part
   module _ (o : Op₁) (mk : Form L → Form L) (flat-mk : (a : Form L) (b : ℕ) → Fl (mk a) b ≡ Fl a b ++ (one_n o ((b + N a) - 1) ∷ [])) where
-    pub one_part : (n left : ℕ) (before : List ℕ) (r : PartRead) (mid : List ℕ) (g : Got (Form L)) (q : PartRead) (after : List ℕ)
-        → PartIs leaf_nodes leaf_flat s n left before r mid g → length before ≡ 512 → n + suc left ≤ 128
+    pub one_part : (n left : ℕ) (before : List ℕ) (r : Part) (mid : List ℕ) (g : Got (Form L)) (q : Part) (after : List ℕ)
+        → PartIs leaf_nodes leaf_flat s n left before (Ok r) mid g → length before ≡ 512 → n + suc left ≤ 128
         → WithNode mid r (one_byte o ∷ (r.n - 1) ∷ 0 ∷ 0 ∷ []) q after
-        → PartIs leaf_nodes leaf_flat s n (suc left) before q after (bind g (λ a m t. got (mk a) m t))
+        → PartIs leaf_nodes leaf_flat s n (suc left) before (Ok q) after (bind g (λ a m t. got (mk a) m t))
     unfolding bind
-    one_part n left before r mid (no w t) q after h long few g = stay s before before mid r _ q after w t h refl g
+    one_part n left before r mid (no w t) q after h long few g = absurd h
     one_part n left before r mid (got a m t) q after h long few g =
         let e : (r.n - 1) ≡ (n + N a) - 1 = omega (arith, h.slots, fl a n) in
-        put_behind n (suc left) before mid r m t (one_n o ((n + N a) - 1)) q after (Fl a n) (mk a) (flat-mk a n) h.fine h.behind h.inside h.allowed
+        put_behind n (suc left) before mid r m t (one_n o ((n + N a) - 1)) q after (Fl a n) (mk a) (flat-mk a n) h.behind h.inside h.allowed
         h.slots (omega (arith, h.kept)) h.block long few (subst (λ (k : ℕ). WithNode mid r (one_byte o ∷ k ∷ 0 ∷ 0 ∷ []) q after) e g)
 
   -- an operator over two
   module _ (o : Op₂) (mk : Form L → Form L → Form L)
       (flat-mk : (a c : Form L) (b : ℕ) → Fl (mk a c) b ≡ (Fl a b ++ Fl c (b + N a)) ++ (two_n o ((b + N a) - 1) (((b + N a) + N c) - 1) ∷ [])) where
-    pub two_parts : (n left : ℕ) (before : List ℕ) (r : PartRead) (mid : List ℕ) (a : Form L) (m : ℕ) (t : List ℕ)
+    pub two_parts : (n left : ℕ) (before : List ℕ) (r : Part) (mid : List ℕ) (a : Form L) (m : ℕ) (t : List ℕ)
         → Held leaf_nodes leaf_flat s n left before r mid a (suc m) t
-        → length before ≡ 512 → n + left ≤ 128 → (p : PartRead) (late : List ℕ) (g : Got (Form L)) → PartIs leaf_nodes leaf_flat s r.n m mid p late g
-        → (q : PartRead) (after : List ℕ) → WithNode late p (two_byte o ∷ (r.n - 1) ∷ (p.n - 1) ∷ 0 ∷ []) q after
-        → PartIs leaf_nodes leaf_flat s n left before q after (bind g (λ c m₂ t₂. got (mk a c) m₂ t₂))
+        → length before ≡ 512 → n + left ≤ 128 → (p : Part) (late : List ℕ) (g : Got (Form L)) → PartIs leaf_nodes leaf_flat s r.n m mid (Ok p) late g
+        → (q : Part) (after : List ℕ) → WithNode late p (two_byte o ∷ (r.n - 1) ∷ (p.n - 1) ∷ 0 ∷ []) q after
+        → PartIs leaf_nodes leaf_flat s n left before (Ok q) after (bind g (λ c m₂ t₂. got (mk a c) m₂ t₂))
     unfolding bind
-    two_parts n left before r mid a m t h long few p late (no w t₂) k q after g =
-        stay s before mid late p _ q after w t₂ k
-        (ap length h.block ∙ length-stored before (4 * n) (nodes_bytes (Fl a n)) (omega (arith, length_nodes (Fl a n), h.slots, h.kept))) g
+    two_parts n left before r mid a m t h long few p late (no w t₂) k q after g = absurd k
     two_parts n left before r mid a m t h long few p late (got c m₂ t₂) k q after g =
         let na = fl a n in
         let nc = fl c r.n in
@@ -135,15 +129,17 @@ module _ {L : Type 0} (leaf_nodes : L → ℕ) (leaf_flat : L → ℕ → List N
         k.block ∙ ap₂ (λ (l : List ℕ) (i : ℕ). stored l (4 * i) (nodes_bytes (Fl c r.n))) h.block h.slots
         ∙ ap (λ (l : List Node). stored (stored before (4 * n) (nodes_bytes (Fl a n))) (4 * (n + length (Fl a n))) (nodes_bytes l)) same
         ∙ stored_nodes before n (Fl a n) (Fl c (n + N a)) (omega (arith, h.slots, h.kept)) in
-        put_behind n left before late p m₂ t₂ (two_n o ((n + N a) - 1) (((n + N a) + N c) - 1)) q after ns (mk a c) (flat-mk a c n) k.fine
+        put_behind n left before late p m₂ t₂ (two_n o ((n + N a) - 1) (((n + N a) + N c) - 1)) q after ns (mk a c) (flat-mk a c n)
         k.behind k.inside k.allowed
         (omega (arith, k.slots)) (omega (arith, k.kept, h.kept, h.allowed)) both long few
         (subst (λ (j : ℕ). WithNode late p (two_byte o ∷ ((n + N a) - 1) ∷ j ∷ 0 ∷ []) q after) last
         (subst (λ (i : ℕ). WithNode late p (two_byte o ∷ i ∷ (p.n - 1) ∷ 0 ∷ []) q after) first g))
 
   -- the block keeps its length
-  pub part_length : (n left : ℕ) (before : List ℕ) (r : PartRead) (block : List ℕ) (g : Got (Form L)) → PartIs leaf_nodes leaf_flat s n left before r block g
-      → length before ≡ 512 → n + left ≤ 128 → length block ≡ length before
-  part_length n left before r block (no w t) h long few = h.block
-  part_length n left before r block (got a m t) h long few =
+  pub part_length : (n left : ℕ) (before : List ℕ) (r : Result Part Fault) (block : List ℕ) (g : Got (Form L))
+      → PartIs leaf_nodes leaf_flat s n left before r block g → length before ≡ 512 → n + left ≤ 128 → length block ≡ length before
+  part_length n left before (Err f) block (no w t) h long few = h.block
+  part_length n left before (Ok r) block (no w t) h long few = absurd h
+  part_length n left before (Err f) block (got a m t) h long few = absurd h
+  part_length n left before (Ok r) block (got a m t) h long few =
       ap length h.block ∙ length-stored before (4 * n) (nodes_bytes (Fl a n)) (omega (arith, length_nodes (Fl a n), h.slots, h.kept))

@@ -7,6 +7,7 @@ pub mod More
 pub mod Operator
 pub mod Counts
 -- laws
+pub mod Decoded
 pub mod Digits
 pub mod Joined
 pub mod Placed

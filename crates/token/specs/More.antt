@@ -1,12 +1,11 @@
 -- A node more behind a part.
-use Rattle.std.specs.Prelude.{ℕ, ◌+◌, ◌*◌, ◌≡◌, cond, List, eqb}
+use Rattle.std.specs.Prelude.{ℕ, ◌+◌, ◌*◌, ◌≡◌, List}
 use Rattle.record.specs.Buffer.{stored}
-use Rattle.token.specs.declared.PartRead.{PartRead}
+use Rattle.token.specs.declared.Part.{Part}
 
-abbrev pub more_one : PartRead → PartRead
-more_one r = record { fault = r.fault; at = r.at; left = r.left; n = r.n + 1 }
+abbrev pub more_one : Part → Part
+more_one r = record { at = r.at; left = r.left; n = r.n + 1 }
 
--- if the part was read; a refused one is left as it is
-pub record WithNode (before : List ℕ) (r : PartRead) (node : List ℕ) (q : PartRead) (after : List ℕ) : Type 0 where
-  pub part : q ≡ cond (eqb r.fault 0) (more_one r) r
-  pub block : after ≡ cond (eqb r.fault 0) (stored before (4 * r.n) node) before
+pub record WithNode (before : List ℕ) (r : Part) (node : List ℕ) (q : Part) (after : List ℕ) : Type 0 where
+  pub part : q ≡ more_one r
+  pub block : after ≡ stored before (4 * r.n) node

@@ -3,63 +3,52 @@ ghost use Rattle.std.specs.Prelude.{◌≡◌, [], ◌∷◌, ◌+◌, ◌-◌, 
 ghost use Rattle.grammar.specs.Nodes.{top_n, mark_n};
 ghost use Rattle.record.specs.Buffer.{stored};
 ghost use Rattle.grammar.specs.Reader.{marks};
+ghost use Rattle.token.specs.Block.{kind_byte};
 ghost use Rattle.token.specs.Operator.{OperatorAt, Reaches};
 ghost use Rattle.token.specs.Leaves.{LeafIs, Expected, ByteAt, word_got};
 
 use crate::nodes::{put, refused};
 use crate::tokens::{number, spaces};
-use crate::{PartRead, ReachAt};
+use crate::{Binary, Fault, Kind, Part, ReachAt};
 
-// The offset of an operator behind a part that was read; the sheet's length if there is none.
-pub fn operator_at(s: &[u8], r: PartRead, c: u8) -> usize
-    ensures { OperatorAt s.now r c result }
+// The offset of an operator behind spaces from `at` on, if it stands there.
+pub fn operator_at(s: &[u8], at: usize, c: u8) -> Option<usize>
+    ensures { OperatorAt s.now at c result }
 {
-    if r.fault != 0 {
-        return s.len();
-    }
-    let i = spaces(s, r.at);
-    if s.len() <= i {
-        return s.len();
-    }
-    if s[i] != c {
-        return s.len();
-    }
-    i
+    let i = spaces(s, at);
+    if is_at(s, i, c) { Some(i) } else { None }
 }
 
-// `U` or `R` behind a part that was read; the sheet's length if there is neither.
-pub fn reach_at(s: &[u8], r: PartRead) -> ReachAt
-    ensures { Reaches s.now r result }
+// `U` or `R` behind spaces from `at` on, if one of them stands there.
+pub fn reach_at(s: &[u8], at: usize) -> Option<ReachAt>
+    ensures { Reaches s.now at result }
 {
-    let u = operator_at(s, r, b'U');
-    if u < s.len() {
-        return ReachAt { at: u, kind: 8 };
+    let i = spaces(s, at);
+    if is_at(s, i, b'U') {
+        return Some(reach(i, Binary::Until));
     }
-    let at = operator_at(s, r, b'R');
-    ReachAt { at, kind: 9 }
+    if is_at(s, i, b'R') {
+        return Some(reach(i, Binary::Release));
+    }
+    None
+}
+
+fn reach(at: usize, operator: Binary) -> ReachAt
+    ensures { result ≡ record { at = at; operator = operator } }
+{
+    ReachAt { at, operator }
 }
 
 // A part up to behind the byte that has to follow it.
-pub fn expect(s: &[u8], r: PartRead, c: u8) -> PartRead
+pub fn expect(s: &[u8], r: Part, c: u8) -> Result<Part, Fault>
     requires { r.at ≤ length s.now }
     ensures { Expected s.now r c result }
 {
-    if r.fault != 0 {
-        return r;
-    }
     let i = spaces(s, r.at);
-    if s.len() <= i {
-        return refused(13, i);
+    if !is_at(s, i, c) {
+        return Err(refused(13, i));
     }
-    if s[i] != c {
-        return refused(13, i);
-    }
-    PartRead {
-        fault: 0,
-        at: i + 1,
-        left: r.left,
-        n: r.n,
-    }
+    Ok(Part { at: i + 1, ..r })
 }
 
 pub(crate) fn is_at(s: &[u8], j: usize, c: u8) -> bool
@@ -72,57 +61,51 @@ pub(crate) fn is_at(s: &[u8], j: usize, c: u8) -> bool
 }
 
 // A node that stands alone, at the end of its token.
-fn alone(nodes: &mut [u8], at: usize, left: usize, n: usize, kind: u8, number: u8) -> PartRead
-    requires { (n < 128) × (0 < left) × (length nodes.old ≡ 512) }
-    ensures value { result ≡ record { fault = 0; at = at; left = left - 1; n = n + 1 } }
-    ensures nodes_after { nodes.new ≡ stored nodes.old (4 * n) (kind ∷ number ∷ 0 ∷ 0 ∷ []) }
+fn alone(nodes: &mut [u8; 512], p: Part, kind: Kind, number: u8) -> Part
+    requires { (p.n < 128) × (0 < p.left) }
+    ensures value { result ≡ record { at = p.at; left = p.left - 1; n = p.n + 1 } }
+    ensures nodes_after { nodes.new ≡ stored nodes.old (4 * p.n) (kind_byte kind ∷ number ∷ 0 ∷ 0 ∷ []) }
 {
-    let r = PartRead {
-        fault: 0,
-        at,
-        left: left - 1,
-        n,
+    let r = Part {
+        left: p.left - 1,
+        ..p
     };
     put(nodes, r, kind, number, 0, 0)
 }
 
 // `true`, behind its first byte.
-pub fn word(s: &[u8], i: usize, left: usize, n: usize, nodes: &mut [u8]) -> PartRead
-    requires { (i < length s.now) × (n + left ≤ 128) × (length nodes.old ≡ 512) }
-    ensures { LeafIs (λ u. top_n) s.now n left nodes.old result nodes.new (word_got s.now left i) }
+pub fn word(s: &[u8], p: Part, nodes: &mut [u8; 512]) -> Result<Part, Fault>
+    requires { (p.at < length s.now) × (p.n + p.left ≤ 128) }
+    ensures { LeafIs (λ u. top_n) s.now p.n p.left nodes.old result nodes.new (word_got s.now p.left p.at) }
 {
-    if !is_at(s, i + 1, b'r') {
-        return refused(13, i + 1);
+    let mut i = p.at + 1;
+    for c in b"rue" {
+        if !is_at(s, i, *c) {
+            return Err(refused(13, i));
+        }
+        i += 1;
     }
-    if !is_at(s, i + 2, b'u') {
-        return refused(13, i + 2);
+    if p.left == 0 {
+        return Err(refused(14, p.at));
     }
-    if !is_at(s, i + 3, b'e') {
-        return refused(13, i + 3);
-    }
-    if left == 0 {
-        return refused(14, i);
-    }
-    alone(nodes, i + 4, left, n, 0, 0)
+    Ok(alone(nodes, Part { at: i, ..p }, Kind::Top, 0))
 }
 
 // A mark, at its first byte.
-pub fn mark(s: &[u8], i: usize, left: usize, n: usize, nodes: &mut [u8]) -> PartRead
-    requires { (i < length s.now) × (n + left ≤ 128) × (length nodes.old ≡ 512) }
-    ensures { LeafIs mark_n s.now n left nodes.old result nodes.new (marks left (drop i s.now)) }
+pub fn mark(s: &[u8], p: Part, nodes: &mut [u8; 512]) -> Result<Part, Fault>
+    requires { (p.at < length s.now) × (p.n + p.left ≤ 128) }
+    ensures { LeafIs mark_n s.now p.n p.left nodes.old result nodes.new (marks p.left (drop p.at s.now)) }
 {
+    let i = p.at;
     if s[i] != b'm' {
-        return refused(13, i);
+        return Err(refused(13, i));
     }
-    let k = number(s, i + 1);
-    if !k.ok {
-        return refused(13, k.at);
-    }
-    if left == 0 {
-        return refused(14, i);
+    let k = number(s, i + 1)?;
+    if p.left == 0 {
+        return Err(refused(14, i));
     }
     if 31 < k.value {
-        return refused(15, i + 1);
+        return Err(refused(15, i + 1));
     }
-    alone(nodes, k.at, left, n, 1, k.value as u8)
+    Ok(alone(nodes, Part { at: k.at, ..p }, Kind::Mark, k.value as u8))
 }

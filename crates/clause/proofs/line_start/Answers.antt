@@ -12,15 +12,11 @@ returns-then-left-eq0 c = start_here _ _ _ _ c.loop-i.invariant c.if-left-eq0.tr
 pub ends_left-left-requires : goal.ends_left-left-requires
 ends_left-left-requires c = omega arith
 
-pub overflow_add-i : goal.overflow_add-i
-overflow_add-i c = omega arith
-
-pub loop-i-smaller : goal.loop-i-smaller
-loop-i-smaller c = omega arith
-
 pub loop-i-preserved : goal.loop-i-preserved
 loop-i-preserved c = let t = c in
     start_again _ _ _ _ t.loop-i.invariant t.loop-i-test.true (omega arith) _ c.ends_left-left.ensures
 
 pub returns : goal.returns
-returns c = start_end _ _ _ _ c.loop-i.invariant c.loop-i-test.false
+returns c =
+    let e = start_end _ _ _ _ c.loop-i.invariant c.loop-i-test.false in
+    omega (arith, e, c.loop-i.invariant.within, c.loop-i-test.false)

@@ -1,36 +1,35 @@
 use native.Mathlib.Omega.{arith}
-use mathlib.Core.Path.{sym, ap, ◌∙◌}
+use mathlib.Core.Path.{◌≡◌, sym, ap, ◌∙◌}
+use Rattle.std.specs.Prelude.{Err}
+use Rattle.std.proofs.Common.{rules}
+use Rattle.refusal.specs.Results.{told, checked}
 use Rattle.floor.specs.Located.{accepts}
-use Rattle.plan.specs.Read.{held_length, accepts_if, after_accepted, after_refused, held_numbers_lem, held_range}
-use Rattle.plan.specs.Promises.{AcceptedPlan}
 use Rattle.plan.specs.Plan.{PlanNumbers}
-use Rattle.moves.specs.Unending.{promise}
+use Rattle.plan.specs.Read.{after_accepted, after_refused, held_numbers_lem, held_range}
 use Rattle.moves.specs.Carts.{moves_verdict, judged_carts, checked_moves}
+use Rattle.moves.specs.Unending.{promise}
 use Rattle.moves.proofs.check.Goals as goal
 
--- src/lib.rt:96:9
-pub returns-then-not-accepts : goal.returns-then-not-accepts
+pub returns-in_err-r : goal.returns-in_err-r
 unfolding checked_moves
-returns-then-not-accepts c = promise _ _ _
-    (sym (after_refused (λ v. v) (moves_verdict c.args.floor.now) _ _ _
-    c.read-r.ensures.answer (sym c.accepts.ensures ∙ c.if-not-accepts.true)))
+returns-in_err-r c =
+    let e : c.from_residual.result ≡ Err c.in_err-r.field-0.0 = search rules in
+    let same = sym c.in_err-r.was ∙ c.read.ensures.answer in
+    promise _ _ _ (ap checked e ∙ sym (after_refused told (moves_verdict c.args.floor.now) _ _ _ same))
 
--- src/lib.rt:100:5
-pub judge_plan-requires : goal.judge_plan-requires
-judge_plan-requires c = let read-it : AcceptedPlan c.args.floor.now c.args.plan.now
-    c.read-r.result = accepts_if _ _ _ c.read-r.ensures (sym c.accepts.ensures ∙ c.if-not-accepts.false) in
-    let w = read-it in
-    let h = held_range _ _ _ w in
-    let f = accepts _ _ (λ i. omega (arith, c.type_inv.floor i)) w.floor_read in record { accepted_floor = f; stem_lt_steps = (h.stem, h.steps, held_length _ _ _ w f.valid.few_carts) }
+pub judge_plan-requires-clause-accepted_floor : goal.judge_plan-requires-clause-accepted_floor
+judge_plan-requires-clause-accepted_floor c =
+    accepts _ _ (λ i. omega (arith, c.type_inv.floor i)) (c.read.ensures.accepted _ c.in_ok-r.was).floor_read
 
--- src/lib.rt:90:1
+pub judge_plan-requires-clause-stem_lt_steps : goal.judge_plan-requires-clause-stem_lt_steps
+judge_plan-requires-clause-stem_lt_steps c =
+    let h = held_range _ _ _ (c.read.ensures.accepted _ c.in_ok-r.was) in (h.stem, h.steps)
+
 pub returns : goal.returns
 unfolding checked_moves
-returns c = let read-it : AcceptedPlan c.args.floor.now c.args.plan.now
-    c.read-r.result = accepts_if _ _ _ c.read-r.ensures (sym c.accepts.ensures ∙ c.if-not-accepts.false) in
-    let w = read-it in
+returns c =
+    let w = c.read.ensures.accepted _ c.in_ok-r.was in
     let floor = c.args.floor.now in
     promise _ _ _
-    (c.judge_plan.ensures ∙ ap
-    (λ (n : PlanNumbers). judged_carts floor n c.read-r.result.floor.carts 0)
-    (held_numbers_lem _ _ _ w) ∙ sym (after_accepted (λ v. v) (moves_verdict floor) _ _ _ w))
+    (c.judge_plan.ensures ∙ ap (λ (n : PlanNumbers). judged_carts floor n c.in_ok-r.r.floor.carts 0) (held_numbers_lem _ _ _ w)
+    ∙ sym (after_accepted told (moves_verdict floor) _ _ _ w))

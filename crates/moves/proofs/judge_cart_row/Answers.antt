@@ -1,65 +1,61 @@
-use Prim.Native.Nat.{ℕ, ◌<◌}
+use Prim.Native.Nat.{ℕ, ◌+◌, ◌<◌}
 use native.Mathlib.Omega.{arith}
-use mathlib.Core.Path.{sym, ap, ap₂, subst, ◌∙◌}
+use mathlib.Core.Path.{◌≡◌, sym, ap, ap₂, subst, ◌∙◌}
+use mathlib.Core.List.{List}
 use lib.ListN.{length}
+use Rattle.std.specs.Prelude.{get_or, Result, Err}
+use Rattle.floor.specs.Numbers.{cart_at}
+use Rattle.floor.specs.Promises.{AcceptedFloor}
+use Rattle.floor.specs.declared.Floor.{Floor}
+use Rattle.row.specs.declared.MoveFault.{MoveFault}
 use Rattle.row.specs.Unending.{refused_step}
 use Rattle.row.specs.Moves.{lanes_in, judged_moves}
 use Rattle.row.proofs.FloorBytes.{file_length_lem}
 use Rattle.moves.specs.CartBytes.{class_at, start_at, class_low}
-use Rattle.moves.specs.Carts.{verdict_of}
+use Rattle.moves.specs.Carts.{verdict_of, cart_answer}
 use Rattle.moves.proofs.judge_cart_row.Goals as goal
 
-pub cart_at-at-requires : goal.cart_at-at-requires
-cart_at-at-requires c = let p = c.requires in
-    let v = p.accepted_floor.valid in
-    omega (arith, p.c_lt_carts.0, v.few_places, v.few_lanes, v.few_carts)
+-- by the bytes of the cart's class and start
+judged_is : (s : List ℕ) (f : Floor) (w : AcceptedFloor s f) (c : ℕ) (l : c < f.carts) (at : ℕ) → at ≡ cart_at f c → (row : List ℕ) (stem : ℕ)
+    (a : Result (Unit {0}) MoveFault)
+    → a ≡ judged_moves (lanes_in s) (get_or s (at + 4) 0) (get_or s (at + 4 + 1) 0) row (length row) stem → a ≡ cart_answer s c row (length row) stem
+judged_is s f w c l at e row stem a is =
+    is ∙ sym (ap₂ (λ (x y : ℕ). judged_moves (lanes_in s) x y row (length row) stem) (class_at s f w c l at e) (start_at s f w c l at e))
 
-pub overflow_add-at : goal.overflow_add-at
-overflow_add-at c = let p = c.requires in
-    let v = p.accepted_floor.valid in
-    omega (arith, c.cart_at-at.ensures, p.c_lt_carts.0, v.few_places, v.few_lanes, v.few_carts)
+pub bounds-lanes-at : goal.bounds-lanes-at
+bounds-lanes-at c = let l = c.args.lanes.now in
+    omega (arith, c.cart_at-at.ensures, file_length_lem _ _ l.accepted_floor, c.requires.0)
 
-pub bounds-s-at : goal.bounds-s-at
-bounds-s-at c = let p = c.requires in
-    omega (arith, c.cart_at-at.ensures, file_length_lem _ _ p.accepted_floor, p.c_lt_carts.0)
+pub bounds-lanes-at-2 : goal.bounds-lanes-at-2
+bounds-lanes-at-2 c = let l = c.args.lanes.now in
+    omega (arith, c.cart_at-at.ensures, file_length_lem _ _ l.accepted_floor, c.requires.0)
 
-pub overflow_add-at-2 : goal.overflow_add-at-2
-overflow_add-at-2 c = let p = c.requires in
-    let v = p.accepted_floor.valid in
-    omega (arith, c.cart_at-at.ensures, p.c_lt_carts.0, v.few_places, v.few_lanes, v.few_carts)
+pub judge_moves-requires-clause-class_bound : goal.judge_moves-requires-clause-class_bound
+judge_moves-requires-clause-class_bound c = let l = c.args.lanes.now in
+    subst (λ (x : ℕ). x < 8) (class_at l.floor.now l.counts l.accepted_floor c.args.c c.requires.0 _ c.cart_at-at.ensures)
+    (class_low l.floor.now l.counts l.accepted_floor c.args.c c.requires.0)
 
-pub bounds-s-at-2 : goal.bounds-s-at-2
-bounds-s-at-2 c = let p = c.requires in
-    omega (arith, c.cart_at-at.ensures, file_length_lem _ _ p.accepted_floor, p.c_lt_carts.0)
-
-pub judge_moves-answer-requires : goal.judge_moves-answer-requires
-judge_moves-answer-requires c = let p = c.requires in
-    let a = c.args in record {
-      accepted_floor = p.accepted_floor;
-      chained = p.chained;
-      class_bound = subst (λ (x : ℕ). x < 8) (class_at a.s.now a.f p.accepted_floor a.c p.c_lt_carts.0 _ c.cart_at-at.ensures)
-          (class_low a.s.now a.f p.accepted_floor a.c p.c_lt_carts.0);
-      stem_in_bounds = p.c_lt_carts.1;
-    }
-
-pub verdict_of-requires : goal.verdict_of-requires
-verdict_of-requires c = let p = c.requires in
-    let a = c.args in (
-      omega (arith, p.c_lt_carts.0, p.accepted_floor.valid.few_carts),
+pub refused_move-requires : goal.refused_move-requires
+refused_move-requires c = let a = c.args in
+    let l = a.lanes.now in (
+      omega (arith, c.requires.0, l.accepted_floor.valid.few_carts),
       λ s e. omega (
         arith,
-        (refused_step (lanes_in a.s.now) _ a.row.now (length a.row.now)
-            a.stem _ s (sym c.judge_moves-answer.ensures ∙ e)).1.first.below,
-        p.c_lt_carts.2,
+        (refused_step (lanes_in l.floor.now) _ a.row.now (length a.row.now)
+            a.stem _ s (sym c.judge_moves.ensures ∙ c.in-Err.is ∙ ap Err e)).1.first.below,
+        c.requires.2,
       ),
     )
 
-pub returns : goal.returns
-returns c = let p = c.requires in
-    let a = c.args in
-    let at = c.cart_at-at in
-    let k = class_at a.s.now a.f p.accepted_floor a.c p.c_lt_carts.0 at.result at.ensures in
-    let s = start_at a.s.now a.f p.accepted_floor a.c p.c_lt_carts.0 at.result at.ensures in
-    c.verdict_of.ensures
+pub returns-in-Ok : goal.returns-in-Ok
+returns-in-Ok c = let a = c.args in
+    let l = a.lanes.now in
+    ap (verdict_of a.c)
+    (sym c.in-Ok.is ∙ judged_is l.floor.now l.counts l.accepted_floor a.c c.requires.0 _ c.cart_at-at.ensures a.row.now a.stem _ c.judge_moves.ensures)
+
+pub returns-in-Err : goal.returns-in-Err
+returns-in-Err c = let a = c.args in
+    let l = a.lanes.now in
+    c.refused_move.ensures
     ∙ ap (verdict_of a.c)
-    (c.judge_moves-answer.ensures ∙ sym (ap₂ (λ (x y : ℕ). judged_moves (lanes_in a.s.now) x y a.row.now (length a.row.now) a.stem) k s))
+    (sym c.in-Err.is ∙ judged_is l.floor.now l.counts l.accepted_floor a.c c.requires.0 _ c.cart_at-at.ensures a.row.now a.stem _ c.judge_moves.ensures)

@@ -1,68 +1,38 @@
 use native.Mathlib.Omega.{arith}
-use mathlib.Core.Path.{sym, ap, ◌∙◌}
-use mathlib.Core.Bool.{not}
+use mathlib.Core.Path.{◌≡◌, sym, ap, ◌∙◌}
+use lib.ListN.{length}
+use Rattle.std.proofs.Common.{rules}
+use Rattle.std.specs.Prelude.{Err}
+use Rattle.refusal.specs.Results.{checked}
+use Rattle.refusal.specs.Accepting.{refused_stops}
+use Rattle.refusal.specs.Stages.{is_accepted}
 use Rattle.plan.specs.Plan.{held_numbers}
-use Rattle.plan.specs.Read.{part_length}
 use Rattle.moves.specs.Judged.{carts_passed}
-use Rattle.moves.proofs.Judging.{begun, refused, onward}
+use Rattle.moves.proofs.Judging.{refused, onward}
 use Rattle.moves.proofs.judge_carts.Goals as goal
 
-pub loop-c-init : goal.loop-c-init
-loop-c-init c = let a = c.args in
-    begun a.s.now a.f.carts a.h a.block.now
-
-pub overflow_mul-from : goal.overflow_mul-from
-overflow_mul-from c = omega (arith, c.loop-c-test.true, c.requires.accepted_floor.valid.few_carts)
-
-pub overflow_add-end : goal.overflow_add-end
-overflow_add-end c = let p = c.requires in
-    omega (arith, c.loop-c-test.true, p.accepted_floor.valid.few_carts, p.stem_lt_steps.1)
-
-pub slice_bounds-judge_cart_row-count : goal.slice_bounds-judge_cart_row-count
-slice_bounds-judge_cart_row-count c = omega arith
-
-pub slice_bounds-judge_cart_row-start : goal.slice_bounds-judge_cart_row-start
-slice_bounds-judge_cart_row-start c = let p = c.requires in
-    omega (arith, c.loop-c-test.true, p.accepted_floor.valid.few_carts, p.stem_lt_steps.1, p.stem_lt_steps.2)
-
-pub slice_bounds-judge_cart_row-end : goal.slice_bounds-judge_cart_row-end
-slice_bounds-judge_cart_row-end c = let p = c.requires in
-    omega (arith, c.loop-c-test.true, p.accepted_floor.valid.few_carts, p.stem_lt_steps.1, p.stem_lt_steps.2)
-
-pub judge_cart_row-v-requires : goal.judge_cart_row-v-requires
-judge_cart_row-v-requires c = let p = c.requires in
+pub returns-in_err-judge_cart_row : goal.returns-in_err-judge_cart_row
+returns-in_err-judge_cart_row c =
     let a = c.args in
-    let e =
-    part_length a.h.steps a.block.now c.loop-c.c (omega (arith, c.loop-c-test.true, p.accepted_floor.valid.few_carts))
-    p.stem_lt_steps.1 p.stem_lt_steps.2 in record { accepted_floor = p.accepted_floor; chained = p.chained; c_lt_carts = (omega (arith, c.loop-c-test.true), omega (arith, p.stem_lt_steps.0, e), omega (arith, p.stem_lt_steps.1, e)) }
-
-pub returns-then-not-accepts : goal.returns-then-not-accepts
-returns-then-not-accepts c = let p = c.requires in
-    let a = c.args in
-    refused a.f.carts a.h a.block.now c.loop-c.c p.accepted_floor.valid.few_carts
-    (omega (arith, c.loop-c-test.true)) p.stem_lt_steps.1 p.stem_lt_steps.2 a.s.now
-    c.loop-c.invariant
-    c.judge_cart_row-v.result c.judge_cart_row-v.ensures
-    c.accepts.result c.accepts.ensures (ap not c.if-not-accepts.true)
-
-pub overflow_add-c : goal.overflow_add-c
-overflow_add-c c = omega (arith, c.loop-c-test.true)
-
-pub loop-c-smaller : goal.loop-c-smaller
-loop-c-smaller c = omega (arith, c.loop-c-test.true)
+    let l = a.lanes.now in
+    let size : length a.block.now ≡ 2048 = search rules in
+    let e : c.from_residual.result ≡ Err c.in_err-judge_cart_row.field-0.0 = search rules in
+    ap checked e
+    ∙ refused l.counts.carts a.h a.block.now c.loop-c.c l.accepted_floor.valid.few_carts c.loop-c-test.true c.requires.1 size l.floor.now
+    c.loop-c.invariant _ (sym (ap checked c.in_err-judge_cart_row.was) ∙ c.judge_cart_row.ensures) (refused_stops _)
 
 pub loop-c-preserved : goal.loop-c-preserved
-loop-c-preserved c = let p = c.requires in
+loop-c-preserved c =
     let a = c.args in
-    onward a.f.carts a.h a.block.now c.loop-c.c p.accepted_floor.valid.few_carts
-    (omega (arith, c.loop-c-test.true)) p.stem_lt_steps.1 p.stem_lt_steps.2 a.s.now
-    c.loop-c.invariant
-    c.judge_cart_row-v.result c.judge_cart_row-v.ensures
-    c.accepts.result c.accepts.ensures (ap not c.if-not-accepts.false)
+    let l = a.lanes.now in
+    let size : length a.block.now ≡ 2048 = search rules in
+    onward l.counts.carts a.h a.block.now c.loop-c.c l.accepted_floor.valid.few_carts c.loop-c-test.true c.requires.1 size l.floor.now
+    c.loop-c.invariant _ c.judge_cart_row.ensures (ap (λ r. is_accepted (checked r)) c.in_ok-judge_cart_row.was)
 
 pub returns : goal.returns
-returns c = let a = c.args in
-    let w = c.loop-c.invariant in
+returns c =
+    let a = c.args in
+    let l = a.lanes.now in
     sym
-    (w.same ∙ carts_passed a.s.now (held_numbers a.f.carts a.h a.block.now) a.f.carts c.loop-c.c
+    (c.loop-c.invariant ∙ carts_passed l.floor.now (held_numbers l.counts.carts a.h a.block.now) l.counts.carts c.loop-c.c
     (omega (arith, c.loop-c-test.false)))

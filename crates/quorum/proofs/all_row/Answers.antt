@@ -5,10 +5,9 @@ use lib.ListN.{get_or}
 use Rattle.quorum.specs.Counted.{with_one, with_more}
 use Rattle.quorum.proofs.all_row.Goals as goal
 
-pub at_least-requires : goal.at_least-requires
-at_least-requires c = let s = c in
-    let low : (j : ℕ) → j < s.args.h → get_or s.args.w.now (0 + j) 0 < 2 ^ s.args.carts =
-    λ j p. let e : j ≡ 0 + j = omega arith in subst (λ (k : ℕ). get_or s.args.w.now k 0 < 2 ^ s.args.carts) e (s.requires.by_index j p) in record { w_len = s.requires.w_len; carts_bound = omega arith; bits = s.requires.bits; by_index = low }
+pub at_least-requires-clause-by_index : goal.at_least-requires-clause-by_index
+at_least-requires-clause-by_index c = λ j p. let e : j ≡ 0 + j = omega arith in
+    subst (λ (k : ℕ). get_or c.args.w.now k 0 < 2 ^ c.args.carts) e (c.requires.by_index j p)
 
 pub returns-then-m-eq1 : goal.returns-then-m-eq1
 returns-then-m-eq1 c = let s = c in

@@ -12,14 +12,9 @@ pub returns-then-left-lt4 : goal.returns-then-left-lt4
 returns-then-left-lt4 c = short_header _ _ c.if-s-at.false c.if-left-lt4.true
 
 pub returns-then-left-size : goal.returns-then-left-size
-returns-then-left-size c = let a = c.args in
-    let n = c.number16.ensures in
-    let w = c.wide16-size.ensures in
-    short_body a.s.now a.at (omega arith) (omega arith) (omega arith)
+returns-then-left-size c = short_body c.args.s.now c.args.at (omega arith) (omega arith) (omega arith)
 
 pub returns : goal.returns
 returns c = let a = c.args in
-    let n = c.number16.ensures in
-    let w = c.wide16-size.ensures in
-    ap₂ (λ (x y : ℕ). Whole x (a.at + 4) (a.at + 4 + y)) c.number16-kind.ensures (w ∙ n)
+    ap₂ (λ (x y : ℕ). Whole x (a.at + 4) (a.at + 4 + y)) c.number16-kind.ensures (c.from-size.ensures ∙ c.number16.ensures)
     ∙ whole_at a.s.now a.at (omega arith) (omega arith) (omega arith)

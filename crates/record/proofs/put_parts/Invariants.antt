@@ -1,11 +1,11 @@
-use Rattle.record.proofs.Putting.{Putting}
-use Prim.Native.Nat.{◌-◌}
-use mathlib.Core.Path.{◌≡◌}
-use lib.ListN.{length}
+use Rattle.std.proofs.Common.{◌≡◌, map}
+use Rattle.std.specs.Slice.Iter.{chunks_rest, chunks_size}
+use Rattle.record.specs.Parts.{of_kind, parts}
+use Rattle.record.specs.Putting.{Putting}
 use Rattle.record.proofs.put_parts.Given as goal
 
-abbrev pub invariant-loop-i : goal.invariant-loop-i
-invariant-loop-i l = (length l.out ≡ length l.initial.out) × Putting l.initial.out l.at l.kind l.size l.bodies l.out l.next l.i
-
-abbrev pub decreases-loop-i : goal.decreases-loop-i
-decreases-loop-i l = length l.bodies - l.i
+abbrev pub invariant-loop-body : goal.invariant-loop-body
+invariant-loop-body l = record {
+  size : chunks_size l.body-iterator ≡ l.size;
+  putting : Putting l.initial.out l.at (map (of_kind l.kind) (parts l.size l.bodies)) l.out l.next (map (of_kind l.kind) (parts l.size (chunks_rest l.body-iterator)));
+}

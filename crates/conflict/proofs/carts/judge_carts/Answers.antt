@@ -1,7 +1,6 @@
-use Prim.Native.Nat.{◌-◌}
-use native.Mathlib.Omega.{arith}
-use mathlib.Core.Path.{ap}
-use mathlib.Core.Bool.{not}
+use Rattle.std.proofs.Common.{arith, rules, ap, ◌∙◌}
+use Rattle.std.specs.Prelude.{◌≡◌, Err}
+use Rattle.refusal.specs.Results.{checked}
 use Rattle.refusal.specs.declared.Verdict.TheVariants.{Accepted}
 use Rattle.conflict.specs.Table.{table_routes}
 use Rattle.conflict.proofs.Judging.{begun, on_step, refused, onward, accepted, answered}
@@ -9,40 +8,25 @@ use Rattle.conflict.proofs.carts.judge_carts.Goals as goal
 
 pub loop-c-init : goal.loop-c-init
 loop-c-init c = let a = c.args in
-    begun (table_routes a.bays.now a.carts a.h a.block.now) a.h.drift c.requires.stem_lt_steps.0
+    begun (table_routes a.bays.now a.carts a.h a.block.now) a.h.drift c.requires.head_in_range.stem
 
-pub first_met-m-requires : goal.first_met-m-requires
-first_met-m-requires c = record { block_len = c.requires.block_len; stem_lt_steps = (c.requires.stem_lt_steps.0, c.requires.stem_lt_steps.1, c.requires.stem_lt_steps.2, c.requires.stem_lt_steps.3, c.loop-c-test.true) }
+pub verdict_of-requires : goal.verdict_of-requires
+verdict_of-requires c = let f = c.first_met in
+    (omega arith, λ s e. omega (arith, on_step c.loop-c.invariant f.result s f.ensures e))
 
-pub verdict_of-v-requires : goal.verdict_of-v-requires
-verdict_of-v-requires c = let w = c.loop-c.invariant in
-    let f = c.first_met-m in
-    (omega (arith, c.loop-c-test.true, c.requires.stem_lt_steps.3), λ s e. omega (arith, on_step w f.result s f.ensures e, c.requires.stem_lt_steps.1))
-
-pub returns-then-not-accepts : goal.returns-then-not-accepts
-returns-then-not-accepts c = let a = c.args in
+pub returns-in_err-verdict_of : goal.returns-in_err-verdict_of
+returns-in_err-verdict_of c narrow marks = let a = c.args in
     let w = c.loop-c.invariant in
-    let f = c.first_met-m in
-    let v = c.verdict_of-v in
-    let bytes = c.type_inv.block in
-    answered a.bays.now a.carts a.h a.block.now (λ i. omega (arith, bytes i)) w.lap v.result
-    (refused w f.result f.ensures v.ensures c.accepts.ensures (ap not c.if-not-accepts.true))
-
-pub overflow_add-c : goal.overflow_add-c
-overflow_add-c c = omega (arith, c.loop-c-test.true)
-
-pub loop-c-smaller : goal.loop-c-smaller
-loop-c-smaller c = omega (arith, c.loop-c-test.true)
+    let f = c.first_met in
+    let e : c.from_residual.result ≡ Err c.in_err-verdict_of.field-0.0 = search rules in
+    ap checked e
+    ∙ answered a.bays.now a.carts a.h a.block.now c.fits-block w.lap _ (refused w f.result f.ensures c.verdict_of.ensures _ c.in_err-verdict_of.was) narrow marks
 
 pub loop-c-preserved : goal.loop-c-preserved
-loop-c-preserved c = let w = c.loop-c.invariant in
-    let f = c.first_met-m in
-    let v = c.verdict_of-v in
-    onward w f.result f.ensures v.ensures c.accepts.ensures (ap not c.if-not-accepts.false)
-    (omega (arith, c.loop-c-test.true))
+loop-c-preserved c = let f = c.first_met in
+    onward c.loop-c.invariant f.result f.ensures c.verdict_of.ensures c.in_ok-verdict_of.was (omega arith)
 
 pub returns : goal.returns
 returns c = let a = c.args in
     let w = c.loop-c.invariant in
-    answered a.bays.now a.carts a.h a.block.now (λ i. omega (arith, c.type_inv.block i))
-    w.lap Accepted (accepted w (omega (arith, c.loop-c-test.false)))
+    answered a.bays.now a.carts a.h a.block.now c.fits-block w.lap Accepted (accepted w (omega arith))

@@ -1,17 +1,28 @@
 use Prim.Native.Nat.{ℕ, ◌+◌, ◌≤◌, ◌<◌}
 use native.Mathlib.Omega.{arith}
-use mathlib.Core.Path.{◌≡◌, refl, sym, subst, ◌∙◌}
-use mathlib.Core.Bool.{not}
+use mathlib.Core.Path.{◌≡◌, refl, sym, ap, subst, ◌∙◌}
+use mathlib.Core.Bool.{Bool}
 use mathlib.Core.List.{List, []}
-use mathlib.Core.Logic.{◌⊎◌, inl, ⊎_elim}
+use mathlib.Core.Logic.{⊎_elim}
 use native.Mathlib.Nat.{le_refl}
 use lib.ListN.{get_or}
 use Rattle.cltl.proofs.Basics.{lt_or_le}
-use Rattle.cltl.specs.Meaning.{Proper}
-use Rattle.table.specs.Keeping.{none_ends, kept_all, kept_then, kept_shown, kept_constants, shown_itself}
+use Rattle.std.specs.Prelude.{Option, None, Some, IfSome}
+use Rattle.grammar.specs.Grammar.{Counted}
+use Rattle.drift.specs.declared.Ground.{Ground}
+use Rattle.drift.specs.Places.{Placed}
+use Rattle.cltl.specs.Meaning.{Rows, Proper}
+use Rattle.mask.specs.Mask.{on, Row}
+use Rattle.drift.specs.declared.Joined.{Joined}
+use Rattle.drift.specs.declared.Judged.{Judged}
+use Rattle.token.specs.declared.Unary.{Unary}
+use Rattle.token.specs.declared.Unary.TheVariants.{Not, Next, Finally, Globally}
+use Rattle.drift.specs.Decoded.{unary_of}
+use Rattle.drift.specs.Decoding.{number_not, unary_not, number_hands}
+use Rattle.table.specs.Keeping.{kept_all, kept_then, kept_shown, shown_itself}
 use Rattle.drift.specs.Tree.{Ordered, kind_at, first_at, second_at, one_of, clause_tree}
-use Rattle.drift.specs.Operator.{under}
-use Rattle.drift.specs.Answer.{rows_on, joinable}
+use Rattle.drift.specs.Operator.{under, one_rule}
+use Rattle.drift.specs.Answer.{rows_on, TableAt, Fits, Gathered, joinable, ClauseJudged}
 use Rattle.drift.specs.Lent.{ClauseNodes}
 use Rattle.drift.specs.NodeTruth.{under_other, first_low}
 use Rattle.drift.specs.Order.{one_need}
@@ -21,55 +32,42 @@ use Rattle.drift.specs.Tallying.{still_tallied}
 use Rattle.drift.specs.Needing.{operand_nodes}
 use Rattle.drift.specs.ClauseRows.{top_judged, neg_judged, one_judged, two_judged}
 use Rattle.drift.specs.Gathering.{no_counts, alone_gathered, in_place}
+use Rattle.std.proofs.lemmas.Option.{IfSome_then}
 use Rattle.drift.proofs.clauses.+clause_judged.Goals as goal
 
 ---- No operand.
-pub returns-then-kind-lt2 : goal.returns-then-kind-lt2
-returns-then-kind-lt2 t c =
+pub returns-in-Top-clause-by_index : goal.returns-in-Top-clause-by_index
+returns-in-Top-clause-by_index t c =
     let a = c.args in
     let g = a.g in
-    let lent = c.requires.lent in
-    let r = lent.range in
-    let alone = c.alone.ensures in
-    let ends = none_ends g.marks g.h in record {
-      kept = (
-        kept_all a.at a.t.now,
-        lent.windows,
-        inl (omega (arith, alone.at_none, ends)),
-        omega (arith, alone.at_none, ends, lent.constants.room),
-        c.requires.tallies,
-      );
-      by_index = λ bears shown.
-          let P = rows_on g.carts g.h g.l bears a.bits.now in
-          top_judged P g.d a.nodes.now (record { some = r.some; lap = r.lap }) a.p a.k _ _
-          c.kind_at-kind.ensures refl
-          a.t.now c.alone.result c.if-kind-lt2.true (rw alone.row_is c.constant.ensures)
-          (alone_gathered P r.few [] (no_counts P) g.marks _ a.t.now _ alone);
-    }
+    let low : kind_at a.c.nodes.now a.k < 2 =
+    ⊎_elim (λ e. let z = rw e at c.kind_at.ensures in omega arith) (λ e. let z = rw e at c.kind_at.ensures in omega arith) c.in-Top.is in
+    λ bears shown.
+    let P = rows_on g.carts g.lasso.h g.lasso.l bears a.bits.now in
+    top_judged P g.drift a.c.nodes.now (record { some = g.some; lap = g.lasso.lap }) a.p a.k _ _ refl refl a.t.now _ low c.constant.ensures
+    (alone_gathered P g.few [] (no_counts P) a.t.now)
 
 ---- One operand.
 -- an operator whose operand is below it and needs no more pairs
-operand : (nodes needs : List ℕ) (k kind x : ℕ) → ClauseNodes nodes needs k → kind ≡ kind_at nodes k → 2 ≤ kind → kind < 6
-    → x ≡ first_at nodes k → (x < k) × (get_or needs x 0 ≤ get_or needs k 0)
-operand nodes needs k kind x n ke operator few e =
-    let more : 2 ≤ kind_at nodes k = omega (arith, ke, operator) in
-    let less : kind_at nodes k < 6 = omega (arith, ke, few) in (
-      omega (arith, e, first_low nodes k n.ordered more),
-      subst (λ (i : ℕ). get_or needs i 0 ≤ get_or needs k 0) (sym e) (one_need nodes needs k n.needed more less).0,
-    )
+operand : (nodes needs : List ℕ) (k x : ℕ) → ClauseNodes nodes needs k → 2 ≤ kind_at nodes k → kind_at nodes k < 6 → x ≡ first_at nodes k
+    → (x < k) × (get_or needs x 0 ≤ get_or needs k 0)
+operand nodes needs k x n more less e = (
+  omega (arith, e, first_low nodes k n.ordered more),
+  subst (λ (i : ℕ). get_or needs i 0 ≤ get_or needs k 0) (sym e) (one_need nodes needs k n.needed more less).0,
+)
 
 pub clause_judged-a-requires : goal.clause_judged-a-requires
 clause_judged-a-requires t c =
     let a = c.args in
     let room = c.requires.pairs_from in
-    let x = operand a.nodes.now a.needs.now a.k _ _ c.requires.clause_nodes c.kind_at-kind.ensures c.if-kind-lt2.false
-    c.if-kind-lt6.true c.first_at-x.ensures in (
+    let e = rw c.in-Unary.is at c.kind_at.ensures in
+    let x = operand a.c.nodes.now a.c.needs.now a.k _ c.requires.clause_nodes e.0 e.1 c.first_at.ensures in (
       omega (arith, c.decreases, x.0),
       (
         c.requires.lent,
         (
-          operand_nodes a.nodes.now a.needs.now a.k c.requires.clause_nodes _ x.0 x.1,
-          ((room.0, fewer_pairs a.g.h a.at _ _ _ room.1 x.1), c.requires.tallies),
+          operand_nodes a.c.nodes.now a.c.needs.now a.k c.requires.clause_nodes _ x.0 x.1,
+          ((room.0, fewer_pairs a.g.lasso.h a.at _ _ _ room.1 x.1), c.requires.tallies),
         ),
       ),
     )
@@ -77,93 +75,103 @@ clause_judged-a-requires t c =
 pub one_judged-requires : goal.one_judged-requires
 one_judged-requires t c =
     let a = (c.clause_judged-a.ensures.by_index _ (shown_itself _ _ _ c.args.t.now)).rows _ (le_refl _) in
-    (c.requires.lent.range, a.low)
+    a.low
 
-pub returns-then-kind-lt6 : goal.returns-then-kind-lt6
-returns-then-kind-lt6 t c =
-    let x = c.first_at-x in
-    let flag = c.under-q in
-    let kind = c.kind_at-kind in
-    let a = c.args in
-    let g = a.g in
-    let lent = c.requires.lent in
-    let r = lent.range in
-    let nodes = c.requires.clause_nodes in
-    let more : 2 ≤ kind.result = c.if-kind-lt2.false in
-    let less = c.if-kind-lt6.true in
-    let judged = c.clause_judged-a.ensures in
-    let kept = kept_then _ _ a.t.now a.t.now _ c.requires.pairs_from.0 (kept_all _ a.t.now) judged.kept.0 in
-    let constants = kept_constants g.marks g.h a.t.now _ kept lent.constants in
+-- what is told of an operator by what is told of its operand
+one_told : (P : Rows) → Proper P → P.carts ≤ 32 → (d : ℕ) (nodes : List ℕ) (p q : Bool) (k x : ℕ) (o : Unary) (t : List ℕ) (a r : Judged)
+    → Ordered nodes (k + 1) → 2 ≤ kind_at nodes k → kind_at nodes k < 6 → one_of (kind_at nodes k) ≡ unary_of o → x ≡ first_at nodes k
+    → q ≡ under (unary_of o) p
+    → (o ≡ Not → r ≡ a) × ((o ≡ Not → ⊥) → Row P.h r.row (one_rule P.h P.l p (unary_of o) (on a.row)) × (r.joined ≡ None))
+    → ClauseJudged P d nodes q x t a → ClauseJudged P d nodes p k t r
+one_told P proper few d nodes p q k x o t a r ordered more less is ex flag made f =
     ⊎_elim
     (λ z.
-    let e : kind.result ≡ 2 = omega arith in
-    let turned : under (one_of kind.result) a.p ≡ not a.p = (rw e) in
-    rw (c.one_judged.ensures.0 e) (record {
-      kept = judged.kept;
-      by_index = λ bears shown. neg_judged (rows_on g.carts g.h g.l bears a.bits.now) g.d a.nodes.now (record { some = r.some; lap = r.lap }) a.p a.k _ _
-          kind.ensures
-          x.ensures _ _ nodes.ordered more less e (rw (sym turned, sym flag.ensures) (judged.by_index bears shown));
-    }))
+    let e : kind_at nodes k ≡ 2 = omega arith in
+    let no : o ≡ Not = unary_not o (sym is ∙ ap one_of e) in
+    rw (made.0 no) (neg_judged P d nodes proper p k _ x refl ex t a ordered more less e (rw (flag, no) at f)))
     (λ z.
-    let n : kind.result ≡ 2 → ⊥ = λ e. omega arith in
-    let made = c.one_judged.ensures.1 n in
-    let alone = made.2 in
-    let ends = none_ends g.marks g.h in record {
-      kept = (judged.kept.0, judged.kept.1, inl (omega (arith, alone.at_none, ends)), omega (arith, alone.at_none, ends, constants.room), judged.kept.4);
-      by_index = λ bears shown.
-          let P = rows_on g.carts g.h g.l bears a.bits.now in
-          one_judged P g.d a.nodes.now (record { some = r.some; lap = r.lap }) a.p a.k _ _ kind.ensures x.ensures _ _
-          nodes.ordered more less
-          c.clause_judged-a.result.row n
-          (rw (sym (under_other kind.result a.p n), sym flag.ensures) (judged.by_index bears shown).rows) (rw alone.row_is made.1)
-          (alone_gathered P r.few [] (no_counts P) g.marks _ _ _ alone);
-    })
-    (lt_or_le kind.result 3)
+    let n : kind_at nodes k ≡ 2 → ⊥ = λ e. omega arith in
+    let other : o ≡ Not → ⊥ = λ e. n (number_not _ more less (is ∙ ap unary_of e)) in
+    one_judged P d nodes proper p k _ x refl ex t r ordered more less a.row n
+    (rw (sym (under_other (kind_at nodes k) p n), is, sym flag) f.rows) (rw is (made.1 other).0)
+    (rw (made.1 other).1 (alone_gathered P few [] (no_counts P) t)))
+    (lt_or_le (kind_at nodes k) 3)
+
+joined_kept : {X : Type 0} (F : Joined → Type 0) (o : Unary) (a r : Judged) → (o ≡ Not → r ≡ a) × ((o ≡ Not → ⊥) → X × (r.joined ≡ None))
+    → IfSome a.joined F → IfSome r.joined F
+joined_kept F Not a r made f = rw (made.0 refl) f
+joined_kept F Next a r made f = rw (made.1 (λ e. absurd (cc))).1 tt
+joined_kept F Finally a r made f = rw (made.1 (λ e. absurd (cc))).1 tt
+joined_kept F Globally a r made f = rw (made.1 (λ e. absurd (cc))).1 tt
+
+pub returns-in-Unary-clause-kept : goal.returns-in-Unary-clause-kept
+returns-in-Unary-clause-kept t c =
+    let kept = c.clause_judged-a.ensures.kept in
+    (kept.0, joined_kept (TableAt c.args.g c.args.at c.clause_judged-a.new.t) c.in-Unary.o c.clause_judged-a.result _ c.one_judged.ensures kept.1, kept.2)
+
+pub returns-in-Unary-clause-by_index : goal.returns-in-Unary-clause-by_index
+returns-in-Unary-clause-by_index t c =
+    let a = c.args in
+    let g = a.g in
+    let e = rw c.in-Unary.is at c.kind_at.ensures in
+    λ bears shown.
+    one_told (rows_on g.carts g.lasso.h g.lasso.l bears a.bits.now) (record { some = g.some; lap = g.lasso.lap }) g.few g.drift a.c.nodes.now
+    a.p _ a.k _ _ _ _ _
+    c.requires.clause_nodes.ordered e.0 e.1 e.2 c.first_at.ensures c.under.ensures c.one_judged.ensures (c.clause_judged-a.ensures.by_index bears shown)
 
 ---- Two operands.
 pub clause_judged-first-requires : goal.clause_judged-first-requires
 clause_judged-first-requires t c =
     let a = c.args in
     let room = c.requires.pairs_from in
-    let turn = c.in_turn-o.ensures in (
+    let turn = c.in_turn-turn.ensures in (
       omega (arith, c.decreases, turn.below),
       (
         c.requires.lent,
         (
-          operand_nodes a.nodes.now a.needs.now a.k c.requires.clause_nodes _ turn.below.0 turn.first_need,
-          ((room.0, fewer_pairs a.g.h a.at _ _ _ room.1 turn.first_need), c.requires.tallies),
+          operand_nodes a.c.nodes.now a.c.needs.now a.k c.requires.clause_nodes _ turn.below.0 turn.first_need,
+          ((room.0, fewer_pairs a.g.lasso.h a.at _ _ _ room.1 turn.first_need), c.requires.tallies),
         ),
       ),
     )
 
 pub overflow_mul-behind : goal.overflow_mul-behind
-overflow_mul-behind t c = omega (arith, c.requires.lent.range.steps)
+overflow_mul-behind t c = omega (arith, c.args.g.lasso.short)
 
 pub overflow_add-behind : goal.overflow_add-behind
 overflow_add-behind t c =
-    omega (arith, c.requires.lent.range.steps, pairs_end_lem c.args.g c.requires.lent.range, c.requires.pairs_from.1)
+    omega (arith, c.args.g.lasso.short, pairs_end_lem c.args.g, c.requires.pairs_from.1)
 
 pub clause_judged-second-requires : goal.clause_judged-second-requires
 clause_judged-second-requires t c =
     let a = c.args in
     let g = a.g in
     let room = c.requires.pairs_from in
-    let turn = c.in_turn-o.ensures in
+    let turn = c.in_turn-turn.ensures in
     let first = c.clause_judged-first.ensures.kept in
     let kept = kept_then _ _ a.t.now a.t.now _ room.0 (kept_all _ a.t.now) first.0 in (
       omega (arith, c.decreases, turn.below),
       (
-        still_lent g a.t.now a.w.now a.bits.now _ _ c.requires.lent kept first.1,
+        still_lent g a.t.now a.bits.now _ c.requires.lent kept,
         (
-          operand_nodes a.nodes.now a.needs.now a.k c.requires.clause_nodes _ turn.below.1 (omega (arith, turn.second_need)),
-          ((omega (arith, room.0), omega (arith, pairs_behind g.h a.at _ _ _ room.1 turn.second_need)), first.4),
+          operand_nodes a.c.nodes.now a.c.needs.now a.k c.requires.clause_nodes _ turn.below.1 (omega (arith, turn.second_need)),
+          ((omega (arith, room.0), omega (arith, pairs_behind g.lasso.h a.at _ _ _ room.1 turn.second_need)), first.2),
         ),
       ),
     )
 
+placed_of : (g : Ground) (at : ℕ) (t : List ℕ) (r : Option Joined) → IfSome r (λ j. TableAt g at t j) → IfSome r (λ j. Placed g.marks g.lasso.h at j.at)
+placed_of g at t None p = tt
+placed_of g at t (Some j) p = p.0
+
+fits_of : (g : Ground) (bears : ℕ → ℕ → ℕ → Bool) (b : List ℕ) (xs : List (Bool × Counted)) (t : List ℕ) (r : Option Joined)
+    → Gathered (rows_on g.carts g.lasso.h g.lasso.l bears b) xs t r → IfSome r (λ j. Fits g j)
+fits_of g bears b xs t None f = tt
+fits_of g bears b xs t (Some j) f = let told = f.told_of in (omega (arith, told.sum), told.low)
+
 pub two_judged-requires : goal.two_judged-requires
 two_judged-requires t c =
-    let turn = c.in_turn-o.ensures in
+    let turn = c.in_turn-turn.ensures in
     let a = c.args in
     let g = a.g in
     let lent = c.requires.lent in
@@ -174,29 +182,27 @@ two_judged-requires t c =
     let all = kept_then _ _ a.t.now _ _ (omega (arith, room.0)) kept two.kept.0 in
     let itself = shown_itself _ _ _ a.t.now in
     let left = one.by_index _ itself in
-    let right = two.by_index _ (kept_shown g.marks g.h a.t.now _ kept g.carts _ itself) in record {
-      lent = still_lent g a.t.now a.w.now a.bits.now _ _ lent all two.kept.1;
-      h_bound = (room.0, omega (arith, pairs_behind g.h a.at _ _ _ room.1 turn.second_need));
-      placed = (one.kept.2, two.kept.2, two.kept.3);
+    let right = two.by_index _ (kept_shown g.marks g.lasso.h a.t.now _ kept g.carts _ itself) in record {
+      lent = still_lent g a.t.now a.bits.now _ lent all;
+      h_bound = (room.0, omega (arith, pairs_behind g.lasso.h a.at _ _ _ room.1 turn.second_need));
+      placed = (
+        placed_of g a.at _ _ one.kept.1,
+        two.kept.1,
+      );
       row_bound = (
         (left.rows _ (le_refl _)).low,
         (right.rows _ (le_refl _)).low,
-        (left.counts _ (le_refl _)).few,
-        (right.counts _ (le_refl _)).few,
-        (left.counts _ (le_refl _)).low,
+        fits_of g _ _ _ _ _ (left.counts _ (le_refl _)),
+        fits_of g _ _ _ _ _ (right.counts _ (le_refl _)),
       );
     }
 
-pub shape_of-t : goal.shape_of-t
-shape_of-t t c = c.two_judged.ensures.kept.0.size ∙ c.clause_judged-second.ensures.kept.0.size ∙ c.clause_judged-first.ensures.kept.0.size
-
-pub returns : goal.returns
-returns t c =
-    let turn = c.in_turn-o.ensures in
-    let kind = c.kind_at-kind in
+pub returns-in-Binary : goal.returns-in-Binary
+returns-in-Binary t c =
+    let turn = c.in_turn-turn.ensures in
+    let is = rw c.in-Binary.is at c.kind_at.ensures in
     let a = c.args in
     let g = a.g in
-    let r = c.requires.lent.range in
     let nodes = c.requires.clause_nodes in
     let room = c.requires.pairs_from in
     let first = c.clause_judged-first in
@@ -205,21 +211,21 @@ returns t c =
     let two = second.ensures in
     let made = c.two_judged.ensures in
     let kept = kept_then _ _ a.t.now a.t.now _ room.0 (kept_all _ a.t.now) one.kept.0 in
-    let tallied = still_tallied g r _ _ _ (kept_then _ a.at _ _ _ room.0 (kept_all _ _) made.kept.0) two.kept.4 in
+    let tallied = still_tallied g _ _ _ (kept_then _ a.at _ _ _ room.0 (kept_all _ _) made.kept.0) two.kept.2 in
     let both = kept_then a.at _ a.t.now _ _ (omega arith) one.kept.0 two.kept.0 in record {
-      kept = (kept_then a.at a.at a.t.now _ _ (le_refl a.at) both made.kept.0, made.kept.1, made.kept.2, made.kept.3, tallied);
+      kept = (kept_then a.at a.at a.t.now _ _ (le_refl a.at) both made.kept.0, made.kept.1, tallied);
       by_index = λ bears shown.
-          let P = rows_on g.carts g.h g.l bears a.bits.now in
-          let proper : Proper P = record { some = r.some; lap = r.lap } in
+          let P = rows_on g.carts g.lasso.h g.lasso.l bears a.bits.now in
+          let proper : Proper P = record { some = g.some; lap = g.lasso.lap } in
           let left = one.by_index bears shown in
-          let right = two.by_index bears (kept_shown g.marks g.h a.t.now _ kept g.carts bears shown) in
-          let ends = placed_ends g.marks g.h a.at room.0 first.result.at one.kept.2 in
+          let right = two.by_index bears (kept_shown g.marks g.lasso.h a.t.now _ kept g.carts bears shown) in
+          let ends = IfSome_then first.result.joined one.kept.1 (λ j p. placed_ends g.marks g.lasso.h a.at room.0 j.at p.0) in
           let operands =
-          in_place P r.few g.d a.nodes.now a.p c.in_turn-o.result.swapped _ _ (first_at a.nodes.now a.k)
-          (second_at a.nodes.now a.k) _ _
+          in_place P g.few g.drift a.c.nodes.now a.p c.in_turn-turn.result.swapped _ _ (first_at a.c.nodes.now a.k)
+          (second_at a.c.nodes.now a.k) _ _
           first.result second.result turn.first_is turn.second_is two.kept.0 ends left right in
-          two_judged P g.d a.nodes.now proper a.p a.k _ _ kind.ensures refl _ _ nodes.ordered _ refl
-          (omega (arith, c.if-kind-lt6.false)) (omega (arith, c.if-kind-gt9.false)) _ _ operands.0 operands.1
-          (λ n u v. made.by_index bears (joinable g.d a.p (clause_tree a.nodes.now n (first_at a.nodes.now a.k)))
-          (joinable g.d a.p (clause_tree a.nodes.now n (second_at a.nodes.now a.k))) (operands.2 n u) (operands.3 n v));
+          two_judged P g.drift a.c.nodes.now proper a.p a.k _ _ refl refl _ _ nodes.ordered _ refl
+          is.0 is.1 _ _ operands.0 operands.1
+          (λ n u v. rw (number_hands _ is.0 is.1, is.2) (made.by_index bears (joinable g.drift a.p (clause_tree a.c.nodes.now n (first_at a.c.nodes.now a.k)))
+          (joinable g.drift a.p (clause_tree a.c.nodes.now n (second_at a.c.nodes.now a.k))) (operands.2 n u) (operands.3 n v)));
     }

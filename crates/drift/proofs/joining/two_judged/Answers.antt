@@ -1,31 +1,29 @@
-use Prim.Native.Nat.{ℕ, ◌+◌, ◌≤◌, ◌<◌}
+use Prim.Native.Nat.{ℕ, ◌+◌, ◌<◌}
 use mathlib.Core.Path.{◌≡◌, refl, sym, ap, subst, ◌∙◌}
-use mathlib.Core.Bool.{Bool, true, false, cond, not, ◌&&◌}
+use mathlib.Core.Bool.{Bool, true, false, cond, ◌||◌}
 use mathlib.Core.List.{List, []}
-use mathlib.Core.Logic.{inl}
+use mathlib.Core.Logic.{⊎_elim}
 use native.Mathlib.Omega.{arith}
-use lib.Dec.{T, ltb, eqb, eqb→eq}
-use lib.ListN.{length}
-use borrow.Author.Tests.{lt-ltb, le-ltb}
+use lib.Dec.{ltb}
+use Rattle.std.specs.Prelude.{Some, min}
 use Rattle.grammar.specs.Grammar.{Counted}
 use Rattle.grammar.specs.Nodes.{Op₂}
 use Rattle.cltl.specs.Meaning.{Rows, Proper}
-use Rattle.cltl.specs.Rules.{both, uniform, joint}
-use Rattle.mask.specs.Mask.{on, Row}
+use Rattle.cltl.specs.Rules.{throughout, both, uniform, joint}
+use Rattle.mask.specs.Mask.{on, signed, Row}
 use Rattle.mask.specs.EachBit.{on_zero}
-use Rattle.mask.specs.Combined.{all_false}
-use Rattle.table.specs.Table.{Kept}
-use Rattle.table.specs.Keeping.{none_ends, kept_all, kept_then, kept_constants, stored_keeps}
-use Rattle.drift.specs.declared.Judged.{Judged}
-use Rattle.drift.specs.Tree.{two_of}
+use Rattle.table.specs.Table.{told, Table}
+use Rattle.quorum.specs.Words.{within}
+use Rattle.drift.specs.declared.Ground.{Ground}
+use Rattle.drift.specs.declared.Joined.{Joined}
 use Rattle.drift.specs.Operator.{is_or, two_rule}
 use Rattle.drift.specs.OperatorTruth.{two_cong}
 use Rattle.drift.specs.OperatorRows.{row_of}
-use Rattle.drift.specs.Places.{Placed}
-use Rattle.drift.specs.Placing.{placed_ends, other_placed, other_behind}
-use Rattle.drift.specs.Lending.{still_lent}
+use Rattle.drift.specs.Lent.{Lent}
+use Rattle.drift.specs.Decoded.{binary_of, hands_on}
 use Rattle.drift.specs.Answer.{rows_on, Gathered}
-use Rattle.drift.specs.Gathering.{not_all, all_four, joint_none, no_counts, alone_gathered, or_gathered, none_gathered, joint-told}
+use Rattle.drift.specs.Gathering.{joint_none, no_counts, alone_gathered, or_gathered, none_gathered, joint-told}
+use Rattle.std.proofs.lemmas.Option.{MatchOption-at_none}
 use Rattle.drift.proofs.joining.two_judged.Goals as goal
 
 -- the rows of the operands, in the order in which they stand
@@ -33,260 +31,73 @@ in_place : (swapped : Bool) (h x y r : ℕ) → x < h → y < h → r ≡ cond s
 in_place true h x y r p q e = omega arith
 in_place false h x y r p q e = omega arith
 
-pub two_row-requires : goal.two_row-requires
-two_row-requires c = let s = c in
-    let a = s.args in
-    let r = s.requires.lent.range in
-    let rows = s.requires.row_bound in (
-      r.lap,
-      r.steps,
-      (all_false a.g.h).low,
-      in_place a.swapped _ _ _ _ rows.0 rows.1 c.chosen_row-a.ensures,
-      in_place a.swapped _ _ _ _ rows.1 rows.0 c.chosen_row-b.ensures,
-    )
-
-pub alone-requires : goal.alone-requires
-alone-requires c = c.requires.lent.range
-
 only_none : (P : Rows) (b : Bool) (xs : List (Bool × Counted)) → uniform P xs ≡ false → uniform P (cond b xs []) ≡ false
 unfolding uniform
 only_none P true xs e = e
 only_none P false xs e = refl
 
-eqb-eq : (m n : ℕ) → eqb m n ≡ true → m ≡ n
-eqb-eq m n e = eqb→eq m n (subst T (sym e) tt)
-
 -- a row of the same rule, where the or is also true as f says
-rule-row : (h l : ℕ) → l < h → (p : Bool) (o : Op₂) (z a b : ℕ) (f : ℕ → Bool) (a' b' row r : ℕ) → a ≡ a' → b ≡ b' → r ≡ row
-    → ((s : ℕ) → s < h → on z s ≡ f s) → Row h row (two_rule h l p o (on z) (on a) (on b)) → Row h r (two_rule h l p o f (on a') (on b'))
-rule-row h l ok p o z a b f a' b' row r ea eb er e g =
-    subst (λ (x : ℕ). Row h x (two_rule h l p o f (on a') (on b'))) (sym er)
-    (row_of h row _ _
-    (two_cong h l ok p o (on z) (on a) (on b) f (on a') (on b') e (λ s _. ap (λ (x : ℕ). on x s) ea) (λ s _. ap (λ (x : ℕ). on x s) eb)) g)
+rule-row : (h l : ℕ) → l < h → (p : Bool) (o : Op₂) (z a b : ℕ) (f : ℕ → Bool) (a' b' r : ℕ) → a ≡ a' → b ≡ b'
+    → ((s : ℕ) → s < h → on z s ≡ f s) → Row h r (two_rule h l p o (on z) (on a) (on b)) → Row h r (two_rule h l p o f (on a') (on b'))
+rule-row h l ok p o z a b f a' b' r ea eb e g =
+    row_of h r _ _
+    (two_cong h l ok p o (on z) (on a) (on b) f (on a') (on b') e (λ s _. ap (λ (x : ℕ). on x s) ea) (λ s _. ap (λ (x : ℕ). on x s) eb)) g
 
--- nothing is joined
-pub returns-then-not-is_or-first : goal.returns-then-not-is_or-first
-returns-then-not-is_or-first c = let s = c in
-    let a = s.args in
-    let g = a.g in
-    let r = s.requires.lent.range in
-    let alone = c.alone.ensures in
-    let ends = none_ends g.marks g.h in record {
-      kept = (kept_all a.at a.t.now, s.requires.lent.windows, inl (omega (arith, alone.at_none, ends)), omega (arith, alone.at_none, ends, s.requires.lent.constants.room));
-      by_index = λ bears xs ys f f'.
-          let P = rows_on g.carts g.h g.l bears a.bits.now in
-          let is = c.is_or.ensures in
-          let none : uniform P (cond (is_or (two_of a.kind) a.p) (both xs ys) []) ≡ false =
-          none_gathered P r.few a.swapped (is_or (two_of a.kind) a.p) xs ys a.t.now a.first a.second f f'
-          (ap (λ (b : Bool). ((b && a.first.joins) && a.second.joins) && eqb a.first.who a.second.who) (sym is)
-          ∙ not_all c.is_or.result a.first.joins a.second.joins (eqb a.first.who a.second.who)
-          (ap not c.if-not-is_or-first.true)) in
-          let other : uniform P (cond (ltb a.kind 8) (cond (is_or (two_of a.kind) a.p) (both xs ys) []) []) ≡ false =
-          only_none P (ltb a.kind 8) _ none in (
-            rule-row g.h g.l r.lap a.p (two_of a.kind) 0 _ _ _ _ _ _ _
-                c.chosen_row-a.ensures
-                c.chosen_row-b.ensures alone.row_is
-                (λ j _. on_zero j ∙ sym (joint_none P g.d _ j none)) c.two_row.ensures,
-            alone_gathered P r.few _ other g.marks _ a.t.now _ alone,
-          );
-    }
-
-pub place_either-to-requires : goal.place_either-to-requires
-place_either-to-requires c = let s = c in
-    let room = s.requires.h_bound in record { in_range = (s.requires.lent.range, s.requires.lent.constants); h_bound = (room.0, room.1, s.requires.lent.pairs); placed = s.requires.placed }
-
-pub added-slack-requires : goal.added-slack-requires
-added-slack-requires c = let s = c in
-    (s.requires.row_bound.2, s.requires.row_bound.3)
-
-pub together-requires : goal.together-requires
-together-requires c = let taken : let s = c in
-    let a = s.args in
-    let to = c.place_either-to.result in
-    Kept a.at a.t.now c.place_either-to.new.t × Placed a.g.marks a.g.h a.at to
-    × (to + a.g.h ≤ length c.place_either-to.new.t) × (a.at ≤ to) = let s = c in
-    let a = s.args in
-    let g = a.g in
-    let room = s.requires.h_bound in
-    let e = c.place_either-to.ensures.0 in
-    let table = c.place_either-to.ensures.1 in
-    let placed = other_placed g.marks g.h a.at room.0 a.first.at in
-    let behind = other_behind g.marks g.h a.at room.0 a.first.at in (
-      kept_then a.at _ a.t.now a.t.now _ (omega (arith, e, behind)) (kept_all a.at a.t.now) (stored_keeps _ _ g.h _ _ table),
-      subst (Placed g.marks g.h a.at) (sym e) placed,
-      omega (arith, e, placed_ends g.marks g.h a.at room.0 _ placed, room.1, s.requires.lent.pairs, table.kept),
-      omega (arith, e, behind),
-    ) in
-    let place = c in
-    let s = place in
-    let a = s.args in
-    let t = taken in
-    let kept = kept_then _ a.at a.t.now a.t.now _ s.requires.h_bound.0 (kept_all _ a.t.now) t.0 in record { lent = still_lent a.g a.t.now a.w.now a.bits.now _ _ s.requires.lent kept s.requires.lent.windows; h_in_bounds = (t.2, omega (arith, c.added-slack.ensures), s.requires.row_bound.4) }
-
-pub two_row-row-requires : goal.two_row-row-requires
-two_row-row-requires c = let s = c in
-    let a = s.args in
-    let r = s.requires.lent.range in
-    let rows = s.requires.row_bound in (
-      r.lap,
-      r.steps,
-      c.together.ensures.row.low,
-      in_place a.swapped _ _ _ _ rows.0 rows.1
-          c.chosen_row-a.ensures,
-      in_place a.swapped _ _ _ _ rows.1 rows.0
-          c.chosen_row-b.ensures,
+-- the row, and the counts that are handed on, where both sides have counts over the same carts
+joined : (g : Ground) (t b : List ℕ) → Lent g t b → (bears : ℕ → ℕ → ℕ → Bool) → let P = rows_on g.carts g.lasso.h g.lasso.l bears b in
+    (p swapped : Bool) (o : Op₂) (xs ys : List (Bool × Counted)) (after : List ℕ) (first second r : Joined) (a a' c c' z row : ℕ) → is_or o p ≡ true
+    → first.who ≡ second.who → (r.sign ≡ true) × (r.slack ≡ min 32 (first.slack + second.slack)) × (r.who ≡ first.who)
+    → a ≡ a' → c ≡ c' → Table (λ i s. signed first.sign (told t first.at i s) || signed second.sign (told t second.at i s)) r.at g.lasso.h t after
+    → Row g.lasso.h z (λ s. ltb r.slack (throughout g.lasso.h g.lasso.l g.carts g.drift (within r.who (told after r.at)) s))
+    → Row g.lasso.h row (two_rule g.lasso.h g.lasso.l p o (on z) (on a) (on c))
+    → Gathered P xs t (cond swapped (Some second) (Some first)) → Gathered P ys t (cond swapped (Some first) (Some second))
+    → let zs = cond (is_or o p) (both xs ys) [] in
+    Row g.lasso.h row (two_rule g.lasso.h g.lasso.l p o (joint P g.drift zs) (on a') (on c')) × Gathered P zs after (Some r)
+joined g t b lent bears p swapped o xs ys after first second r a a' c c' z row is same made ea ec table with by f f' =
+    let P = rows_on g.carts g.lasso.h g.lasso.l bears b in
+    let proper : Proper P = record { some = g.some; lap = g.lasso.lap } in
+    let gathered = or_gathered P g.few swapped xs ys t after first second r (made.0, made.1, same, made.2) f f' table in
+    let there = joint-told P g.few proper g.drift (both xs ys) after r gathered z made.0 with in
+    let zs : cond (is_or o p) (both xs ys) [] ≡ both xs ys = ap (λ (b : Bool). cond b (both xs ys) []) is in (
+      rule-row g.lasso.h g.lasso.l g.lasso.lap p o z _ _ _ _ _ row ea ec (λ j u. there.at j u ∙ ap (λ ys. joint P g.drift ys j) (sym zs)) by,
+      subst (λ ys. Gathered P ys after (Some r)) (sym zs) gathered,
     )
 
-pub alone-requires-then-kind-gt7 : goal.alone-requires-then-kind-gt7
-alone-requires-then-kind-gt7 c = c.requires.lent.range
+-- nothing is joined
+pub returns-in_default-clause-by_index : goal.returns-in_default-clause-by_index
+returns-in_default-clause-by_index c =
+    let a = c.args in
+    let g = a.g in
+    let sides = MatchOption-at_none _ _ c.in_default.is c.both_sides.ensures in
+    λ bears xs ys f f'.
+    let P = rows_on g.carts g.lasso.h g.lasso.l bears a.bits.now in
+    let none : uniform P (cond (is_or (binary_of a.o) a.p) (both xs ys) []) ≡ false =
+    none_gathered P g.few a.swapped _ xs ys a.t.now _ _ f f' (λ x y e. sides x y (c.is_or.ensures ∙ e)) in (
+      rule-row g.lasso.h g.lasso.l g.lasso.lap a.p (binary_of a.o) 0 _ _ _ _ _ _ c.chosen-a.ensures c.chosen-b.ensures
+          (λ j _. on_zero j ∙ sym (joint_none P g.drift _ j none)) c.two_row.ensures,
+      alone_gathered P g.few _ (only_none P (hands_on (binary_of a.o)) _ none) a.t.now,
+    )
 
-pub returns-then-kind-gt7 : goal.returns-then-kind-gt7
-returns-then-kind-gt7 c = let taken : let s = c in
-    let a = s.args in
-    let to = c.place_either-to.result in
-    Kept a.at a.t.now c.place_either-to.new.t × Placed a.g.marks a.g.h a.at to
-    × (to + a.g.h ≤ length c.place_either-to.new.t) × (a.at ≤ to) = let s = c in
-    let a = s.args in
-    let g = a.g in
-    let room = s.requires.h_bound in
-    let e = c.place_either-to.ensures.0 in
-    let table = c.place_either-to.ensures.1 in
-    let placed = other_placed g.marks g.h a.at room.0 a.first.at in
-    let behind = other_behind g.marks g.h a.at room.0 a.first.at in (
-      kept_then a.at _ a.t.now a.t.now _ (omega (arith, e, behind)) (kept_all a.at a.t.now) (stored_keeps _ _ g.h _ _ table),
-      subst (Placed g.marks g.h a.at) (sym e) placed,
-      omega (arith, e, placed_ends g.marks g.h a.at room.0 _ placed, room.1, s.requires.lent.pairs, table.kept),
-      omega (arith, e, behind),
-    ) in
-    let joined : let s = c in
-    let a = s.args in
-    let g = a.g in
-    (bears : ℕ → ℕ → ℕ → Bool) (xs ys : List (Bool × Counted)) → let P = rows_on g.carts g.h g.l bears a.bits.now in
-    let zs = cond (is_or (two_of a.kind) a.p) (both xs ys) [] in
-    Gathered P xs a.t.now (cond a.swapped a.second a.first) → Gathered P ys a.t.now (cond a.swapped a.first a.second)
-    → Row g.h c.two_row-row.result (two_rule g.h g.l a.p (two_of a.kind) (joint P g.d zs) (on (cond a.swapped a.second.row a.first.row))
-    (on (cond a.swapped a.first.row a.second.row)))
-    × Gathered P zs c.place_either-to.new.t (record {
-      row = c.two_row-row.result;
-      joins = true;
-      at = c.place_either-to.result;
-      sign = true;
-      slack = c.added-slack.result;
-      who = a.first.who;
-    }) = λ bears xs ys f f'. let place = c in
-    let test = place in
-    let rows = test in
-    let s = rows in
-    let a = s.args in
-    let g = a.g in
-    let r = s.requires.lent.range in
-    let P = rows_on g.carts g.h g.l bears a.bits.now in
-    let proper : Proper P = record { some = r.some; lap = r.lap } in
-    let four =
-    all_four c.is_or.result a.first.joins a.second.joins (eqb a.first.who a.second.who)
-    (ap not c.if-not-is_or-first.false) in
-    let is : is_or (two_of a.kind) a.p ≡ true = sym c.is_or.ensures ∙ four.0 in
-    let same : a.first.who ≡ a.second.who = eqb-eq a.first.who a.second.who four.3 in
-    let told : Judged = record {
-      row = c.two_row-row.result;
-      joins = true;
-      at = c.place_either-to.result;
-      sign = true;
-      slack = c.added-slack.result;
-      who = a.first.who;
-    } in
-    let gathered = or_gathered P r.few a.swapped xs ys a.t.now _ a.first a.second told
-    (four.1, four.2, refl, refl, c.added-slack.ensures, same, refl) f f' c.place_either-to.ensures.1 in
-    let z = joint-told P r.few proper g.d (both xs ys) _ told gathered c.together.result refl refl c.together.ensures.row in
-    let zs : cond (is_or (two_of a.kind) a.p) (both xs ys) [] ≡ both xs ys = ap (λ (b : Bool). cond b (both xs ys) []) is in (
-      rule-row g.h g.l r.lap a.p (two_of a.kind) c.together.result _ _ _ _ _ _ _ c.chosen_row-a.ensures
-          c.chosen_row-b.ensures refl (λ j u. z.at j u ∙ ap (λ ys. joint P g.d ys j) (sym zs)) c.two_row-row.ensures,
-      subst (λ ys. Gathered P ys c.place_either-to.new.t told) (sym zs) gathered,
-    ) in
-    let row = c in
-    let place = row in
-    let s = place in
-    let a = s.args in
-    let g = a.g in
-    let r = s.requires.lent.range in
-    let t = taken in
-    let alone = c.alone-then-kind-gt7.ensures in
-    let ends = none_ends g.marks g.h in
-    let kept = kept_then _ a.at a.t.now a.t.now _ s.requires.h_bound.0 (kept_all _ a.t.now) t.0 in
-    let constants = kept_constants g.marks g.h a.t.now _ kept s.requires.lent.constants in record {
-      kept = (t.0, row.together.ensures.w_len, inl (omega (arith, alone.at_none, ends)), omega (arith, alone.at_none, ends, constants.room));
-      by_index = λ bears xs ys f f'.
-          let P = rows_on g.carts g.h g.l bears a.bits.now in
-          let made = joined bears xs ys f f' in (
-            rw alone.row_is made.0,
-            rw (le-ltb a.kind 8 (omega (arith, c.if-kind-gt7.true))) (alone_gathered P r.few [] (no_counts P) g.marks _ _ _ alone),
-          );
-    }
+pub returns-in-And-clause-by_index : goal.returns-in-And-clause-by_index
+returns-in-And-clause-by_index c =
+    let a = c.args in
+    let sides = c.in-Some.ensures in
+    λ bears xs ys f f'.
+    let made = joined a.g a.t.now a.bits.now c.requires.lent bears a.p a.swapped (binary_of a.o) xs ys _ c.in-Some.x c.in-Some.y
+    (record { at = c.place_either-to.result; sign = true; slack = c.added-slack.result; who = c.in-Some.x.who }) _ _ _ _ _ _
+    (sym c.is_or.ensures ∙ sides.0) sides.3 (refl, c.added-slack.ensures, refl) c.chosen-a.ensures c.chosen-b.ensures c.place_either-to.ensures.1
+    c.together-z.ensures.row c.two_row-row.ensures (rw (sides.1, sides.2) at f) (rw (sides.1, sides.2) at f') in
+    let on : hands_on (binary_of a.o) ≡ true = ⊎_elim (λ e. rw e) (λ e. rw e) c.in-And.is in
+    (made.0, rw on made.1)
 
-pub returns : goal.returns
-returns c = let taken : let s = c in
-    let a = s.args in
-    let to = c.place_either-to.result in
-    Kept a.at a.t.now c.place_either-to.new.t × Placed a.g.marks a.g.h a.at to
-    × (to + a.g.h ≤ length c.place_either-to.new.t) × (a.at ≤ to) = let s = c in
-    let a = s.args in
-    let g = a.g in
-    let room = s.requires.h_bound in
-    let e = c.place_either-to.ensures.0 in
-    let table = c.place_either-to.ensures.1 in
-    let placed = other_placed g.marks g.h a.at room.0 a.first.at in
-    let behind = other_behind g.marks g.h a.at room.0 a.first.at in (
-      kept_then a.at _ a.t.now a.t.now _ (omega (arith, e, behind)) (kept_all a.at a.t.now) (stored_keeps _ _ g.h _ _ table),
-      subst (Placed g.marks g.h a.at) (sym e) placed,
-      omega (arith, e, placed_ends g.marks g.h a.at room.0 _ placed, room.1, s.requires.lent.pairs, table.kept),
-      omega (arith, e, behind),
-    ) in
-    let joined : let s = c in
-    let a = s.args in
-    let g = a.g in
-    (bears : ℕ → ℕ → ℕ → Bool) (xs ys : List (Bool × Counted)) → let P = rows_on g.carts g.h g.l bears a.bits.now in
-    let zs = cond (is_or (two_of a.kind) a.p) (both xs ys) [] in
-    Gathered P xs a.t.now (cond a.swapped a.second a.first) → Gathered P ys a.t.now (cond a.swapped a.first a.second)
-    → Row g.h c.two_row-row.result (two_rule g.h g.l a.p (two_of a.kind) (joint P g.d zs) (on (cond a.swapped a.second.row a.first.row))
-    (on (cond a.swapped a.first.row a.second.row)))
-    × Gathered P zs c.place_either-to.new.t (record {
-      row = c.two_row-row.result;
-      joins = true;
-      at = c.place_either-to.result;
-      sign = true;
-      slack = c.added-slack.result;
-      who = a.first.who;
-    }) = λ bears xs ys f f'. let place = c in
-    let test = place in
-    let rows = test in
-    let s = rows in
-    let a = s.args in
-    let g = a.g in
-    let r = s.requires.lent.range in
-    let P = rows_on g.carts g.h g.l bears a.bits.now in
-    let proper : Proper P = record { some = r.some; lap = r.lap } in
-    let four =
-    all_four c.is_or.result a.first.joins a.second.joins (eqb a.first.who a.second.who)
-    (ap not c.if-not-is_or-first.false) in
-    let is : is_or (two_of a.kind) a.p ≡ true = sym c.is_or.ensures ∙ four.0 in
-    let same : a.first.who ≡ a.second.who = eqb-eq a.first.who a.second.who four.3 in
-    let told : Judged = record {
-      row = c.two_row-row.result;
-      joins = true;
-      at = c.place_either-to.result;
-      sign = true;
-      slack = c.added-slack.result;
-      who = a.first.who;
-    } in
-    let gathered = or_gathered P r.few a.swapped xs ys a.t.now _ a.first a.second told
-    (four.1, four.2, refl, refl, c.added-slack.ensures, same, refl) f f' c.place_either-to.ensures.1 in
-    let z = joint-told P r.few proper g.d (both xs ys) _ told gathered c.together.result refl refl c.together.ensures.row in
-    let zs : cond (is_or (two_of a.kind) a.p) (both xs ys) [] ≡ both xs ys = ap (λ (b : Bool). cond b (both xs ys) []) is in (
-      rule-row g.h g.l r.lap a.p (two_of a.kind) c.together.result _ _ _ _ _ _ _ c.chosen_row-a.ensures
-          c.chosen_row-b.ensures refl (λ j u. z.at j u ∙ ap (λ ys. joint P g.d ys j) (sym zs)) c.two_row-row.ensures,
-      subst (λ ys. Gathered P ys c.place_either-to.new.t told) (sym zs) gathered,
-    ) in
-    let row = c in
-    let place = row in
-    let a = place.args in
-    let t = taken in record { kept = (t.0, row.together.ensures.w_len, t.1, t.2); by_index = λ bears xs ys f f'. let made = joined bears xs ys f f' in (made.0, rw (lt-ltb a.kind 8 (omega (arith, c.if-kind-gt7.false))) made.1) }
+pub returns-in-Until-clause-by_index : goal.returns-in-Until-clause-by_index
+returns-in-Until-clause-by_index c =
+    let a = c.args in
+    let sides = c.in-Some.ensures in
+    λ bears xs ys f f'.
+    let made = joined a.g a.t.now a.bits.now c.requires.lent bears a.p a.swapped (binary_of a.o) xs ys _ c.in-Some.x c.in-Some.y
+    (record { at = c.place_either-to.result; sign = true; slack = c.added-slack.result; who = c.in-Some.x.who }) _ _ _ _ _ _
+    (sym c.is_or.ensures ∙ sides.0) sides.3 (refl, c.added-slack.ensures, refl) c.chosen-a.ensures c.chosen-b.ensures c.place_either-to.ensures.1
+    c.together-z.ensures.row c.two_row-row.ensures (rw (sides.1, sides.2) at f) (rw (sides.1, sides.2) at f') in
+    let off : hands_on (binary_of a.o) ≡ false = ⊎_elim (λ e. rw e) (λ e. rw e) c.in-Until.is in
+    (made.0, rw off (alone_gathered _ c.args.g.few [] (no_counts _) _))

@@ -2,9 +2,6 @@ use native.Mathlib.Omega.{arith}
 use Rattle.endian.specs.Little.{value}
 use Rattle.drift.proofs.nodes.number_at.Goals as goal
 
--- src/nodes.rt:32:1
 pub returns : goal.returns
 unfolding value
-returns c = let a = c.wide16.ensures in
-    let b = c.number16.ensures in
-    (omega arith, omega arith)
+returns c = let a = c.from.ensures in let b = c.number16.ensures in (omega arith, omega arith)

@@ -1,53 +1,37 @@
-use Prim.Native.Nat.{ℕ, ◌+◌, ◌-◌}
+use Prim.Native.Nat.{ℕ, ◌-◌, ◌/◌, ◌<◌}
 use native.Mathlib.Omega.{arith}
 use native.Mathlib.Numerals.{add-one}
 use mathlib.Core.Path.{◌≡◌, sym, ap, ◌∙◌}
 use Rattle.drift.specs.Lacking.{groups_from, first_lacked}
-use Rattle.drift.specs.Lacked.{found_here, found_later, none_left, fewer_nodes}
+use Rattle.std.proofs.lemmas.Bool.Decides.{nat_tests}
+use Rattle.drift.specs.Tree.{kind_at, third_at}
+use Rattle.drift.specs.Lacked.{found_here, found_later, none_left}
+use mathlib.Core.Bool.{true, ◌&&◌}
+use lib.Dec.{ltb}
 use Rattle.drift.proofs.refused.lacking_group.Goals as goal
 
-pub loop-k-init : goal.loop-k-init
-loop-k-init c = let a = c.args in
-    let e : a.n - 0 ≡ a.n = omega arith in
-    (omega arith, ap (λ (m : ℕ). first_lacked a.many (groups_from a.nodes.now m 0)) e)
-
-pub lacks-requires : goal.lacks-requires
-lacks-requires c = let s = c in
-    fewer_nodes s.args.nodes.now s.args.n (c.loop-k.k + 1) (omega (arith, c.loop-k-test.true)) s.requires
-
-pub over_at-requires : goal.over_at-requires
-over_at-requires c = let s = c in
-    fewer_nodes s.args.nodes.now s.args.n (c.loop-k.k + 1) (omega (arith, c.loop-k-test.true)) s.requires
+beyond : (kind o many : ℕ) → (ltb 9 kind && ltb many o) ≡ true → many < o
+beyond kind o many e = grind (arith, nat_tests)
 
 pub returns-then-lacks : goal.returns-then-lacks
-returns-then-lacks c = let s = c in
-    let a = s.args in
-    let v = c.loop-k in (
-      c.over_at.ensures.0
-          ∙ sym (found_here a.nodes.now a.many a.n v.k (omega (arith, c.loop-k-test.true))
-          (sym c.lacks.ensures ∙ c.if-lacks.true)) ∙ v.invariant.1,
-      c.over_at.ensures.1,
+returns-then-lacks c =
+    let a = c.args in
+    let v = c.loop-k in
+    let group : a.many < third_at a.nodes.now v.k / 4 = beyond (kind_at a.nodes.now v.k) _ a.many (sym c.lacks.ensures ∙ c.if-lacks.true) in (
+      sym v.invariant ∙ found_here a.nodes.now a.many a.n v.k (omega arith) (sym c.lacks.ensures ∙ c.if-lacks.true) ∙ omega arith,
+      omega arith,
     )
-
-pub overflow_add-k : goal.overflow_add-k
-overflow_add-k c = omega (arith, c.loop-k-test.true)
-
-pub loop-k-smaller : goal.loop-k-smaller
-loop-k-smaller c = omega (arith, c.loop-k-test.true)
 
 pub loop-k-preserved : goal.loop-k-preserved
-loop-k-preserved c = let s = c in
-    let a = s.args in
+loop-k-preserved c =
+    let a = c.args in
     let v = c.loop-k in
-    let inside = c.loop-k-test.true in (
-      omega (arith, inside),
-      ap (λ (k : ℕ). first_lacked a.many (groups_from a.nodes.now (a.n - k) k)) (add-one v.k)
-          ∙ sym (found_later a.nodes.now a.many a.n v.k (omega (arith, inside)) (sym c.lacks.ensures ∙ c.if-lacks.false))
-          ∙ v.invariant.1,
-    )
+    ap (λ (k : ℕ). first_lacked a.many (groups_from a.nodes.now (a.n - k) k)) (add-one v.k)
+    ∙ sym (found_later a.nodes.now a.many a.n v.k (omega arith) (sym c.lacks.ensures ∙ c.if-lacks.false))
+    ∙ v.invariant
 
 pub returns : goal.returns
-returns c = let s = c in
-    let a = s.args in
+returns c =
+    let a = c.args in
     let v = c.loop-k in
-    (sym (none_left a.nodes.now a.many a.n v.k (omega (arith, c.loop-k-test.false))) ∙ v.invariant.1, omega arith)
+    sym v.invariant ∙ none_left a.nodes.now a.many a.n v.k (omega arith)

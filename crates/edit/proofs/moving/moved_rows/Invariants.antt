@@ -1,9 +1,5 @@
-use Prim.Native.Nat.{◌-◌}
 use Rattle.edit.proofs.RowsMoved.{Moving}
 use Rattle.edit.proofs.moving.moved_rows.Given as goal
 
 abbrev pub invariant-loop-c : goal.invariant-loop-c
-invariant-loop-c l = Moving l.h l.s l.block l.carts l.size l.rows l.c
-
-abbrev pub decreases-loop-c : goal.decreases-loop-c
-decreases-loop-c l = l.carts - l.c
+invariant-loop-c l = Moving l.h l.s l.block l.size l.rows l.c

@@ -1,31 +1,41 @@
 use native.Mathlib.Omega.{arith}
-use mathlib.Core.Path.{sym, ◌∙◌}
+use mathlib.Core.Path.{◌≡◌, sym, ap, subst, ◌∙◌}
+use Rattle.std.specs.Prelude.{Err}
+use Rattle.std.proofs.Common.{rules}
+use Rattle.refusal.specs.Results.{checked}
 use Rattle.floor.specs.Located.{accepts}
-use Rattle.plan.specs.Read.{accepts_if, held_range, held_length}
-use Rattle.plan.specs.Promises.{AcceptedPlan}
-use Rattle.edit.proofs.RowJudged.{refused, judged}
+use Rattle.plan.specs.Read.{held_range}
+use Rattle.edit.specs.Judgement.{ReplacementJudged}
+use Rattle.edit.proofs.RowJudged.{refused, unfit, judged}
 use Rattle.edit.proofs.replacing.judge.Goals as goal
 
-pub returns-then-not-accepts : goal.returns-then-not-accepts
-returns-then-not-accepts c = refused _ _ _ _ c.read-r.result c.read-r.ensures.answer
-    (sym c.accepts.ensures ∙ c.if-not-accepts.true)
+pub returns-in_err-r : goal.returns-in_err-r
+returns-in_err-r c =
+    let a = c.args in
+    let e : c.from_residual.result ≡ Err c.in_err-r.field-0.0 = search rules in
+    subst (ReplacementJudged a.floor.now a.plan.now a.cart a.row.now) (sym e)
+    (refused a.floor.now a.plan.now a.cart a.row.now _ (sym c.in_err-r.was ∙ c.read.ensures.answer))
 
-pub judge_moves_and_row-verdict-requires : goal.judge_moves_and_row-verdict-requires
-judge_moves_and_row-verdict-requires c = let read-it : AcceptedPlan c.args.floor.now
-    c.args.plan.now c.read-r.result = accepts_if _ _ _ c.read-r.ensures (sym c.accepts.ensures ∙ c.if-not-accepts.false) in
-    let w = read-it in
-    let f =
-    accepts _ _ (λ i. omega (arith, c.type_inv.floor i))
-    w.floor_read in record { accepted_floor = f; head_in_range = held_range _ _ _ w; block_len = held_length _ _ _ w f.valid.few_carts }
+pub judge_moves_and_row-requires-clause-accepted_floor : goal.judge_moves_and_row-requires-clause-accepted_floor
+judge_moves_and_row-requires-clause-accepted_floor c =
+    accepts _ _ (λ i. omega (arith, c.type_inv.floor i)) (c.read.ensures.accepted _ c.in_ok-r.was).floor_read
+
+pub judge_moves_and_row-requires-clause-head_in_range : goal.judge_moves_and_row-requires-clause-head_in_range
+judge_moves_and_row-requires-clause-head_in_range c = held_range _ _ _ (c.read.ensures.accepted _ c.in_ok-r.was)
+
+pub returns-in_err-judge_moves_and_row : goal.returns-in_err-judge_moves_and_row
+returns-in_err-judge_moves_and_row c =
+    let a = c.args in
+    let e : c.from_residual-in_err-judge_moves_and_row.result ≡ Err c.in_err-judge_moves_and_row.field-0.0 = search rules in
+    subst (ReplacementJudged a.floor.now a.plan.now a.cart a.row.now) (sym e)
+    (unfit a.floor.now a.plan.now a.cart a.row.now c.in_ok-r.r (c.read.ensures.accepted _ c.in_ok-r.was) _
+    (ap checked (sym c.in_err-judge_moves_and_row.was) ∙ c.judge_moves_and_row.ensures))
 
 pub row_at-requires : goal.row_at-requires
-row_at-requires c = let read-it : AcceptedPlan c.args.floor.now
-    c.args.plan.now c.read-r.result = accepts_if _ _ _ c.read-r.ensures (sym c.accepts.ensures ∙ c.if-not-accepts.false) in
-    (held_range _ _ _ read-it).steps
+row_at-requires c = (held_range _ _ _ (c.read.ensures.accepted _ c.in_ok-r.was)).steps
 
 pub returns : goal.returns
-returns c = let read-it : AcceptedPlan c.args.floor.now
-    c.args.plan.now c.read-r.result = accepts_if _ _ _ c.read-r.ensures (sym c.accepts.ensures ∙ c.if-not-accepts.false) in
-    judged _ _ _ _ c.read-r.result
-    read-it
-    c.judge_moves_and_row-verdict.result c.judge_moves_and_row-verdict.ensures _ c.row_at.ensures
+returns c =
+    let a = c.args in
+    judged a.floor.now a.plan.now a.cart a.row.now c.in_ok-r.r (c.read.ensures.accepted _ c.in_ok-r.was)
+    (ap checked (sym c.in_ok-judge_moves_and_row.was) ∙ c.judge_moves_and_row.ensures) _ c.row_at.ensures

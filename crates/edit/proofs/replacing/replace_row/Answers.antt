@@ -1,31 +1,23 @@
 use Rattle.std.proofs.Common.{rules}
 use native.Mathlib.Omega.{arith}
-use mathlib.Core.Path.{◌≡◌, sym, ◌∙◌}
-use mathlib.Core.Bool.{true, false}
-use Rattle.refusal.specs.Stages.{is_accepted}
+use mathlib.Core.Path.{◌≡◌, sym, ap, ◌∙◌}
+use Rattle.std.specs.Prelude.{Err}
+use Rattle.refusal.specs.Results.{checked}
 use Rattle.edit.proofs.ReplacedReads.{promise}
 use Rattle.edit.proofs.replacing.replace_row.Goals as goal
 
-pub copy_at-requires : goal.copy_at-requires
-copy_at-requires c = let e = c.accepts.ensures in
-    let t = c.if-accepts.true in
-    let yes : is_accepted c.judge-r.result.verdict ≡ true = cc in
-    c.judge-r.ensures.inside yes
-
-pub returns-then-accepts : goal.returns-then-accepts
-returns-then-accepts c = let j = c.judge-r.ensures in
-    let e = c.accepts.ensures in
-    let t = c.if-accepts.true in
-    let yes : is_accepted c.judge-r.result.verdict ≡ true = cc in
-    promise _ _ _ _ _ _ (record { answer = j.answer; out = c.copy_at.ensures ∙ sym (j.changed yes) })
+pub returns-in_err-at : goal.returns-in_err-at
+returns-in_err-at c =
+    let j = c.judge.ensures in
+    let e : c.from_residual.result ≡ Err c.in_err-at.field-0.0 = search rules in
+    promise _ _ _ _ _ _ (record { answer = ap checked e ∙ sym (ap checked c.in_err-at.was) ∙ j.answer; out = sym (j.kept _ c.in_err-at.was) })
     (λ i. omega (arith, c.type_inv.floor i))
     (λ i. search rules)
 
-pub returns-else-accepts : goal.returns-else-accepts
-returns-else-accepts c = let j = c.judge-r.ensures in
-    let e = c.accepts.ensures in
-    let t = c.if-accepts.false in
-    let no : is_accepted c.judge-r.result.verdict ≡ false = cc in
-    promise _ _ _ _ _ _ (record { answer = j.answer; out = sym (j.kept no) })
+pub returns : goal.returns
+returns c =
+    let j = c.judge.ensures in
+    promise _ _ _ _ _ _
+    (record { answer = ap checked (sym c.in_ok-at.was) ∙ j.answer; out = c.copy_at.ensures ∙ sym (j.changed _ c.in_ok-at.was) })
     (λ i. omega (arith, c.type_inv.floor i))
     (λ i. search rules)

@@ -1,137 +1,120 @@
-use Prim.Native.Nat.{◌+◌, ◌≤◌}
-use native.Mathlib.Omega.{arith}
-use mathlib.Core.Path.{◌≡◌, sym, ap, subst, ◌∙◌}
-use mathlib.Core.Bool.{false}
-use mathlib.Core.List.{map}
-use lib.ListN.{length}
-use Rattle.record.specs.Record.{layout}
-use Rattle.record.specs.Parts.{parts, of_kind, laid}
-use Rattle.floor.specs.Floor.{at_end, empty_floor}
-use Rattle.floor.specs.Numbers.{FloorNumbers, numbers, word_records, floor_bytes}
-use Rattle.floor.specs.Walked.{walk_on, UpTo}
-use Rattle.floor.specs.Walk.{on_up_to, up_to_less, length-kinds, length_floor, read_numbers}
-use Rattle.floor.specs.declared.Walked.{Walked}
-use Rattle.floor.specs.declared.Walked.TheVariants.{At}
-use Rattle.floor.specs.declared.FloorAnswer.TheVariants.{Refused}
-use Rattle.floor.proofs.Steps.{too_long}
+use Rattle.std.proofs.Common.{◌≡◌, ◌≤◌, ap, sym, ◌∙◌, min, length, rules, arith, ℕ, false, Err}
+use Rattle.floor.specs.Floor.{Walked, walk, at_end, empty_floor, read_floor}
+use Rattle.floor.specs.Lent.{lent}
+use Rattle.floor.specs.Numbers.{FloorNumbers, floor_records, floor_bytes}
+use Rattle.floor.specs.Walk.{read_records_lem}
+use Rattle.floor.specs.declared.Floor.{Floor}
+use Rattle.floor.proofs.Onward.{Left, none_left, all_stay, all_good, all_fault}
+use Rattle.floor.proofs.Steps.{none_counted, too_long}
 use Rattle.floor.proofs.writing.judge_numbers.Goals as goal
 
-pub returns-then-n-gt65536 : goal.returns-then-n-gt65536
-returns-then-n-gt65536 c = let a = c.args in
-    let n = numbers a.places.now a.lanes.now a.carts.now a.narrow.now a.groups.now in
-    ap Refused c.at_offset.ensures ∙ too_long (floor_bytes n) (omega (arith, length_floor n))
+module _ (n : FloorNumbers) (size : ℕ) (e : size ≡ min 65537 (length (floor_bytes n))) (h : size ≤ 65536) where
+  short : length (floor_bytes n) ≤ 65536
+  short = omega arith
 
--- what is judged after each kind, and that it stays within a file's length
-abbrev after1 : (n : FloorNumbers) → Walked
-after1 n = walk_on (At empty_floor 0) (word_records 1 n.places)
+  -- all records are left
+  begin : (f : Floor) → (f.places ≡ 0) × ((f.lanes ≡ 0) × ((f.carts ≡ 0) × ((f.narrow ≡ 0) × (f.groups ≡ 0))))
+      → Left (walk empty_floor 0 (floor_records n)) f 0 (floor_records n)
+  begin f z = record { short = omega (arith, short); same = ap (λ (g : Floor). walk g 0 (floor_records n)) (none_counted f z) }
 
-abbrev after2 : (n : FloorNumbers) → Walked
-after2 n = walk_on (after1 n) (map (of_kind 2) (parts 3 n.lanes))
+  -- what they are judged to is what reading gives
+  read : (w : Walked) → w ≡ walk empty_floor 0 (floor_records n) → at_end w false ≡ read_floor (floor_bytes n)
+  read w q = ap (λ (x : Walked). at_end x false) q ∙ sym (read_records_lem n short)
 
-abbrev after3 : (n : FloorNumbers) → Walked
-after3 n = walk_on (after2 n) (map (of_kind 3) (parts 2 n.carts))
+pub returns-then-laid_size-gt65536 : goal.returns-then-laid_size-gt65536
+returns-then-laid_size-gt65536 c = ap Err c.at_offset.ensures ∙ too_long (floor_bytes (lent c.args.n)) (omega arith)
 
-abbrev after4 : (n : FloorNumbers) → Walked
-after4 n = walk_on (after3 n) (map (of_kind 6) (parts 1 n.narrow))
+pub walk_words-requires : goal.walk_words-requires
+walk_words-requires c =
+    let w = begin _ _ c.laid_size.ensures c.if-laid_size-gt65536.false _ c.default.ensures in
+    all_stay _ _ _ _ _ w
 
-abbrev after5 : (n : FloorNumbers) → Walked
-after5 n = walk_on (after4 n) (word_records 7 n.groups)
+pub returns-in_err-f : goal.returns-in_err-f
+returns-in_err-f c =
+    let w = begin _ _ c.laid_size.ensures c.if-laid_size-gt65536.false _ c.default.ensures in
+    let e : c.from_residual.result ≡ Err c.in_err-f.field-0.0 = search rules in
+    e ∙ read _ _ c.laid_size.ensures c.if-laid_size-gt65536.false _ (all_fault _ _ _ _ _ w _ (sym c.walk_words.ensures ∙ c.in_err-f.was))
 
-module _ (n : FloorNumbers) (h : length (floor_bytes n) ≤ 65536) where
-  up-to1 : UpTo 65536 (after1 n) (length (laid 2 3 n.lanes) + (length (laid 3 2 n.carts) + (length (laid 6 1 n.narrow)
-      + (length (layout (word_records 7 n.groups)) + 0))))
-  up-to1 = on_up_to 65536 (At empty_floor 0) (word_records 1 n.places) _ (omega (arith, length-kinds n))
+pub walk_parts-requires : goal.walk_parts-requires
+walk_parts-requires c =
+    let w = begin _ _ c.laid_size.ensures c.if-laid_size-gt65536.false _ c.default.ensures in
+    let w2 = all_good _ _ _ _ _ w _ _ (sym c.walk_words.ensures ∙ c.in_ok-f.was) in
+    (omega arith, all_stay _ _ _ _ _ w2)
 
-  up-to2 : UpTo 65536 (after2 n) (length (laid 3 2 n.carts) + (length (laid 6 1 n.narrow) + (length (layout (word_records 7 n.groups)) + 0)))
-  up-to2 = on_up_to 65536 (after1 n) (map (of_kind 2) (parts 3 n.lanes)) _ up-to1
+pub returns-in_err-f-2 : goal.returns-in_err-f-2
+returns-in_err-f-2 c =
+    let w = begin _ _ c.laid_size.ensures c.if-laid_size-gt65536.false _ c.default.ensures in
+    let w2 = all_good _ _ _ _ _ w _ _ (sym c.walk_words.ensures ∙ c.in_ok-f.was) in
+    let e : c.from_residual-in_err-f-2.result ≡ Err c.in_err-f-2.field-0.0 = search rules in
+    e ∙ read _ _ c.laid_size.ensures c.if-laid_size-gt65536.false _ (all_fault _ _ _ _ _ w2 _ (sym c.walk_parts.ensures ∙ c.in_err-f-2.was))
 
-  up-to3 : UpTo 65536 (after3 n) (length (laid 6 1 n.narrow) + (length (layout (word_records 7 n.groups)) + 0))
-  up-to3 = on_up_to 65536 (after2 n) (map (of_kind 3) (parts 2 n.carts)) _ up-to2
+pub walk_parts-requires-2 : goal.walk_parts-requires-2
+walk_parts-requires-2 c =
+    let w = begin _ _ c.laid_size.ensures c.if-laid_size-gt65536.false _ c.default.ensures in
+    let w2 = all_good _ _ _ _ _ w _ _ (sym c.walk_words.ensures ∙ c.in_ok-f.was) in
+    let w3 = all_good _ _ _ _ _ w2 _ _ (sym c.walk_parts.ensures ∙ c.in_ok-f-2.was) in
+    (omega arith, all_stay _ _ _ _ _ w3)
 
-  up-to4 : UpTo 65536 (after4 n) (length (layout (word_records 7 n.groups)) + 0)
-  up-to4 = on_up_to 65536 (after3 n) (map (of_kind 6) (parts 1 n.narrow)) _ up-to3
+pub returns-in_err-f-3 : goal.returns-in_err-f-3
+returns-in_err-f-3 c =
+    let w = begin _ _ c.laid_size.ensures c.if-laid_size-gt65536.false _ c.default.ensures in
+    let w2 = all_good _ _ _ _ _ w _ _ (sym c.walk_words.ensures ∙ c.in_ok-f.was) in
+    let w3 = all_good _ _ _ _ _ w2 _ _ (sym c.walk_parts.ensures ∙ c.in_ok-f-2.was) in
+    let e : c.from_residual-in_err-f-3.result ≡ Err c.in_err-f-3.field-0.0 = search rules in
+    e ∙ read _ _ c.laid_size.ensures c.if-laid_size-gt65536.false _ (all_fault _ _ _ _ _ w3 _ (sym c.walk_parts-2.ensures ∙ c.in_err-f-3.was))
 
-  up-to5 : UpTo 65536 (after5 n) 0
-  up-to5 = on_up_to 65536 (after4 n) (word_records 7 n.groups) _ up-to4
+pub walk_parts-requires-3 : goal.walk_parts-requires-3
+walk_parts-requires-3 c =
+    let w = begin _ _ c.laid_size.ensures c.if-laid_size-gt65536.false _ c.default.ensures in
+    let w2 = all_good _ _ _ _ _ w _ _ (sym c.walk_words.ensures ∙ c.in_ok-f.was) in
+    let w3 = all_good _ _ _ _ _ w2 _ _ (sym c.walk_parts.ensures ∙ c.in_ok-f-2.was) in
+    let w4 = all_good _ _ _ _ _ w3 _ _ (sym c.walk_parts-2.ensures ∙ c.in_ok-f-3.was) in
+    (omega arith, all_stay _ _ _ _ _ w4)
 
-pub walk_words-p-requires : goal.walk_words-p-requires
-walk_words-p-requires c = let held : FloorNumbers = let a = c.args in
-    numbers a.places.now a.lanes.now a.carts.now a.narrow.now a.groups.now in
-    let short : length (floor_bytes held) ≤ 65536 = omega (arith, length_floor held) in
-    let n = held in
-    omega (arith, length-kinds n, short)
+pub returns-in_err-f-4 : goal.returns-in_err-f-4
+returns-in_err-f-4 c =
+    let w = begin _ _ c.laid_size.ensures c.if-laid_size-gt65536.false _ c.default.ensures in
+    let w2 = all_good _ _ _ _ _ w _ _ (sym c.walk_words.ensures ∙ c.in_ok-f.was) in
+    let w3 = all_good _ _ _ _ _ w2 _ _ (sym c.walk_parts.ensures ∙ c.in_ok-f-2.was) in
+    let w4 = all_good _ _ _ _ _ w3 _ _ (sym c.walk_parts-2.ensures ∙ c.in_ok-f-3.was) in
+    let e : c.from_residual-in_err-f-4.result ≡ Err c.in_err-f-4.field-0.0 = search rules in
+    e ∙ read _ _ c.laid_size.ensures c.if-laid_size-gt65536.false _ (all_fault _ _ _ _ _ w4 _ (sym c.walk_parts-3.ensures ∙ c.in_err-f-4.was))
 
-pub walk_on-l-requires : goal.walk_on-l-requires
-walk_on-l-requires c = let held : FloorNumbers = let a = c.args in
-    numbers a.places.now a.lanes.now a.carts.now a.narrow.now a.groups.now in
-    let short : length (floor_bytes held) ≤ 65536 = omega (arith, length_floor held) in
-    let n = held in (
-      omega arith,
-      subst (λ (w : Walked). UpTo 65536 w (length (laid 2 3 n.lanes))) (sym c.walk_words-p.ensures)
-          (up_to_less 65536 (after1 n) _ _ (up-to1 n short)),
-    )
+pub walk_words-requires-2 : goal.walk_words-requires-2
+walk_words-requires-2 c =
+    let w = begin _ _ c.laid_size.ensures c.if-laid_size-gt65536.false _ c.default.ensures in
+    let w2 = all_good _ _ _ _ _ w _ _ (sym c.walk_words.ensures ∙ c.in_ok-f.was) in
+    let w3 = all_good _ _ _ _ _ w2 _ _ (sym c.walk_parts.ensures ∙ c.in_ok-f-2.was) in
+    let w4 = all_good _ _ _ _ _ w3 _ _ (sym c.walk_parts-2.ensures ∙ c.in_ok-f-3.was) in
+    let w5 = all_good _ _ _ _ _ w4 _ _ (sym c.walk_parts-3.ensures ∙ c.in_ok-f-4.was) in
+    all_stay _ _ _ _ _ w5
 
-pub walk_on-c-requires : goal.walk_on-c-requires
-walk_on-c-requires c = let held : FloorNumbers = let a = c.args in
-    numbers a.places.now a.lanes.now a.carts.now a.narrow.now a.groups.now in
-    let short : length (floor_bytes held) ≤ 65536 = omega (arith, length_floor held) in
-    let n = held in
-    let e = c.walk_on-l.ensures ∙ ap (λ (w : Walked). walk_on w (map (of_kind 2) (parts 3 n.lanes))) c.walk_words-p.ensures in (
-      omega arith,
-      subst (λ (w : Walked). UpTo 65536 w (length (laid 3 2 n.carts))) (sym e)
-          (up_to_less 65536 (after2 n) _ _ (up-to2 n short)),
-    )
+pub returns-in_err-f-5 : goal.returns-in_err-f-5
+returns-in_err-f-5 c =
+    let w = begin _ _ c.laid_size.ensures c.if-laid_size-gt65536.false _ c.default.ensures in
+    let w2 = all_good _ _ _ _ _ w _ _ (sym c.walk_words.ensures ∙ c.in_ok-f.was) in
+    let w3 = all_good _ _ _ _ _ w2 _ _ (sym c.walk_parts.ensures ∙ c.in_ok-f-2.was) in
+    let w4 = all_good _ _ _ _ _ w3 _ _ (sym c.walk_parts-2.ensures ∙ c.in_ok-f-3.was) in
+    let w5 = all_good _ _ _ _ _ w4 _ _ (sym c.walk_parts-3.ensures ∙ c.in_ok-f-4.was) in
+    let e : c.from_residual-in_err-f-5.result ≡ Err c.in_err-f-5.field-0.0 = search rules in
+    e ∙ read _ _ c.laid_size.ensures c.if-laid_size-gt65536.false _ (all_fault _ _ _ _ _ w5 _ (sym c.walk_words-2.ensures ∙ c.in_err-f-5.was))
 
-pub walk_on-w-requires : goal.walk_on-w-requires
-walk_on-w-requires c = let held : FloorNumbers = let a = c.args in
-    numbers a.places.now a.lanes.now a.carts.now a.narrow.now a.groups.now in
-    let short : length (floor_bytes held) ≤ 65536 = omega (arith, length_floor held) in
-    let n = held in
-    let e = c.walk_on-c.ensures ∙ ap (λ (w : Walked). walk_on w (map (of_kind 3) (parts 2 n.carts)))
-    (c.walk_on-l.ensures ∙ ap (λ (w : Walked). walk_on w (map (of_kind 2) (parts 3 n.lanes))) c.walk_words-p.ensures) in (
-      omega arith,
-      subst (λ (w : Walked). UpTo 65536 w (length (laid 6 1 n.narrow))) (sym e)
-          (up_to_less 65536 (after3 n) _ _ (up-to3 n short)),
-    )
-
-pub words_on-g-requires : goal.words_on-g-requires
-words_on-g-requires c = let held : FloorNumbers = let a = c.args in
-    numbers a.places.now a.lanes.now a.carts.now a.narrow.now a.groups.now in
-    let short : length (floor_bytes held) ≤ 65536 = omega (arith, length_floor held) in
-    let judged-narrow : c.walk_on-w.result ≡ after4 held = let n = held in
-    c.walk_on-w.ensures ∙ ap (λ (w : Walked). walk_on w (map (of_kind 6) (parts 1 n.narrow)))
-    (c.walk_on-c.ensures ∙ ap (λ (w : Walked). walk_on w (map (of_kind 3) (parts 2 n.carts)))
-    (c.walk_on-l.ensures ∙ ap (λ (w : Walked). walk_on w (map (of_kind 2) (parts 3 n.lanes)))
-    c.walk_words-p.ensures)) in
-    let n = held in
-    subst (λ (w : Walked). UpTo 65536 w (length (layout (word_records 7 n.groups)))) (sym judged-narrow)
-    (up_to_less 65536 (after4 n) _ _ (up-to4 n short))
-
-pub answer-requires : goal.answer-requires
-answer-requires c = let held : FloorNumbers = let a = c.args in
-    numbers a.places.now a.lanes.now a.carts.now a.narrow.now a.groups.now in
-    let short : length (floor_bytes held) ≤ 65536 = omega (arith, length_floor held) in
-    let judged-narrow : c.walk_on-w.result ≡ after4 held = let n = held in
-    c.walk_on-w.ensures ∙ ap (λ (w : Walked). walk_on w (map (of_kind 6) (parts 1 n.narrow)))
-    (c.walk_on-c.ensures ∙ ap (λ (w : Walked). walk_on w (map (of_kind 3) (parts 2 n.carts)))
-    (c.walk_on-l.ensures ∙ ap (λ (w : Walked). walk_on w (map (of_kind 2) (parts 3 n.lanes)))
-    c.walk_words-p.ensures)) in
-    let judged-all : c.words_on-g.result ≡ after5 held = let n = held in
-    c.words_on-g.ensures ∙ ap (λ (w : Walked). walk_on w (word_records 7 n.groups)) judged-narrow in
-    let n = held in
-    subst (λ (w : Walked). UpTo 65536 w 0) (sym judged-all) (up-to5 n short)
+pub at_end-requires : goal.at_end-requires
+at_end-requires c =
+    let w = begin _ _ c.laid_size.ensures c.if-laid_size-gt65536.false _ c.default.ensures in
+    let w2 = all_good _ _ _ _ _ w _ _ (sym c.walk_words.ensures ∙ c.in_ok-f.was) in
+    let w3 = all_good _ _ _ _ _ w2 _ _ (sym c.walk_parts.ensures ∙ c.in_ok-f-2.was) in
+    let w4 = all_good _ _ _ _ _ w3 _ _ (sym c.walk_parts-2.ensures ∙ c.in_ok-f-3.was) in
+    let w5 = all_good _ _ _ _ _ w4 _ _ (sym c.walk_parts-3.ensures ∙ c.in_ok-f-4.was) in
+    let w6 = all_good _ _ _ _ _ w5 _ _ (sym c.walk_words-2.ensures ∙ c.in_ok-f-5.was) in
+    omega (arith, w6.short)
 
 pub returns : goal.returns
-returns c = let held : FloorNumbers = let a = c.args in
-    numbers a.places.now a.lanes.now a.carts.now a.narrow.now a.groups.now in
-    let short : length (floor_bytes held) ≤ 65536 = omega (arith, length_floor held) in
-    let judged-narrow : c.walk_on-w.result ≡ after4 held = let n = held in
-    c.walk_on-w.ensures ∙ ap (λ (w : Walked). walk_on w (map (of_kind 6) (parts 1 n.narrow)))
-    (c.walk_on-c.ensures ∙ ap (λ (w : Walked). walk_on w (map (of_kind 3) (parts 2 n.carts)))
-    (c.walk_on-l.ensures ∙ ap (λ (w : Walked). walk_on w (map (of_kind 2) (parts 3 n.lanes)))
-    c.walk_words-p.ensures)) in
-    let judged-all : c.words_on-g.result ≡ after5 held = let n = held in
-    c.words_on-g.ensures ∙ ap (λ (w : Walked). walk_on w (word_records 7 n.groups)) judged-narrow in
-    let n = held in
-    c.answer.ensures ∙ ap (λ (w : Walked). at_end w false) judged-all
-    ∙ sym (read_numbers n short)
+returns c =
+    let w = begin _ _ c.laid_size.ensures c.if-laid_size-gt65536.false _ c.default.ensures in
+    let w2 = all_good _ _ _ _ _ w _ _ (sym c.walk_words.ensures ∙ c.in_ok-f.was) in
+    let w3 = all_good _ _ _ _ _ w2 _ _ (sym c.walk_parts.ensures ∙ c.in_ok-f-2.was) in
+    let w4 = all_good _ _ _ _ _ w3 _ _ (sym c.walk_parts-2.ensures ∙ c.in_ok-f-3.was) in
+    let w5 = all_good _ _ _ _ _ w4 _ _ (sym c.walk_parts-3.ensures ∙ c.in_ok-f-4.was) in
+    let w6 = all_good _ _ _ _ _ w5 _ _ (sym c.walk_words-2.ensures ∙ c.in_ok-f-5.was) in
+    c.at_end.ensures ∙ read _ _ c.laid_size.ensures c.if-laid_size-gt65536.false _ (none_left _ _ _ w6)

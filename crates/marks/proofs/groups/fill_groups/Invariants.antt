@@ -1,4 +1,4 @@
-use Prim.Native.Nat.{ℕ, ◌-◌, ◌≤◌}
+use Prim.Native.Nat.{ℕ}
 use mathlib.Core.Path.{◌≡◌}
 use mathlib.Core.List.{List}
 use Rattle.table.specs.Table.{Stored}
@@ -9,7 +9,4 @@ abbrev pub Each : ℕ → List ℕ → ℕ → ℕ → Type 0
 Each fleet floor o x = x ≡ carts_word fleet floor o
 
 abbrev pub invariant-loop-o : goal.invariant-loop-o
-invariant-loop-o l = (l.o ≤ 9) × Stored (Each l.fleet l.floor) 32 0 l.o l.initial.words l.words
-
-abbrev pub decreases-loop-o : goal.decreases-loop-o
-decreases-loop-o l = 9 - l.o
+invariant-loop-o l = Stored (Each l.fleet l.floor) 32 0 l.o l.initial.words l.words

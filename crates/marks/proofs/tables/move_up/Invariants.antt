@@ -1,10 +1,7 @@
-use Prim.Native.Nat.{◌*◌, ◌-◌, ◌≤◌}
+use Prim.Native.Nat.{◌*◌}
 use Rattle.table.specs.Table.{Stored}
 use Rattle.marks.specs.Tables.{MovedUp}
 use Rattle.marks.proofs.tables.move_up.Given as goal
 
 abbrev pub invariant-loop-s : goal.invariant-loop-s
-invariant-loop-s l = (l.s ≤ l.h) × Stored (MovedUp l.initial.t l.h l.words l.k) (l.k * l.h) 0 l.s l.initial.t l.t
-
-abbrev pub decreases-loop-s : goal.decreases-loop-s
-decreases-loop-s l = l.h - l.s
+invariant-loop-s l = Stored (MovedUp l.initial.t l.h l.words l.k) (l.k * l.h) 0 l.s l.initial.t l.t

@@ -1,24 +1,20 @@
+use Rattle.std.specs.Prelude.{Err}
 use native.Mathlib.Omega.{arith}
 use mathlib.Core.Path.{sym, ap, ◌∙◌}
-use Rattle.plan.specs.Numbers.{plan_bytes}
-use Rattle.plan.specs.Numbers.{judged_numbers}
+use Rattle.plan.specs.Numbers.{plan_bytes, judged_numbers}
 use Rattle.plan.specs.Passed.{in_range}
 use Rattle.plan.specs.RoundTrip.{length_plan}
 use Rattle.plan.specs.Judged.{wide_head, good_head}
-use Rattle.plan.specs.declared.NumbersAnswer.TheVariants.{Refused}
 use Rattle.plan.proofs.Steps.{too_long}
 use Rattle.plan.proofs.writing.judge_numbers.Goals as goal
 
-pub laid_size-requires : goal.laid_size-requires
-laid_size-requires c = c.requires.steps
-
 pub returns-then-laid_size-gt65536 : goal.returns-then-laid_size-gt65536
 returns-then-laid_size-gt65536 c = let a = c.args in
-    ap Refused c.at_offset.ensures ∙ sym (ap judged_numbers (too_long a.f (plan_bytes a.h a.rows.now) (omega arith)))
+    ap Err c.at_offset.ensures ∙ sym (ap judged_numbers (too_long a.f (plan_bytes a.h a.rows.now) (omega arith)))
 
 pub returns-then-out_of_range : goal.returns-then-out_of_range
 returns-then-out_of_range c = let a = c.args in
-    ap Refused c.at_offset-then-out_of_range.ensures
+    ap Err c.at_offset-then-out_of_range.ensures
     ∙ sym
     (ap judged_numbers (wide_head a.f a.h a.rows.now c.requires (omega arith)
     (sym c.out_of_range.ensures ∙ c.if-out_of_range.true)))

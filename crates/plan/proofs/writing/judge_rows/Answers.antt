@@ -1,102 +1,52 @@
-use Prim.Native.Nat.{◌-◌}
-use native.Mathlib.Omega.{arith}
-use mathlib.Core.Path.{refl, ap, ◌∙◌}
-use mathlib.Core.List.{[]}
-use Rattle.record.specs.Laid.{PartAt, part_at, length_step}
-use Rattle.plan.specs.declared.NumbersAnswer.TheVariants.{Refused}
-use Rattle.plan.proofs.JudgingRows.{all_judged, too_few, refused_row, again}
+use Rattle.std.specs.Prelude.{Err}
+use Rattle.std.proofs.Common.{rules, arith, ◌≡◌, ◌+◌, ◌≤◌, length, ap, sym, ◌∙◌}
+use Rattle.std.proofs.lemmas.Result.{err_from_is_err_and}
+use Rattle.refusal.specs.Codes.{at_offset}
+use Rattle.plan.proofs.JudgingRows.{all_judged, too_few, refused_row, fits, again}
+use Rattle.plan.proofs.Wrapped.{kept, refused}
 use Rattle.plan.proofs.writing.judge_rows.Goals as goal
 
-pub loop-i-init : goal.loop-i-init
-loop-i-init c = (refl, record { within = omega arith; done = []; count = refl; few = omega arith; room = c.requires.1; same = refl })
+pub returns-in_err-map_err : goal.returns-in_err-map_err
+returns-in_err-map_err c =
+    let k = c.in-Some.ensures.steps in
+    let v = c.loop-row.invariant in
+    let s = v.size in
+    let e = refused _ c.judge_record.result _ c.map_err.ensures.cases _ c.in_err-map_err.was in
+    let q : c.in_err-map_err.field-0.0 ≡ at_offset e.0 c.loop-row.at = search rules in
+    let p = err_from_is_err_and c.from_residual.result c.from_residual.ensures.1 in
+    rw (p.1, p.2, q)
+    (refused_row _ _ _ _ _ _ v.judging _ _ c.requires.0 k.1.0 (omega (arith, k)) k.1.2 _ (sym e.1 ∙ c.judge_record.ensures))
 
-pub part_end-end-requires : goal.part_end-end-requires
-part_end-end-requires c = tt
-
-pub slice_bounds-row_fault-count : goal.slice_bounds-row_fault-count
-slice_bounds-row_fault-count c = let there : PartAt c.args.h.steps c.args.rows.now c.loop-i.i
-    c.part_end-end.result = part_at c.args.h.steps c.args.rows.now c.loop-i.i
-    c.part_end-end.result c.requires.0 c.loop-i-test.true c.part_end-end.ensures in
-    let p = there in
-    omega arith
-
-pub slice_bounds-row_fault-start : goal.slice_bounds-row_fault-start
-slice_bounds-row_fault-start c = let there : PartAt c.args.h.steps c.args.rows.now c.loop-i.i
-    c.part_end-end.result = part_at c.args.h.steps c.args.rows.now c.loop-i.i
-    c.part_end-end.result c.requires.0 c.loop-i-test.true c.part_end-end.ensures in
-    let p = there in
-    omega arith
-
-pub slice_bounds-row_fault-end : goal.slice_bounds-row_fault-end
-slice_bounds-row_fault-end c = let there : PartAt c.args.h.steps c.args.rows.now c.loop-i.i
-    c.part_end-end.result = part_at c.args.h.steps c.args.rows.now c.loop-i.i
-    c.part_end-end.result c.requires.0 c.loop-i-test.true c.part_end-end.ensures in
-    let p = there in
-    omega arith
+fit : (c : goal.In_ok-map_err) → c.loop-row.at + (4 + length c.in-Some.row.now) ≤ 65536
+fit c =
+    let k = c.in-Some.ensures.steps in
+    let v = c.loop-row.invariant in
+    let s = v.size in
+    fits _ _ _ _ _ _ v.judging _ _ c.requires.0 k.1.0 (omega (arith, k)) k.1.2
 
 pub overflow_cast-at : goal.overflow_cast-at
-overflow_cast-at c = omega (arith, c.loop-i.invariant.1.room)
-
-pub returns-then-fault-ne0 : goal.returns-then-fault-ne0
-returns-then-fault-ne0 c = let there : PartAt c.args.h.steps c.args.rows.now c.loop-i.i
-    c.part_end-end.result = part_at c.args.h.steps c.args.rows.now c.loop-i.i
-    c.part_end-end.result c.requires.0 c.loop-i-test.true c.part_end-end.ensures in
-    let a = c.args in
-    ap Refused c.at_offset.ensures
-    ∙ refused_row a.f a.h a.rows.now _ _ _ c.loop-i.invariant.1 _
-    there _ c.row_fault-fault.ensures c.if-fault-ne0.true
-
-pub overflow_add-n : goal.overflow_add-n
-overflow_add-n c = let w = c.loop-i.invariant.1 in
-    omega arith
+overflow_cast-at c = omega (arith, fit c)
 
 pub overflow_add-at : goal.overflow_add-at
-overflow_add-at c = let w = c.loop-i.invariant.1 in
-    omega arith
+overflow_add-at c = omega (arith, fit c)
 
-pub overflow_sub-at : goal.overflow_sub-at
-overflow_sub-at c = let there : PartAt c.args.h.steps c.args.rows.now c.loop-i.i
-    c.part_end-end.result = part_at c.args.h.steps c.args.rows.now c.loop-i.i
-    c.part_end-end.result c.requires.0 c.loop-i-test.true c.part_end-end.ensures in
-    let p = there in
-    omega arith
+pub overflow_add-at-in-loop-row : goal.overflow_add-at-in-loop-row
+overflow_add-at-in-loop-row c = omega (arith, fit c)
 
-pub overflow_add-at-in-loop-i : goal.overflow_add-at-in-loop-i
-overflow_add-at-in-loop-i c = let there : PartAt c.args.h.steps c.args.rows.now c.loop-i.i
-    c.part_end-end.result = part_at c.args.h.steps c.args.rows.now c.loop-i.i
-    c.part_end-end.result c.requires.0 c.loop-i-test.true c.part_end-end.ensures in
-    let a = c.args in
-    let p = there in
-    let w = c.loop-i.invariant.1 in
-    omega (arith, length_step 5 a.h.steps a.rows.now _ _ p)
-
-pub loop-i-smaller : goal.loop-i-smaller
-loop-i-smaller c = let there : PartAt c.args.h.steps c.args.rows.now c.loop-i.i
-    c.part_end-end.result = part_at c.args.h.steps c.args.rows.now c.loop-i.i
-    c.part_end-end.result c.requires.0 c.loop-i-test.true c.part_end-end.ensures in
-    let p = there in
-    omega arith
-
-pub loop-i-preserved : goal.loop-i-preserved
-loop-i-preserved c = let there : PartAt c.args.h.steps c.args.rows.now c.loop-i.i
-    c.part_end-end.result = part_at c.args.h.steps c.args.rows.now c.loop-i.i
-    c.part_end-end.result c.requires.0 c.loop-i-test.true c.part_end-end.ensures in
-    let a = c.args in (
-      c.loop-i.invariant.0,
-      again a.f a.h a.rows.now _ _ _
-          c.loop-i.invariant.1 _ there _ c.row_fault-fault.ensures
-          c.if-fault-ne0.false,
-    )
-
-pub overflow_cast-at-then-n-f : goal.overflow_cast-at-then-n-f
-overflow_cast-at-then-n-f c = omega (arith, c.loop-i.invariant.1.room)
+pub loop-row-preserved : goal.loop-row-preserved
+loop-row-preserved c =
+    let k = c.in-Some.ensures.steps in
+    let v = c.loop-row.invariant in
+    let s = v.size in
+    let e = kept _ c.judge_record.result _ c.map_err.ensures.cases _ c.in_ok-map_err.was in
+    record {
+      size = k.0 ∙ s;
+      judging = again _ _ _ _ _ _ v.judging _ _ c.requires.0 k.1.0 (omega (arith, k)) k.1.2 (sym e ∙ c.judge_record.ensures);
+    }
 
 pub returns-then-n-f : goal.returns-then-n-f
-returns-then-n-f c = let a = c.args in
-    ap Refused c.at_offset-then-n-f.ensures
-    ∙ too_few a.f a.h a.rows.now _ _ _ c.loop-i.invariant.1 c.loop-i-test.false
-    c.if-n-f.true
+returns-then-n-f c =
+    ap Err c.at_offset.ensures ∙ too_few _ _ _ _ _ _ c.loop-row.invariant.judging c.in-None.ensures.steps.1.0 c.if-n-f.true
 
 pub returns : goal.returns
-returns c = let a = c.args in
-    all_judged a.f a.h a.rows.now _ _ _ c.loop-i.invariant.1 c.loop-i-test.false c.if-n-f.false
+returns c = all_judged _ _ _ _ _ _ c.loop-row.invariant.judging c.in-None.ensures.steps.1.0 c.if-n-f.false

@@ -1,49 +1,64 @@
-use Prim.Native.Nat.{◌+◌, ◌-◌, ◌/◌, ◌≤◌}
-use native.Mathlib.Nat.{div-le_self}
+use Rattle.std.specs.Int.{div_ceil}
+use Rattle.std.proofs.Common.{refl, ap, leb-true, leb-false, eqb-true}
+use Rattle.std.proofs.lemmas.Bool.{eqb-false}
+use Rattle.std.proofs.lemmas.Grind.{div_ceil_times}
+use Prim.Native.Nat.{ℕ, ◌+◌, ◌-◌, ◌*◌, ◌≤◌, ◌<◌, min}
+use native.Mathlib.Nat.{div-le_self, div-eq_of_lt-le, suc-mul}
 use native.Mathlib.Omega.{arith}
+use mathlib.Core.Bool.{Bool, true, false}
+use mathlib.Core.List.{List}
+use mathlib.Core.Path.{◌≡◌}
+use lib.Dec.{eqb, leb}
 use lib.ListN.{length}
+use Rattle.record.specs.Parts.{part_count}
 use Rattle.plan.specs.Judged.{length_empty, length_zero, length_some, length_over}
+use Rattle.plan.specs.Numbers.{plan_bytes}
+use Rattle.plan.specs.declared.Head.{Head}
 use Rattle.plan.proofs.writing.laid_size.Goals as goal
+use Rattle.plan.proofs.writing.laid_size.Goals.{then-h-eq0, else-h-eq0}
 
-pub returns-then-len-eq0 : goal.returns-then-len-eq0
-returns-then-len-eq0 c = omega (arith, length_empty c.args.h c.args.rows.now c.if-len-eq0.true)
+-- how many parts bytes make is a division rounded up
+rounded_up : (n size : ℕ) → 0 < size → part_count size n ≡ div_ceil n size
+rounded_up n size p =
+    let b = div_ceil_times n size p in
+    let m = suc-mul (div_ceil n size) size in
+    div-eq_of_lt-le {k = div_ceil n size} size {m = n + (size - 1)} (omega (arith, b)) (omega (arith, b, m))
 
-pub returns-then-len-gt65536 : goal.returns-then-len-gt65536
-returns-then-len-gt65536 c = omega (arith, length_over c.args.h c.args.rows.now)
+few : (n size : ℕ) → div_ceil n size ≤ n + 1
+few n size = omega (arith, div-le_self n size)
 
-pub returns-then-steps-eq0 : goal.returns-then-steps-eq0
-returns-then-steps-eq0 c = omega (
-  arith,
-  length_zero c.args.h c.args.rows.now
-      c.if-steps-eq0.true (omega arith),
-)
+module _ (h : Head) (rows : List ℕ) (len : ℕ) (e : len ≡ min (length rows) 65537) where
+  one_record : h.steps ≡ 0 → min (10 + len + min len 1 * 4) 65537 ≡ min 65537 (length (plan_bytes h rows))
+  one_record z = go (eqb (length rows) 0) refl
+    where
+      go : (b : Bool) → eqb (length rows) 0 ≡ b → min (10 + len + min len 1 * 4) 65537 ≡ min 65537 (length (plan_bytes h rows))
+      go true q = let n : length rows ≡ 0 = eqb-true _ _ q in omega (arith, length_empty h rows n)
+      go false q =
+          let n : (length rows ≡ 0 → ⊥) = eqb-false _ _ q in
+          omega (arith, length_zero h rows z (omega arith))
 
-pub overflow_sub-steps : goal.overflow_sub-steps
-overflow_sub-steps c = omega arith
+  whole_records : 0 < h.steps → min (10 + len + div_ceil len h.steps * 4) 65537 ≡ min 65537 (length (plan_bytes h rows))
+  whole_records p = go (leb (length rows) 65536) refl
+    where
+      go : (b : Bool) → leb (length rows) 65536 ≡ b → min (10 + len + div_ceil len h.steps * 4) 65537 ≡ min 65537 (length (plan_bytes h rows))
+      go true q =
+          let l : length rows ≤ 65536 = leb-true _ _ q in
+          let n : len ≡ length rows = omega arith in
+          let r : part_count h.steps (length rows) ≡ div_ceil (length rows) h.steps = rounded_up (length rows) h.steps p in
+          let d : div_ceil len h.steps ≡ div_ceil (length rows) h.steps = ap (λ (k : ℕ). div_ceil k h.steps) n in
+          omega (arith, length_some h rows p)
+      go false q = let l : 65536 < length rows = leb-false _ _ q in omega (arith, length_over h rows)
+
+pub overflow_mul-records : goal.overflow_mul-records
+overflow_mul-records c =
+    elim c.if-h-eq0.branch [ then-h-eq0 w ↦ omega arith | else-h-eq0 w ↦ omega (arith, few c.min-len.result c.args.h.steps) ]
 
 pub overflow_add-len-2 : goal.overflow_add-len-2
-overflow_add-len-2 c = omega (arith, c.requires)
-
-pub nonzero_div-len : goal.nonzero_div-len
-nonzero_div-len c = omega arith
-
-pub overflow_mul-len : goal.overflow_mul-len
-overflow_mul-len c = let few : (length c.args.rows.now +
-    (c.args.h.steps - 1)) / c.args.h.steps ≤ length
-    c.args.rows.now + (c.args.h.steps - 1) = div-le_self _ _ in
-    omega (arith, c.requires, few)
-
-pub overflow_add-len-3 : goal.overflow_add-len-3
-overflow_add-len-3 c = let few : (length c.args.rows.now +
-    (c.args.h.steps - 1)) / c.args.h.steps ≤ length
-    c.args.rows.now + (c.args.h.steps - 1) = div-le_self _ _ in
-    omega (arith, c.requires, few)
-
-pub overflow_add-len-4 : goal.overflow_add-len-4
-overflow_add-len-4 c = let few : (length c.args.rows.now +
-    (c.args.h.steps - 1)) / c.args.h.steps ≤ length
-    c.args.rows.now + (c.args.h.steps - 1) = div-le_self _ _ in
-    omega (arith, c.requires, few)
+overflow_add-len-2 c =
+    elim c.if-h-eq0.branch [ then-h-eq0 w ↦ omega arith | else-h-eq0 w ↦ omega (arith, few c.min-len.result c.args.h.steps) ]
 
 pub returns : goal.returns
-returns c = omega (arith, length_some c.args.h c.args.rows.now (omega arith))
+returns c = elim c.if-h-eq0.branch [
+  | then-h-eq0 w ↦ let r = one_record c.args.h c.args.rows.now _ c.min-len.ensures w.if-h-eq0.true in omega arith
+  | else-h-eq0 w ↦ let r = whole_records c.args.h c.args.rows.now _ c.min-len.ensures (omega arith) in omega arith
+]

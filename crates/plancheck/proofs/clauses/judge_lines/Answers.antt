@@ -1,6 +1,5 @@
-use Prim.Native.Nat.{ℕ, suc, ◌-◌, ◌^◌}
-use mathlib.Core.Path.{◌≡◌, refl, sym, ap, ap₂, subst, ◌∙◌}
-use native.Mathlib.Nat.{le_refl}
+use Rattle.std.proofs.Common.{◌≡◌, ℕ, suc, ◌-◌, ◌^◌, List, refl, sym, add-one, ap, ap₂, subst, ◌∙◌, le_refl, arith}
+use Rattle.refusal.specs.Results.{checked}
 use Rattle.refusal.specs.Stages.{and_then}
 use Rattle.refusal.specs.declared.Verdict.{Verdict}
 use Rattle.refusal.specs.declared.Verdict.TheVariants.{Rules as AboutRules}
@@ -11,257 +10,127 @@ use Rattle.table.specs.Table.{Stored}
 use Rattle.table.specs.Keeping.{kept_shown}
 use Rattle.marks.specs.Groups.{carts_word}
 use Rattle.drift.specs.Answer.{rows_on}
-use Rattle.drift.specs.Ground.{InRange}
 use Rattle.drift.specs.Lacking.{first_lacked}
 use Rattle.drift.specs.Lacked.{fewer_nodes}
 use Rattle.drift.specs.Tallying.{no_tallies}
 use Rattle.drift.specs.Lending.{still_lent}
-use Rattle.drift.specs.Placing.{six_end}
-use Rattle.plancheck.proofs.Lines.{accepted_short}
-use Rattle.plancheck.proofs.LineHeld.{Ready, ready}
 use Rattle.plancheck.specs.Check.{clause_verdict}
 use Rattle.plancheck.specs.Marked.{placed, unborne, shown, bits_kept, fleet_word, few_words, rows_are}
+use Rattle.plancheck.specs.Readable.{rows_read}
 use Rattle.plancheck.specs.Turns.{next_of}
-use Rattle.plancheck.proofs.Turns.{going_start, going_end, going_21, going_on, none_lacked, some_lacked}
-use native.Mathlib.Omega.{arith}
-use Rattle.plancheck.proofs.clauses.judge_lines.Invariants.{rows}
+use Rattle.plancheck.proofs.Lines.{accepted_short, line_reads}
+use Rattle.plancheck.proofs.LineHeld.{ready}
+use Rattle.plancheck.proofs.Turns.{going_start, going_end, going_21, going_on, checked_and, none_lacked, some_lacked}
 use Rattle.plancheck.proofs.clauses.judge_lines.Goals as goal
 
-pub fill-requires : goal.fill-requires
-fill-requires c = let s = c in
-    let a = s.args in
-    let w = s.requires.accepted_floor in
-    let r = s.requires.head_in_range.0 in
-    let b = s.requires.borne in record { block_len = s.requires.head_in_range.1; carts_bound = (w.valid.few_carts, r.steps, b.0.few); h_in_bounds = omega (arith, b.1, six_end a.marks a.h.steps 0 (omega arith)); placed = placed a.floor.now a.f w a.h a.block.now s.requires.by_index; none_from = unborne a.floor.now a.f w a.h a.block.now s.requires.by_index a.marks b.0 }
+-- the words of the groups, with the fleet's
+fleet_stored : (floor : List ℕ) (carts fleet : ℕ) (before after : List ℕ) → fleet ≡ 2 ^ carts - 1
+    → Stored (λ o x. x ≡ carts_word fleet floor o) 32 0 9 before after → Stored (λ o x. x ≡ carts_word (2 ^ carts - 1) floor o) 32 0 9 before after
+fleet_stored floor carts fleet before after e w = subst (λ (z : ℕ). Stored (λ o x. x ≡ carts_word z floor o) 32 0 9 before after) e w
 
-pub lowest-requires : goal.lowest-requires
-lowest-requires c = let s = c in s.requires.accepted_floor.valid.few_carts
+pub fill-requires-clause-placed : goal.fill-requires-clause-placed
+fill-requires-clause-placed c = let w = c.requires.readable in
+    placed _ _ w.accepted_floor c.args.r.now.plan.head _ w.on_floor
 
-pub fill_groups-requires : goal.fill_groups-requires
-fill_groups-requires c = let s = c in record { accepted_floor = s.requires.accepted_floor; words_len = c.fill_bits.ensures.size }
+pub fill-requires-clause-none_from : goal.fill-requires-clause-none_from
+fill-requires-clause-none_from c = let w = c.requires.readable in
+    unborne _ _ w.accepted_floor c.args.r.now.plan.head _ w.on_floor _ c.requires.borne.0
 
 pub loop-at-init : goal.loop-at-init
-loop-at-init c = let words : let a = c.args in
-    Stored (λ o x. x ≡ carts_word (2 ^ a.f.carts - 1) a.floor.now o) 32 0 9 c.fill_bits.new.bits c.fill_groups.new.words = let a = c.args in
-    subst (λ (z : ℕ). Stored (λ o x. x ≡ carts_word z a.floor.now o) 32 0 9 c.fill_bits.new.bits c.fill_groups.new.words)
-    c.lowest.ensures c.fill_groups.ensures in
-    let filled = c.fill.ensures in
-    let s = c in
-    let a = s.args in
-    let w = s.requires.accepted_floor in
-    let r = s.requires.head_in_range.0 in
-    let b = s.requires.borne in
+loop-at-init c = let a = c.args in
+    let w = c.requires.readable in
+    let e = c.ground_of-g.ensures in
     let bits = c.fill_bits.ensures in
-    let range : InRange (record { carts = a.f.carts; h = a.h.steps; l = a.h.stem; d = a.h.drift; marks = a.marks }) =
-    record { some = w.valid.some_cart; few = w.valid.few_carts; lap = r.stem; steps = r.steps; drift = r.drift; marks = b.0.few } in (
-      refl,
-      refl,
-      shown a.floor.now a.f w a.h a.block.now s.requires.by_index a.marks _ _ filled,
-      going_start _ a.h.drift a.f.groups a.rules.now s.requires.rules_value,
-      record {
-        range = range;
-        constants = filled.constants;
-        pairs = omega (arith, b.1, filled.kept);
-        windows = refl;
-        bits = bits_kept a.floor.now a.f w _ _ bits.size words bits;
-        fleet = fleet_word a.floor.now a.f w _ _ bits.size words;
-        groups = few_words a.floor.now a.f w _ _ bits.size words;
-      },
-      no_tallies _ range _,
-    )
+    let words = fleet_stored _ a.r.now.floor.carts _ _ _ c.lowest.ensures c.fill_groups.ensures in
+    record {
+      nodes = refl;
+      shown = shown _ _ w.accepted_floor a.r.now.plan.head _ w.on_floor a.marks _ _ c.fill.ensures;
+      going = going_start _ a.r.now.plan.head.drift a.r.now.floor.groups a.rules.now c.requires.rules_value;
+      lent = record {
+        constants = rw (e.4, e.1) c.fill.ensures.constants;
+        pairs = rw (e.4, e.1) (omega (arith, c.requires.borne.1, c.fill.ensures.kept));
+        bits = bits_kept _ _ w.accepted_floor _ _ bits.size words bits;
+        fleet = rw e.0 (fleet_word _ _ w.accepted_floor _ _ bits.size words);
+        groups = rw e.0 (few_words _ _ w.accepted_floor _ _ bits.size words);
+      };
+      tallies = no_tallies _ _;
+    }
 
-pub read_clause-r-requires : goal.read_clause-r-requires
-read_clause-r-requires c = let s = c in
-    (omega arith, accepted_short s.args.rules.now s.requires.rules_value, c.loop-at.invariant.0)
+pub read_clause-requires : goal.read_clause-requires
+read_clause-requires c = (omega (arith, c.loop-at-test.true), accepted_short _ c.requires.rules_value)
+
+pub unwrap-part-requires : goal.unwrap-part-requires
+unwrap-part-requires c = let v = c.loop-at in
+    line_reads _ v.at v.n c.loop-at-test.true _ v.invariant.going.left v.nodes c.read_clause.new.nodes _ c.read_clause.ensures
 
 pub overflow_sub-last : goal.overflow_sub-last
-overflow_sub-last c = let line_read : let v = c.loop-at in
-    let read = c.read_clause-r in
-    Ready c.args.rules.now v.nodes
-    read.result read.new.nodes v.n v.invariant.3.rest = let v = c.loop-at in
+overflow_sub-last c = let v = c.loop-at in
+    let w = ready v.invariant.going.left c.loop-at-test.true c.unwrap-part.ensures v.nodes c.read_clause.new.nodes c.read_clause.ensures v.invariant.nodes in
+    omega (arith, w.judge.some)
+
+pub lacking_group-requires : goal.lacking_group-requires
+lacking_group-requires c = let v = c.loop-at in
+    let w = ready v.invariant.going.left c.loop-at-test.true c.unwrap-part.ensures v.nodes c.read_clause.new.nodes c.read_clause.ensures v.invariant.nodes in
+    fewer_nodes _ _ _ (omega (arith, w.judge.some)) w.judge.ordered
+
+pub returns-in-Some : goal.returns-in-Some
+returns-in-Some c = let v = c.loop-at in
+    let w = ready v.invariant.going.left c.loop-at-test.true c.unwrap-part.ensures v.nodes c.read_clause.new.nodes c.read_clause.ensures v.invariant.nodes in
     let a = c.args in
-    ready a.rules.now v.nodes _ _ v.at v.n c.loop-at-test.true c.read_clause-r.ensures v.invariant.3.rest v.invariant.3.left
-    v.invariant.0 in
-    omega (arith, line_read.judge.some)
-
-pub slice_bounds-lacking_group-end : goal.slice_bounds-lacking_group-end
-slice_bounds-lacking_group-end c = let line_read : let v = c.loop-at in
-    let read = c.read_clause-r in
-    Ready c.args.rules.now v.nodes
-    read.result read.new.nodes v.n v.invariant.3.rest = let v = c.loop-at in
-    let a = c.args in
-    ready a.rules.now v.nodes _ _ v.at v.n c.loop-at-test.true c.read_clause-r.ensures v.invariant.3.rest v.invariant.3.left
-    v.invariant.0 in
-    sym line_read.judge.size
-
-pub lacking_group-lacking-requires : goal.lacking_group-lacking-requires
-lacking_group-lacking-requires c = let line_read : let v = c.loop-at in
-    let read = c.read_clause-r in
-    Ready c.args.rules.now v.nodes
-    read.result read.new.nodes v.n v.invariant.3.rest = let v = c.loop-at in
-    let a = c.args in
-    ready a.rules.now v.nodes _ _ v.at v.n c.loop-at-test.true c.read_clause-r.ensures v.invariant.3.rest v.invariant.3.left
-    v.invariant.0 in
-    let j = line_read.judge in fewer_nodes _ _ _ (omega (arith, j.some)) j.ordered
-
-pub overflow_sub-lacking : goal.overflow_sub-lacking
-overflow_sub-lacking c = omega (arith, c.if-lacking-gt0.true)
-
-pub overflow_cast-lacking : goal.overflow_cast-lacking
-overflow_cast-lacking c = omega (arith, c.lacking_group-lacking.ensures.1)
-
-pub refuse-requires : goal.refuse-requires
-refuse-requires c = tt
-
-pub shape_of-t-then-lacking-gt0 : goal.shape_of-t-then-lacking-gt0
-shape_of-t-then-lacking-gt0 c = let begun = c in begun.loop-at.invariant.1 ∙ begun.fill.ensures.kept
-
-pub returns-then-lacking-gt0 : goal.returns-then-lacking-gt0
-returns-then-lacking-gt0 c = let line_read : let v = c.loop-at in
-    let read = c.read_clause-r in
-    Ready c.args.rules.now v.nodes
-    read.result read.new.nodes v.n v.invariant.3.rest = let v = c.loop-at in
-    let a = c.args in
-    ready a.rules.now v.nodes _ _ v.at v.n c.loop-at-test.true c.read_clause-r.ensures v.invariant.3.rest v.invariant.3.left
-    v.invariant.0 in
-    let lacking : let read = c in
-    let a = read.args in
-    first_lacked a.f.groups (groups line_read.line.clause) ≡ c.lacking_group-lacking.result = let read = c in
-    let a = read.args in
-    ap (first_lacked a.f.groups) (sym line_read.judge.named) ∙ sym c.lacking_group-lacking.ensures.0 in
-    let named = c in
-    let read = named in
-    let v = read.loop-at in
-    let a = read.args in
-    let w = line_read in
-    let x : ℕ = named.lacking_group-lacking.result - 1 in
-    let e : first_lacked a.f.groups (groups w.line.clause) ≡ suc x = omega (arith, lacking, c.if-lacking-gt0.true) in
+    let x = c.in-Some.g in
+    let e : first_lacked a.r.now.floor.groups (groups w.line.clause) ≡ suc x =
+    ap (first_lacked a.r.now.floor.groups) (sym w.judge.named) ∙ c.in-Some.ensures.0 ∙ add-one x in
     ap AboutRules c.refuse.ensures
-    ∙ going_21 _ a.h.drift a.f.groups a.rules.now v.nodes _ _ v.at v.n v.next v.found v.invariant.3 w.line x
-    (some_lacked a.f.groups v.n x (groups w.line.clause) e)
-
-pub slice_bounds-first_next-end : goal.slice_bounds-first_next-end
-slice_bounds-first_next-end c = let line_read : let v = c.loop-at in
-    let read = c.read_clause-r in
-    Ready c.args.rules.now v.nodes
-    read.result read.new.nodes v.n v.invariant.3.rest = let v = c.loop-at in
-    let a = c.args in
-    ready a.rules.now v.nodes _ _ v.at v.n c.loop-at-test.true c.read_clause-r.ensures v.invariant.3.rest v.invariant.3.left
-    v.invariant.0 in
-    sym line_read.judge.size
+    ∙ going_21 _ a.r.now.plan.head.drift a.r.now.floor.groups a.rules.now v.nodes _ _ v.at v.n _ _ v.invariant.going w.line x
+    (some_lacked a.r.now.floor.groups v.n x (groups w.line.clause) e)
 
 pub first_next-next-requires : goal.first_next-next-requires
-first_next-next-requires c = let line_read : let v = c.loop-at in
-    let read = c.read_clause-r in
-    Ready c.args.rules.now v.nodes
-    read.result read.new.nodes v.n v.invariant.3.rest = let v = c.loop-at in
-    let a = c.args in
-    ready a.rules.now v.nodes _ _ v.at v.n c.loop-at-test.true c.read_clause-r.ensures v.invariant.3.rest v.invariant.3.left
-    v.invariant.0 in
-    line_read.judge.ordered
+first_next-next-requires c = let v = c.loop-at in
+    let w = ready v.invariant.going.left c.loop-at-test.true c.unwrap-part.ensures v.nodes c.read_clause.new.nodes c.read_clause.ensures v.invariant.nodes in
+    w.judge.ordered
 
-pub first_of-before-requires : goal.first_of-before-requires
-first_of-before-requires c = tt
-
-pub slice_bounds-first_found-end : goal.slice_bounds-first_found-end
-slice_bounds-first_found-end c = let line_read : let v = c.loop-at in
-    let read = c.read_clause-r in
-    Ready c.args.rules.now v.nodes
-    read.result read.new.nodes v.n v.invariant.3.rest = let v = c.loop-at in
-    let a = c.args in
-    ready a.rules.now v.nodes _ _ v.at v.n c.loop-at-test.true c.read_clause-r.ensures v.invariant.3.rest v.invariant.3.left
-    v.invariant.0 in
-    sym line_read.judge.size
-
-pub first_found-found-requires : goal.first_found-found-requires
-first_found-found-requires c = let line_read : let v = c.loop-at in
-    let read = c.read_clause-r in
-    Ready c.args.rules.now v.nodes
-    read.result read.new.nodes v.n v.invariant.3.rest = let v = c.loop-at in
-    let a = c.args in
-    ready a.rules.now v.nodes _ _ v.at v.n c.loop-at-test.true c.read_clause-r.ensures v.invariant.3.rest v.invariant.3.left
-    v.invariant.0 in
-    let read = c in
-    let v = read.loop-at in
-    let j = line_read.judge in record { lent = v.invariant.4; ordered = (j.ordered, omega (arith, j.ordered.room, j.size, j.some), j.small); tallies = v.invariant.5 }
-
-pub overflow_add-n : goal.overflow_add-n
-overflow_add-n c = let line_read : let v = c.loop-at in
-    let read = c.read_clause-r in
-    Ready c.args.rules.now v.nodes
-    read.result read.new.nodes v.n v.invariant.3.rest = let v = c.loop-at in
-    let a = c.args in
-    ready a.rules.now v.nodes _ _ v.at v.n c.loop-at-test.true c.read_clause-r.ensures v.invariant.3.rest v.invariant.3.left
-    v.invariant.0 in
-    let w = line_read in omega (arith, w.line.more)
+pub first_found-found-requires-clause-ordered : goal.first_found-found-requires-clause-ordered
+first_found-found-requires-clause-ordered c = let v = c.loop-at in
+    let w = ready v.invariant.going.left c.loop-at-test.true c.unwrap-part.ensures v.nodes c.read_clause.new.nodes c.read_clause.ensures v.invariant.nodes in
+    let j = w.judge in (j.ordered, omega (arith, j.ordered.room, j.size, j.some), j.small)
 
 pub loop-at-smaller : goal.loop-at-smaller
-loop-at-smaller c = let line_read : let v = c.loop-at in
-    let read = c.read_clause-r in
-    Ready c.args.rules.now v.nodes
-    read.result read.new.nodes v.n v.invariant.3.rest = let v = c.loop-at in
-    let a = c.args in
-    ready a.rules.now v.nodes _ _ v.at v.n c.loop-at-test.true c.read_clause-r.ensures v.invariant.3.rest v.invariant.3.left
-    v.invariant.0 in
-    let w = line_read in omega (arith, w.line.more)
+loop-at-smaller c = let v = c.loop-at in
+    let w = ready v.invariant.going.left c.loop-at-test.true c.unwrap-part.ensures v.nodes c.read_clause.new.nodes c.read_clause.ensures v.invariant.nodes in
+    omega (arith, w.line.more)
 
 pub loop-at-preserved : goal.loop-at-preserved
-loop-at-preserved c = let line_read : let v = c.loop-at in
-    let read = c.read_clause-r in
-    Ready c.args.rules.now v.nodes
-    read.result read.new.nodes v.n v.invariant.3.rest = let v = c.loop-at in
+loop-at-preserved c = let v = c.loop-at in
+    let w = ready v.invariant.going.left c.loop-at-test.true c.unwrap-part.ensures v.nodes c.read_clause.new.nodes c.read_clause.ensures v.invariant.nodes in
     let a = c.args in
-    ready a.rules.now v.nodes _ _ v.at v.n c.loop-at-test.true c.read_clause-r.ensures v.invariant.3.rest v.invariant.3.left
-    v.invariant.0 in
-    let words : let a = c.args in
-    Stored (λ o x. x ≡ carts_word (2 ^ a.f.carts - 1) a.floor.now o) 32 0 9 c.fill_bits.new.bits c.fill_groups.new.words = let a = c.args in
-    subst (λ (z : ℕ). Stored (λ o x. x ≡ carts_word z a.floor.now o) 32 0 9 c.fill_bits.new.bits c.fill_groups.new.words)
-    c.lowest.ensures c.fill_groups.ensures in
-    let same_rows : let a = c.args in
-    rows_on a.f.carts a.h.steps a.h.stem (rows a.floor.now a.f a.h a.block.now).bears c.fill_groups.new.words
-    ≡ rows a.floor.now a.f a.h a.block.now = let s = c in
-    let a = s.args in
-    rows_are a.floor.now a.f s.requires.accepted_floor _ _ c.fill_bits.ensures.size words a.h a.block.now in
-    let lacking : let read = c in
-    let a = read.args in
-    first_lacked a.f.groups (groups line_read.line.clause) ≡ c.lacking_group-lacking.result = let read = c in
-    let a = read.args in
-    ap (first_lacked a.f.groups) (sym line_read.judge.named) ∙ sym c.lacking_group-lacking.ensures.0 in
-    let found = c.first_found-found in
-    let first = c.first_of-before in
-    let next = c.first_next-next in
-    let tested = c in
-    let named = tested in
-    let read = named in
-    let v = read.loop-at in
-    let a = read.args in
-    let w = line_read in
-    let d = a.h.drift in
-    let P : Rows = rows a.floor.now a.f a.h a.block.now in
+    let many = a.r.now.floor.groups in
+    let d = a.r.now.plan.head.drift in
+    let P : Rows = rows_read a.floor.now a.r.now in
+    let words = fleet_stored _ a.r.now.floor.carts _ _ _ c.lowest.ensures c.fill_groups.ensures in
+    let same_rows : rows_on a.r.now.floor.carts a.r.now.plan.head.steps a.r.now.plan.head.stem P.bears c.fill_groups.new.words ≡ P =
+    rows_are a.floor.now a.r.now.floor c.requires.readable.accepted_floor _ _ c.fill_bits.ensures.size words a.r.now.plan.head a.r.now.plan.block in
     let tree = w.judge.tree _ (le_refl _) in
+    let next = c.first_next-next in
+    let found = c.first_found-found in
     let f = found.ensures in
-    let e : first_lacked a.f.groups (groups w.line.clause) ≡ 0 = omega (arith, lacking, tested.if-lacking-gt0.false) in (
-      w.judge.size,
-      f.kept.0.size ∙ v.invariant.1,
-      kept_shown a.marks a.h.steps v.t _ f.kept.0 a.f.carts _ v.invariant.2,
-      going_on P d a.f.groups a.rules.now v.nodes _ _ v.at v.n v.next v.found v.invariant.3 w.line
-          (none_lacked a.f.groups v.n (groups w.line.clause) e) next.result found.result
-          (next.ensures _ (le_refl _) ∙ ap (λ (x : Clause). and_then v.next (next_of d v.n x)) tree)
-          (f.by_index _ v.invariant.2 _ (le_refl _)
-          ∙ ap₂ (λ (Q : Rows) (x : Clause). and_then first.result (clause_verdict Q d v.n x)) same_rows tree
-          ∙ ap (λ (y : Verdict). and_then y (clause_verdict P d v.n w.line.clause)) first.ensures),
-      still_lent _ v.t v.w _ _ _ v.invariant.4 f.kept.0 f.kept.1,
-      f.kept.2,
-    )
-
-pub first_of-requires : goal.first_of-requires
-first_of-requires c = tt
-
-pub shape_of-t : goal.shape_of-t
-shape_of-t c = c.loop-at.invariant.1 ∙ c.fill.ensures.kept
+    let g = c.ground_of-g.ensures in
+    let by_index = rw (g.4, g.0, g.1, g.2, g.3) at f.by_index in
+    let e : first_lacked many (groups w.line.clause) ≡ 0 = ap (first_lacked many) (sym w.judge.named) ∙ c.in_default.ensures in
+    record {
+      nodes = w.judge.size;
+      shown = kept_shown a.marks a.r.now.plan.head.steps v.t _ (rw (g.4, g.1) at f.kept.0) a.r.now.floor.carts _ v.invariant.shown;
+      going = going_on P d many a.rules.now v.nodes _ _ v.at v.n (checked v.next) (checked v.found) v.invariant.going w.line
+          (none_lacked many v.n (groups w.line.clause) e) (checked next.result) (checked found.result)
+          (next.ensures _ (le_refl _) ∙ ap (λ (x : Clause). and_then (checked v.next) (next_of d v.n x)) tree)
+          (by_index _ v.invariant.shown _ (le_refl _)
+          ∙ ap₂ (λ (Q : Rows) (x : Clause). and_then (checked c.and.result) (clause_verdict Q d v.n x)) same_rows tree
+          ∙ ap (λ (y : Verdict). and_then y (clause_verdict P d v.n w.line.clause)) (ap checked c.and.ensures ∙ checked_and next.result v.found));
+      lent = still_lent _ v.t _ _ v.invariant.lent f.kept.0;
+      tallies = f.kept.1;
+    }
 
 pub returns : goal.returns
 returns c = let a = c.args in
     let v = c.loop-at in
-    c.first_of.ensures
-    ∙ going_end _ a.h.drift a.f.groups a.rules.now v.at v.n v.next v.found v.invariant.3 (omega (arith, c.loop-at-test.false))
+    ap checked c.and-2.ensures ∙ checked_and v.next v.found
+    ∙ going_end _ a.r.now.plan.head.drift a.r.now.floor.groups a.rules.now v.at v.n _ _ v.invariant.going (omega (arith, c.loop-at-test.false))

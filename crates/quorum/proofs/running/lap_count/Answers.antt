@@ -6,15 +6,14 @@ use native.Mathlib.Omega.{arith}
 use borrow.Author.Tests.{lt-ltb, le-ltb}
 use lib.Bits.{bit_and}
 use lib.Dec.{ltb}
-use lib.ListN.{get_or, length, length-set}
+use lib.ListN.{get_or}
 use Rattle.row.specs.Round.{pick}
 use Rattle.cltl.specs.Counting.{every}
 use Rattle.cltl.specs.Running.{lap_count}
 use Rattle.cltl.proofs.AboveDrift.{lap_above}
 use Rattle.mask.specs.Mask.{on}
 use Rattle.mask.specs.EachBit.{on_and}
-use Rattle.table.specs.Table.{Stored}
-use Rattle.table.specs.Storing.{begun, upward}
+use Rattle.table.specs.Storing.{begun, upward, ended}
 use Rattle.quorum.specs.Words.{has}
 use Rattle.quorum.proofs.running.lap_count.Invariants.{AllAt, Digits, first}
 use Rattle.quorum.proofs.running.lap_count.Goals as goal
@@ -50,29 +49,21 @@ begin w h l some i =
 pub loop-j-init : goal.loop-j-init
 loop-j-init c = let s = c in
     let a = s.args in
-    (omega arith, begin a.w.now a.h a.l s.requires.l_lt_h.0, begun (Digits a.w.now a.h a.l) a.h 0 a.w.now)
-
-pub one_more-all-requires : goal.one_more-all-requires
-one_more-all-requires c = let v = c.loop-j in record { lap_bound = omega arith; w_len = length-set v.w _ _ ∙ v.invariant.2.kept ∙ c.requires.w_len }
+    (begin a.w.now a.lasso.h a.lasso.l a.lasso.lap, begun (Digits a.w.now a.lasso.h a.lasso.l) a.lasso.h 0 a.w.now)
 
 pub loop-j-preserved : goal.loop-j-preserved
 loop-j-preserved c = let a = c.args in
     let v = c.loop-j in
     let w = a.w.now in
     let j = v.j + 1 in
-    let inside : a.h + v.j < length v.w = omega (arith, v.invariant.2.kept, c.requires.w_len) in
     let stored =
-    upward (Digits w a.h a.l) a.h 0 v.j (a.h + v.j) v.all w v.w v.invariant.2 (omega arith) inside (omega arith)
-    (digit w a.h a.l v.j v.all (omega arith) v.invariant.1) in
+    upward (Digits w a.lasso.h a.lasso.l) a.lasso.h 0 v.j (a.lasso.h + v.j) v.all w v.w v.invariant.1 (omega arith) (omega arith) (omega arith)
+    (digit w a.lasso.h a.lasso.l v.j v.all (omega arith) v.invariant.0) in
     let e : suc v.j ≡ j = omega arith in (
-      omega arith,
-      further w a.h a.l j _ v.all c.one_more-all.result (λ p. stored.below (a.l + j) (omega arith)) c.one_more-all.ensures
-          (subst (λ (k : ℕ). AllAt w a.h a.l k v.all) e v.invariant.1),
+      further w a.lasso.h a.lasso.l j _ v.all c.one_more-all.result (λ p. stored.below (a.lasso.l + j) (omega arith)) c.one_more-all.ensures
+          (subst (λ (k : ℕ). AllAt w a.lasso.h a.lasso.l k v.all) e v.invariant.0),
       stored,
     )
 
 pub returns : goal.returns
-returns c = let a = c.args in
-    let v = c.loop-j in
-    let e : v.j ≡ 17 = omega arith in
-    subst (λ (n : ℕ). Stored (Digits a.w.now a.h a.l) a.h 0 n a.w.now v.w) e v.invariant.2
+returns c = ended (omega arith) c.loop-j.invariant.1

@@ -1,4 +1,4 @@
-use Prim.Native.Nat.{ℕ, suc, ◌+◌, ◌-◌, ◌≤◌, min}
+use Prim.Native.Nat.{ℕ, suc, ◌+◌, ◌-◌, min}
 use mathlib.Core.Path.{◌≡◌}
 use mathlib.Core.Bool.{Bool}
 use mathlib.Core.List.{List}
@@ -22,7 +22,4 @@ abbrev pub AllAt : List ℕ → (h l j all : ℕ) → Type 0
 AllAt w h l j all = (i : ℕ) → on all i ≡ first w l i (min j (h - l))
 
 abbrev pub invariant-loop-j : goal.invariant-loop-j
-invariant-loop-j l = (l.j ≤ 17) × AllAt l.initial.w l.h l.l (suc l.j) l.all × Stored (Digits l.initial.w l.h l.l) l.h 0 l.j l.initial.w l.w
-
-abbrev pub decreases-loop-j : goal.decreases-loop-j
-decreases-loop-j l = 17 - l.j
+invariant-loop-j l = AllAt l.initial.w l.lasso.h l.lasso.l (suc l.j) l.all × Stored (Digits l.initial.w l.lasso.h l.lasso.l) l.lasso.h 0 l.j l.initial.w l.w

@@ -1,5 +1,5 @@
 use Prim.Native.Nat.{ℕ, ◌+◌, ◌-◌}
-use mathlib.Core.Path.{◌≡◌, sym, subst, ◌∙◌}
+use mathlib.Core.Path.{◌≡◌, sym, subst}
 use native.Mathlib.Omega.{arith}
 use Rattle.quorum.specs.Unary.{WalkedBack}
 use Rattle.quorum.specs.Walking.{begun, onward}
@@ -9,16 +9,6 @@ pub loop-s-init : goal.loop-s-init
 loop-s-init c = let a = c.args in
     let e : 0 ≡ a.h - a.h = omega arith in
     (omega arith, subst (λ (n : ℕ). WalkedBack a.h n a.d a.w.now a.w.now) e (begun a.h a.d a.w.now))
-
-pub overflow_sub-s : goal.overflow_sub-s
-overflow_sub-s c = omega arith
-
-pub two_back-requires : goal.two_back-requires
-two_back-requires c = let s = c in
-    let v = c.loop-s in record { s_bound = omega (arith, s.requires.h_bound, v.invariant.0); w_len = v.invariant.1.size ∙ s.requires.w_len }
-
-pub loop-s-smaller : goal.loop-s-smaller
-loop-s-smaller c = omega arith
 
 pub loop-s-preserved : goal.loop-s-preserved
 loop-s-preserved c = let a = c.args in
@@ -30,10 +20,6 @@ loop-s-preserved c = let a = c.args in
           (onward (v.s - 2) 2 (a.h - v.s) a.d a.w.now v.w _
           (subst (λ (s : ℕ). WalkedBack s (a.h - v.s) a.d a.w.now v.w) (sym two) v.invariant.1) c.two_back.ensures),
     )
-
-pub one_back-requires : goal.one_back-requires
-one_back-requires c = let s = c in
-    let v = c.loop-s in record { s_bound = omega (arith, s.requires.h_bound); w_len = v.invariant.1.size ∙ s.requires.w_len }
 
 pub returns-then-s-eq1 : goal.returns-then-s-eq1
 returns-then-s-eq1 c = let a = c.args in

@@ -17,19 +17,13 @@ use Rattle.quorum.specs.Walking.{walk_agrees}
 use Rattle.quorum.proofs.running.windows.Goals as goal
 
 -- without drift a window is the step itself
-pub returns-then-d-eq0 : goal.returns-then-d-eq0
-returns-then-d-eq0 c = let s = c in
-    let a = s.args in
-    let w = a.w.now in record {
-      h_bound = (omega (arith, s.requires.l_lt_h), s.requires.w_len);
-      by_index = λ v i p.
-          let e : 0 + v ≡ v = omega arith in
-          let z : 0 ≡ a.d = omega (arith, c.if-d-eq0.true) in
-          ap (has w i) e ∙ sym (window_none a.h a.l (has w i) v p) ∙ ap (λ (d : ℕ). window a.h a.l (has w i) d v) z;
-    }
-
-pub walk_back-requires : goal.walk_back-requires
-walk_back-requires c = let s = c in record { h_bound = (s.requires.l_lt_h.1, s.requires.l_lt_h.2); w_len = c.lap_count.ensures.kept ∙ s.requires.w_len }
+pub returns-then-d-eq0-clause-by_index : goal.returns-then-d-eq0-clause-by_index
+returns-then-d-eq0-clause-by_index c = let a = c.args in
+    let w = a.w.now in
+    λ v i p.
+    let e : 0 + v ≡ v = omega arith in
+    let z : 0 ≡ a.d = omega (arith, c.if-d-eq0.true) in
+    ap (has w i) e ∙ sym (window_none a.lasso.h a.lasso.l (has w i) v p) ∙ ap (λ (d : ℕ). window a.lasso.h a.lasso.l (has w i) d v) z
 
 -- the lap's own count walked back over all steps is the running count
 running : (h l d : ℕ) (w₀ w₁ w₂ : List ℕ) → l < h → d ≤ 16 → Stored (Above (λ i. lap_count h l (has w₀ i))) h 0 17 w₀ w₁ → WalkedBack 0 h d w₁ w₂
@@ -48,8 +42,6 @@ running h l d w₀ w₁ w₂ some few lap walked s i p =
     start : InUnary w₁ (0 + h) count
     start j q = let e : h + j ≡ 0 + h + j = omega arith in subst (λ (k : ℕ). Above count j (get_or w₁ k 0)) e (lap.each j (omega arith) (omega arith))
 
-pub returns : goal.returns
-returns c = let s = c in
-    let a = s.args in
-    let lap = c.lap_count.ensures in
-    let walked = c.walk_back.ensures in record { h_bound = (omega (arith, s.requires.l_lt_h), walked.size ∙ lap.kept ∙ s.requires.w_len); by_index = running a.h a.l a.d a.w.now _ _ s.requires.l_lt_h.0 s.requires.l_lt_h.2 lap walked }
+pub returns-clause-by_index : goal.returns-clause-by_index
+returns-clause-by_index c = let a = c.args in
+    running a.lasso.h a.lasso.l a.d a.w.now _ _ a.lasso.lap c.requires.d_bound c.lap_count.ensures c.walk_back.ensures

@@ -1,4 +1,4 @@
-use Prim.Native.Nat.{ℕ, ◌+◌, ◌-◌, ◌≤◌}
+use Prim.Native.Nat.{ℕ, ◌+◌}
 use mathlib.Core.Path.{◌≡◌}
 use mathlib.Core.List.{List}
 use lib.Count.{ones}
@@ -10,7 +10,4 @@ abbrev pub Each : List ℕ → ℕ → ℕ → ℕ → Type 0
 Each w from s x = x ≡ ones (get_or w (from + s) 0)
 
 abbrev pub invariant-loop-s : goal.invariant-loop-s
-invariant-loop-s l = (l.s ≤ l.h) × Stored (Each l.w l.from) l.at 0 l.s l.initial.tallies l.tallies
-
-abbrev pub decreases-loop-s : goal.decreases-loop-s
-decreases-loop-s l = l.h - l.s
+invariant-loop-s l = Stored (Each l.w l.from) l.at 0 l.s l.initial.tallies l.tallies

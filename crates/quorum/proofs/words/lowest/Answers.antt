@@ -3,13 +3,6 @@ use native.Mathlib.Omega.{arith}
 use lib.Pow.{pow_mono, pow_pos}
 use Rattle.quorum.proofs.words.lowest.Goals as goal
 
-pub overflow_shl-result : goal.overflow_shl-result
-overflow_shl-result c = omega arith
-
-pub overflow_sub-result : goal.overflow_sub-result
-overflow_sub-result c = let room : 2 ^ c.args.n ≤ 2 ^ 32 = pow_mono {i = c.args.n} {j = 32} (omega arith) in
-    omega (arith, room, pow_pos c.args.n)
-
 pub overflow_cast-result : goal.overflow_cast-result
 overflow_cast-result c = let room : 2 ^ c.args.n ≤ 2 ^ 32 = pow_mono {i = c.args.n} {j = 32} (omega arith) in
     omega (arith, room, pow_pos c.args.n)

@@ -1,4 +1,4 @@
-use Prim.Native.Nat.{ℕ, ◌-◌, ◌≤◌}
+use Prim.Native.Nat.{ℕ}
 use mathlib.Core.Bool.{Bool}
 use mathlib.Core.List.{List}
 use Rattle.mask.specs.Mask.{signed}
@@ -11,7 +11,4 @@ abbrev pub Each : List ℕ → ℕ → Bool → ℕ → ℕ → ℕ → Type 0
 Each t at p who = Of who (λ i s. signed p (told t at i s))
 
 abbrev pub invariant-loop-s : goal.invariant-loop-s
-invariant-loop-s l = (l.s ≤ l.h) × Stored (Each l.t l.at l.p l.who) 0 0 l.s l.initial.w l.w
-
-abbrev pub decreases-loop-s : goal.decreases-loop-s
-decreases-loop-s l = l.h - l.s
+invariant-loop-s l = Stored (Each l.t l.at l.p l.who) 0 0 l.s l.initial.w l.w

@@ -3,6 +3,3 @@ use Rattle.row.proofs.lanes.link.Given as goal
 
 abbrev pub invariant-loop-j : goal.invariant-loop-j
 invariant-loop-j l = Linking l.s l.f l.initial.next l.first l.next l.j
-
-abbrev pub decreases-loop-j : goal.decreases-loop-j
-decreases-loop-j l = l.j

@@ -17,14 +17,14 @@ decreases-small_part l = l.level * 5 + 1
 abbrev pub decreases-until_part : goal.decreases-until_part
 decreases-until_part l = l.level * 5 + 2
 
-abbrev pub invariant-and_part-loop-r : goal.invariant-and_part-loop-r
-invariant-and_part-loop-r l = Turn l.inner conj l.level l.s l.at l.n l.left l.fn.nodes l.r l.nodes
+abbrev pub invariant-and_part-loop-i : goal.invariant-and_part-loop-i
+invariant-and_part-loop-i l = Turn l.inner conj l.level l.s l.fn.p.at l.fn.p.n l.fn.p.left l.fn.nodes l.r l.nodes
 
-abbrev pub decreases-and_part-loop-r : goal.decreases-and_part-loop-r
-decreases-and_part-loop-r l = l.r.left
+abbrev pub decreases-and_part-loop-i : goal.decreases-and_part-loop-i
+decreases-and_part-loop-i l = l.r.left
 
-abbrev pub invariant-or_part-loop-r : goal.invariant-or_part-loop-r
-invariant-or_part-loop-r l = Turn l.inner disj l.level l.s l.at l.n l.left l.fn.nodes l.r l.nodes
+abbrev pub invariant-or_part-loop-i : goal.invariant-or_part-loop-i
+invariant-or_part-loop-i l = Turn l.inner disj l.level l.s l.fn.p.at l.fn.p.n l.fn.p.left l.fn.nodes l.r l.nodes
 
-abbrev pub decreases-or_part-loop-r : goal.decreases-or_part-loop-r
-decreases-or_part-loop-r l = l.r.left
+abbrev pub decreases-or_part-loop-i : goal.decreases-or_part-loop-i
+decreases-or_part-loop-i l = l.r.left

@@ -1,78 +1,16 @@
-use Prim.Native.Nat.{ℕ, ◌+◌, ◌-◌, ◌<◌}
-use mathlib.Core.Path.{◌≡◌, refl, ap₂, subst, ◌∙◌}
-use lib.ListN.{get_or, length}
-use mathlib.Core.Bool.{◌||◌}
+use Rattle.std.proofs.Common.{rules, ℕ, ◌+◌, ◌≡◌, ◌∙◌, ◌||◌, ap, get_or, bit_or, bit_xor}
 use Rattle.mask.specs.Mask.{on, signed}
-use Rattle.table.specs.Table.{Stored}
+use Rattle.table.specs.Table.{told}
 use Rattle.table.specs.Words.{either_signed}
-use Rattle.table.specs.Storing.{begun, upward, apart_word}
-use native.Mathlib.Omega.{arith}
-use Rattle.table.proofs.each.either_table.Invariants.{Either}
 use Rattle.table.proofs.each.either_table.Goals as goal
-
-pub flip-flip_a-requires : goal.flip-flip_a-requires
-flip-flip_a-requires c = tt
-
-pub flip-flip_b-requires : goal.flip-flip_b-requires
-flip-flip_b-requires c = tt
-
-pub loop-s-init : goal.loop-s-init
-loop-s-init c = let a = c.args in
-    (omega arith, begun (Either a.pa a.pb a.t.now a.a a.b) a.k 0 a.t.now)
-
-pub overflow_add-t : goal.overflow_add-t
-overflow_add-t c = omega arith
-
-pub offset_bounds-t-a : goal.offset_bounds-t-a
-offset_bounds-t-a c = omega arith
-
-pub bounds-t-a : goal.bounds-t-a
-bounds-t-a c = omega (arith, c.loop-s.invariant.1.kept)
-
-pub overflow_add-t-in-loop-s : goal.overflow_add-t-in-loop-s
-overflow_add-t-in-loop-s c = omega arith
-
-pub offset_bounds-t-b : goal.offset_bounds-t-b
-offset_bounds-t-b c = omega arith
-
-pub bounds-t-b : goal.bounds-t-b
-bounds-t-b c = omega (arith, c.loop-s.invariant.1.kept)
-
-pub overflow_add-t-in-loop-s-2 : goal.overflow_add-t-in-loop-s-2
-overflow_add-t-in-loop-s-2 c = omega arith
-
-pub offset_bounds-t-k : goal.offset_bounds-t-k
-offset_bounds-t-k c = omega arith
-
-pub bounds-t-k : goal.bounds-t-k
-bounds-t-k c = omega (arith, c.loop-s.invariant.1.kept)
-
-pub overflow_add-s : goal.overflow_add-s
-overflow_add-s c = omega arith
-
-pub loop-s-smaller : goal.loop-s-smaller
-loop-s-smaller c = omega arith
-
-pub loop-s-preserved : goal.loop-s-preserved
-loop-s-preserved c = let start = c in
-    let a = start.args in
-    let v = c.loop-s in
-    let r = v.invariant.1 in
-    let inside : a.k + v.s < length v.t = omega (arith, r.kept) in
-    let P = Either a.pa a.pb a.t.now a.a a.b in
-    let same = apart_word P a.k 0 v.s a.t.now v.t r in
-    let word : P v.s _ =
-    λ i q. either_signed a.pa a.pb (get_or v.t (a.a + v.s) 0) (get_or v.t (a.b + v.s) 0) _ _
-    c.flip-flip_a.ensures c.flip-flip_b.ensures i q
-    ∙ ap₂ (λ (x y : ℕ). signed a.pa (on x i) || signed a.pb (on y i))
-    (same a.a a.h v.s (omega arith) (omega arith) start.requires.apart.0) (same a.b a.h v.s (omega arith) (omega arith) start.requires.apart.1) in
-    (omega arith, upward P a.k 0 v.s (a.k + v.s) _ a.t.now v.t r (omega arith) inside refl word)
-
-pub shape_of-t : goal.shape_of-t
-shape_of-t c = c.loop-s.invariant.1.kept
 
 pub returns : goal.returns
 returns c = let a = c.args in
-    let v = c.loop-s in
-    let e : v.s ≡ a.h = omega arith in
-    subst (λ (n : ℕ). Stored (Either a.pa a.pb a.t.now a.a a.b) a.k 0 n a.t.now v.t) e v.invariant.1
+    let first = c.flip-flip_a in
+    let second = c.flip-flip_b in
+    c.each_word.ensures (λ i s. signed a.pa (told a.t.now a.a i s) || signed a.pb (told a.t.now a.b i s))
+    (λ s r p e.
+    let x = get_or a.t.now (a.a + s) 0 in
+    let y = get_or a.t.now (a.b + s) 0 in
+    let made : r ≡ bit_or (bit_xor x first.result) (bit_xor y second.result) = search rules in
+    λ i q. ap (λ (z : ℕ). on z i) made ∙ either_signed a.pa a.pb x y _ _ first.ensures second.ensures i q)

@@ -1,4 +1,4 @@
-use Prim.Native.Nat.{ℕ, ◌-◌, ◌≤◌}
+use Prim.Native.Nat.{ℕ}
 use mathlib.Core.List.{List}
 use Rattle.row.specs.Lasso.{next_step}
 use Rattle.table.specs.Table.{told, Word, Stored}
@@ -9,7 +9,4 @@ abbrev pub Later : List ℕ → ℕ → (h l : ℕ) → ℕ → ℕ → Type 0
 Later t a h l s = Word (λ i. told t a i (next_step h l s))
 
 abbrev pub invariant-loop-s : goal.invariant-loop-s
-invariant-loop-s l = (l.s ≤ l.last) × Stored (Later l.initial.t l.a l.h l.l) l.k 0 l.s l.initial.t l.t
-
-abbrev pub decreases-loop-s : goal.decreases-loop-s
-decreases-loop-s l = l.last - l.s
+invariant-loop-s l = Stored (Later l.initial.t l.a l.h l.l) l.k 0 l.s l.initial.t l.t

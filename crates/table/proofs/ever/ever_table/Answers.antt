@@ -1,13 +1,12 @@
 use Rattle.table.specs.Storing.{apart_less}
 use Rattle.table.specs.Passes.{lap_and_run_in}
 use native.Mathlib.Omega.{arith}
-use borrow.Author.Rules.{rules}
 use Rattle.table.proofs.ever.ever_table.Goals as goal
 
-pub back-requires : goal.back-requires
-back-requires c = let start = c in
-    let a = start.args in
-    let p = start.requires.apart in record { from_le_to = search rules; apart = (apart_less a.c a.k a.l a.h (omega arith) p.0, apart_less a.b a.k a.l a.h (omega arith) p.1) }
+pub back-requires-clause-apart : goal.back-requires-clause-apart
+back-requires-clause-apart c = let a = c.args in
+    let p = c.requires.apart in
+    (apart_less a.c a.k a.l a.h (omega arith) p.0, apart_less a.b a.k a.l a.h (omega arith) p.1)
 
 pub returns : goal.returns
 returns c = let start = c in

@@ -27,37 +27,20 @@ one_more p t b h s v x q r w i z =
 
 pub loop-s-init : goal.loop-s-init
 unfolding straight
-loop-s-init c = let a = c.args in
-    let e : a.h - a.h ≡ 0 = omega arith in
-    (omega arith, omega arith, λ i q. c.same_word-v.ensures i q ∙ rw e)
-
-pub overflow_sub-s : goal.overflow_sub-s
-overflow_sub-s c = omega arith
-
-pub overflow_add-b : goal.overflow_add-b
-overflow_add-b c = omega arith
-
-pub offset_bounds-t-b : goal.offset_bounds-t-b
-offset_bounds-t-b c = omega arith
-
-pub bounds-t-b : goal.bounds-t-b
-bounds-t-b c = omega arith
-
-pub loop-s-smaller : goal.loop-s-smaller
-loop-s-smaller c = omega arith
+loop-s-init c = let e : c.args.h - c.args.h ≡ 0 = omega arith in
+    (omega arith, λ i q. c.same_word-v.ensures i q ∙ rw e)
 
 pub loop-s-preserved : goal.loop-s-preserved
 loop-s-preserved c = let a = c.args in
     let v = c.loop-s in
     let e : v.s ≡ v.s - 1 + 1 = omega arith in (
       omega arith,
-      omega arith,
       one_more a.p a.t.now a.b a.h (v.s - 1) v.v c.join_word-v.result (omega arith)
-          (subst (λ (n : ℕ). Over a.p a.t.now a.b a.h n v.v) e v.invariant.2) c.join_word-v.ensures,
+          (subst (λ (n : ℕ). Over a.p a.t.now a.b a.h n v.v) e v.invariant.1) c.join_word-v.ensures,
     )
 
 pub returns : goal.returns
 returns c = let a = c.args in
     let v = c.loop-s in
     let e : v.s ≡ a.l = omega arith in
-    subst (λ (n : ℕ). Over a.p a.t.now a.b a.h n v.v) e v.invariant.2
+    subst (λ (n : ℕ). Over a.p a.t.now a.b a.h n v.v) e v.invariant.1

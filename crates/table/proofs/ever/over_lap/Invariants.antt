@@ -10,7 +10,4 @@ abbrev pub Over : Bool → List ℕ → (b h s : ℕ) → ℕ → Type 0
 Over p t b h s = Word (λ i. straight p (λ s. p) (told t b i) (not p) (h - s) s)
 
 abbrev pub invariant-loop-s : goal.invariant-loop-s
-invariant-loop-s l = (l.l ≤ l.s) × (l.s ≤ l.h) × Over l.p l.t l.b l.h l.s l.v
-
-abbrev pub decreases-loop-s : goal.decreases-loop-s
-decreases-loop-s l = l.s
+invariant-loop-s l = (l.l ≤ l.s) × Over l.p l.t l.b l.h l.s l.v

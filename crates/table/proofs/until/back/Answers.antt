@@ -1,6 +1,6 @@
 use Prim.Native.Nat.{ℕ, suc, ◌+◌, ◌-◌, ◌<◌}
 use mathlib.Core.Path.{◌≡◌, sym, ap, ap₂, subst, ◌∙◌}
-use lib.ListN.{get_or, length}
+use lib.ListN.{get_or}
 use mathlib.Core.Bool.{Bool}
 use mathlib.Core.List.{List}
 use Rattle.cltl.specs.Rules.{mix}
@@ -28,72 +28,29 @@ one_more p t now a b to rest s v x q ea eb r w i z =
 pub loop-s-init : goal.loop-s-init
 unfolding straight
 loop-s-init c = let a = c.args in
-    let e : a.to - a.to ≡ 0 = omega arith in (
-      omega arith,
-      omega arith,
-      begun (Straight a.p a.t.now a.a a.b a.to a.rest) a.k a.to a.t.now,
-      λ i q. rw e,
-    )
-
-pub overflow_sub-s : goal.overflow_sub-s
-overflow_sub-s c = omega arith
-
-pub overflow_add-a : goal.overflow_add-a
-overflow_add-a c = omega arith
-
-pub offset_bounds-t-a : goal.offset_bounds-t-a
-offset_bounds-t-a c = omega arith
-
-pub bounds-t-a : goal.bounds-t-a
-bounds-t-a c = omega (arith, c.loop-s.invariant.2.kept)
-
-pub overflow_add-b : goal.overflow_add-b
-overflow_add-b c = omega arith
-
-pub offset_bounds-t-b : goal.offset_bounds-t-b
-offset_bounds-t-b c = omega arith
-
-pub bounds-t-b : goal.bounds-t-b
-bounds-t-b c = omega (arith, c.loop-s.invariant.2.kept)
-
-pub overflow_add-t : goal.overflow_add-t
-overflow_add-t c = omega arith
-
-pub offset_bounds-t-k : goal.offset_bounds-t-k
-offset_bounds-t-k c = omega arith
-
-pub bounds-t-k : goal.bounds-t-k
-bounds-t-k c = omega (arith, c.loop-s.invariant.2.kept)
-
-pub loop-s-smaller : goal.loop-s-smaller
-loop-s-smaller c = omega arith
+    let e : a.to - a.to ≡ 0 = omega arith in
+    (omega arith, begun (Straight a.p a.t.now a.a a.b a.to a.rest) a.k a.to a.t.now, λ i q. rw e)
 
 pub loop-s-preserved : goal.loop-s-preserved
-loop-s-preserved c = let start = c in
-    let a = start.args in
+loop-s-preserved c = let a = c.args in
     let v = c.loop-s in
-    let r = v.invariant.2 in
+    let r = v.invariant.1 in
     let s : ℕ = v.s - 1 in
     let m = c.mix_word-v in
-    let inside : a.k + s < length v.t = omega (arith, r.kept) in
     let P = Straight a.p a.t.now a.a a.b a.to a.rest in
     let same = apart_word P a.k v.s a.to a.t.now v.t r in
     let word : P s m.result =
     one_more a.p a.t.now v.t a.a a.b a.to a.rest s v.v m.result (omega arith)
-    (same a.a a.to s (omega arith) (omega arith) start.requires.apart.0) (same a.b a.to s (omega arith) (omega arith) start.requires.apart.1)
-    (let e : v.s ≡ s + 1 = omega arith in subst (λ (n : ℕ). P n v.v) e v.invariant.3)
-    m.ensures in (
-      omega arith,
-      omega arith,
-      downward P a.k v.s a.to (a.k + s) m.result a.t.now v.t r v.invariant.1 inside (omega arith) (omega arith) word,
-      word,
-    )
-
-pub shape_of-t : goal.shape_of-t
-shape_of-t c = c.loop-s.invariant.2.kept
+    (same a.a a.to s (omega arith) (omega arith) c.requires.apart.0) (same a.b a.to s (omega arith) (omega arith) c.requires.apart.1)
+    (let e : v.s ≡ s + 1 = omega arith in subst (λ (n : ℕ). P n v.v) e v.invariant.2)
+    m.ensures in
+    (omega arith, downward P a.k v.s a.to (a.k + s) m.result a.t.now v.t r (omega arith) (omega arith) (omega arith) (omega arith) word, word)
 
 pub returns : goal.returns
 returns c = let a = c.args in
     let v = c.loop-s in
     let e : v.s ≡ a.from = omega arith in
-    let P = Straight a.p a.t.now a.a a.b a.to a.rest in record { stored = subst (λ (n : ℕ). Stored P a.k n a.to a.t.now v.t) e v.invariant.2; word = subst (λ (n : ℕ). P n v.v) e v.invariant.3 }
+    let P = Straight a.p a.t.now a.a a.b a.to a.rest in record {
+      stored = subst (λ (n : ℕ). Stored P a.k n a.to a.t.now v.t) e v.invariant.1;
+      word = subst (λ (n : ℕ). P n v.v) e v.invariant.2;
+    }

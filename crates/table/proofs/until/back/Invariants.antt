@@ -11,7 +11,7 @@ abbrev pub Straight : Bool → List ℕ → (a b to rest : ℕ) → ℕ → ℕ 
 Straight p t a b to rest s = Word (λ i. straight p (told t a i) (told t b i) (on rest i) (to - s) s)
 
 abbrev pub invariant-loop-s : goal.invariant-loop-s
-invariant-loop-s l = (l.from ≤ l.s) × (l.s ≤ l.to) × Stored (Straight l.p l.initial.t l.a l.b l.to l.rest) l.k l.s l.to l.initial.t l.t × Straight l.p l.initial.t l.a l.b l.to l.rest l.s l.v
-
-abbrev pub decreases-loop-s : goal.decreases-loop-s
-decreases-loop-s l = l.s
+invariant-loop-s l =
+    (l.from ≤ l.s)
+    × Stored (Straight l.p l.initial.t l.a l.b l.to l.rest) l.k l.s l.to l.initial.t l.t
+    × Straight l.p l.initial.t l.a l.b l.to l.rest l.s l.v

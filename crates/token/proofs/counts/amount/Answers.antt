@@ -1,18 +1,11 @@
-use Rattle.token.proofs.Counting.{limit_low, amount_bad, amount_read}
+use Rattle.std.proofs.lemmas.Result.{err_from_is_err_and}
+use Rattle.token.proofs.Counting.{amount_bad, amount_read}
 use Rattle.token.proofs.counts.amount.Goals as goal
 
-pub returns-then-k-ne0 : goal.returns-then-k-ne0
-returns-then-k-ne0 c = let a = c.args in
-    let k = c.limit-k in
-    (amount_bad a.s.now a.i k.result k.ensures.0 c.if-k-ne0.true, k.ensures.1)
+pub returns-in_err-k-clause-value : goal.returns-in_err-k-clause-value
+returns-in_err-k-clause-value c =
+    let p = err_from_is_err_and c.from_residual.result c.from_residual.ensures.1 in
+    rw (p.1, p.2) (amount_bad c.args.s.now c.args.i _ c.in_err-k.ensures.value)
 
-pub grouped-requires : goal.grouped-requires
-grouped-requires c = let a = c.args in
-    let k = c.limit-k in
-    let low = limit_low a.s.now a.i k.result k.ensures.0 c.if-k-ne0.false in
-    (c.if-k-ne0.false, k.ensures.1, c.requires.1, low.0, low.1)
-
-pub returns : goal.returns
-returns c = let a = c.args in
-    let k = c.limit-k in
-    (amount_read a.s.now a.i k.result k.ensures.0 c.if-k-ne0.false c.grouped.result c.grouped.ensures.0, c.grouped.ensures.1)
+pub returns-clause-value : goal.returns-clause-value
+returns-clause-value c = amount_read c.args.s.now c.args.i _ c.in_ok-k.ensures.value _ c.grouped.ensures.value

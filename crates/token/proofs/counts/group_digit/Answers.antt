@@ -6,13 +6,10 @@ pub returns-then-s-j : goal.returns-then-s-j
 returns-then-s-j c = digit_end c.args.s.now c.args.j c.if-s-j.true
 
 pub returns-then-b-lt48 : goal.returns-then-b-lt48
-returns-then-b-lt48 c = let a = c.args in
-    digit_low a.s.now a.j (omega (arith, c.if-s-j.false)) (omega (arith, c.if-b-lt48.true))
+returns-then-b-lt48 c = digit_low c.args.s.now c.args.j (omega (arith, c.if-s-j.false)) (omega (arith, c.if-b-lt48.true))
 
 pub returns-then-b-gt55 : goal.returns-then-b-gt55
-returns-then-b-gt55 c = let a = c.args in
-    digit_high a.s.now a.j (omega (arith, c.if-s-j.false)) (omega (arith, c.if-b-gt55.true))
+returns-then-b-gt55 c = digit_high c.args.s.now c.args.j (omega (arith, c.if-s-j.false)) (omega (arith, c.if-b-gt55.true))
 
 pub returns : goal.returns
-returns c = let a = c.args in
-    digit_read a.s.now a.j (omega (arith, c.if-s-j.false)) (omega (arith, c.if-b-lt48.false)) (omega (arith, c.if-b-gt55.false))
+returns c = digit_read c.args.s.now c.args.j (omega (arith, c.if-s-j.false)) (omega (arith, c.if-b-lt48.false)) (omega (arith, c.if-b-gt55.false))

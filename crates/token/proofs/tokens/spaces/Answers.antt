@@ -1,28 +1,13 @@
 use Rattle.token.proofs.tokens.spaces.Goals as goal
 -- `spaces` skips what `skip` skips. The loop's invariant: from where it stands the same is left behind the spaces. Assumes nothing.
-use Prim.Native.Nat.{◌≤◌, ◌-◌}
 use native.Mathlib.Omega.{arith}
-use mathlib.Core.Path.{◌≡◌, refl, sym, ◌∙◌}
-use lib.ListN.{length, drop}
+use mathlib.Core.Path.{sym, ◌∙◌}
 use Rattle.token.specs.Offsets.{skip_end, skip_stop, skip_on}
-use Rattle.grammar.specs.Reader.{skip}
-
-pub loop-i-init : goal.loop-i-init
-loop-i-init c = (omega arith, refl, λ h. h)
-
-pub bounds-s-i : goal.bounds-s-i
-bounds-s-i c = omega arith
 
 pub returns-then-s-i-ne32 : goal.returns-then-s-i-ne32
 returns-then-s-i-ne32 c = let a = c.args in
     let v = c.loop-i in
     (sym (skip_stop a.s.now v.i (omega arith) c.if-s-i-ne32.true) ∙ v.invariant.1, v.invariant.0, v.invariant.2)
-
-pub overflow_add-i : goal.overflow_add-i
-overflow_add-i c = omega arith
-
-pub loop-i-smaller : goal.loop-i-smaller
-loop-i-smaller c = omega arith
 
 pub loop-i-preserved : goal.loop-i-preserved
 loop-i-preserved c = let a = c.args in

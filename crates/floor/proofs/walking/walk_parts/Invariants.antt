@@ -1,0 +1,12 @@
+use Rattle.std.proofs.Common.{◌≡◌, map}
+use Rattle.std.specs.Slice.Iter.{chunks_rest, chunks_size}
+use Rattle.record.specs.Parts.{of_kind, parts}
+use Rattle.floor.specs.Floor.{walk}
+use Rattle.floor.proofs.Onward.{Left}
+use Rattle.floor.proofs.walking.walk_parts.Given as goal
+
+abbrev pub invariant-loop-body : goal.invariant-loop-body
+invariant-loop-body l = record {
+  size : chunks_size l.body-iterator ≡ l.size;
+  left : Left (walk l.fn.f l.fn.at (map (of_kind l.kind) (parts l.size l.bodies))) l.g l.next (map (of_kind l.kind) (parts l.size (chunks_rest l.body-iterator)));
+}
