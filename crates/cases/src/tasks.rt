@@ -46,7 +46,7 @@ pub(crate) fn run(
     task: &[u8],
     out: &mut [u8],
 ) -> io::Result<()> {
-    if task.len() == 0 {
+    if task.is_empty() {
         return report::print_answer(rt, plan::read(floor, plan).map(|_| ()).into());
     }
     match task[0] {

@@ -24,7 +24,7 @@ fn empty_span() -> Span
     }
 }
 
-// The number in the four bytes from an offset on.
+// The number in the four bytes from an offset on. By `as`: std has no From from u32 to usize.
 fn word_at(s: &[u8], at: usize) -> usize
     requires { at + 4 ≤ length s.now }
     ensures { result ≡ word_at at s.now }
@@ -74,7 +74,8 @@ fn line_start(s: &[u8], k: usize) -> usize
     s.len()
 }
 
-// Where the line that begins at an offset ends: at its byte 10, or at the text's end where none follows.
+// Where the line that begins at an offset ends: at its byte 10, or at the text's end where none follows. By indices: the offset may lie past the text's end,
+// where there is no slice to search.
 fn line_end(s: &[u8], at: usize) -> usize
     ensures { result ≡ at + line_length (drop at s.now) }
 {

@@ -1,13 +1,13 @@
 -- Whether a cart meets one above it, by the table and by one column.
 use Prim.Native.Nat.{ℕ, suc, ◌+◌, ◌≤◌, ◌<◌}
 use native.Mathlib.Omega.{arith}
-use mathlib.Core.Path.{◌≡◌, sym, ap, subst, ◌∙◌}
-use mathlib.Core.Bool.{Bool, false, not, ◌&&◌}
+use mathlib.Core.Path.{◌≡◌, refl, sym, ap, subst, ◌∙◌}
+use mathlib.Core.Bool.{Bool, true, false, not, ◌&&◌}
 use mathlib.Core.List.{List}
 use mathlib.Core.Logic.{◌⊎◌, inl, inr, ⊎_elim}
-use lib.Dec.{T, ltb}
+use lib.Dec.{T, eqb, ltb}
 use lib.ListN.{get_or}
-use borrow.Author.Tests.{eq-eqb, ne_eqb, ltb-false}
+use borrow.Author.Tests.{eq-eqb, ne_eqb, ltb-true, ltb-false, eqb-false}
 use Rattle.row.specs.Lasso.{next_step, step_of}
 use Rattle.row.specs.Round.{pick}
 use Rattle.plan.specs.declared.Head.{Head}
@@ -18,6 +18,14 @@ use Rattle.conflict.specs.Columns.{Decides, Some, LastOn, Latest, near}
 use Rattle.conflict.specs.Above.{Above}
 use Rattle.conflict.proofs.Deciding.{decides_as}
 use Rattle.conflict.proofs.Tracking.{follows}
+
+-- a test that is near or not
+near_apart : (m v d : ℕ) → near m v d ≡ true → (m ≡ 0 → ⊥) × (v < m + d)
+near_apart m v d e = go (eqb m 0) refl e
+  where
+    go : (t : Bool) → eqb m 0 ≡ t → not t && ltb v (m + d) ≡ true → (m ≡ 0 → ⊥) × (v < m + d)
+    go true z q = let y : ◌≡◌ {A = ℕ} 0 1 = cc in absurd (omega arith)
+    go false z q = (eqb-false m 0 z, ltb-true v (m + d) q)
 
 far : (m v d : ℕ) → (m ≡ 0 → ⊥) → near m v d ≡ false → m + d ≤ v
 far m v d some e = ltb-false v (m + d) (sym (ap (λ (t : Bool). not t && ltb v (m + d)) (ne_eqb m 0 some)) ∙ e)
@@ -48,7 +56,25 @@ module _ (P : Routes) (d a v : ℕ) (there : a < P.carts) where
     };
   }
 
+  pub not_narrow : (Narrow P p → ⊥) → Above P d a v → ⊥
+  not_narrow n x =
+      ⊎_elim (λ s. n s.narrow) (λ e. n e.1.narrow) (meets_cases P a v x.other x.counter x.meeting.meeting)
+
   module _ (last : List ℕ) (t : Latest (suc a) P.carts (stands_on P) (suc (v + d)) last) (m : ℕ) (is : m ≡ get_or last p 0) where
+    -- the table has one in a's narrow place
+    pub near_above : Narrow P p → near m v d ≡ true → Above P d a v
+    near_above n e = go (t.each p)
+      where
+        k : (m ≡ 0 → ⊥) × (v < m + d)
+        k = near_apart m v d e
+
+        go : LastOn (suc a) P.carts (stands_on P) p (suc (v + d)) (get_or last p 0) → Above P d a v
+        go (inl z) = absurd (k.0 (is ∙ z.0))
+        go (inr l) =
+            let c : m ≡ suc l.counter = is ∙ l.is in
+            above l.on.cart l.counter (omega (arith, l.on.low)) l.on.high (omega (arith, k.1)) (omega (arith, l.below))
+            (inl (record { narrow = n; one = sym l.on.has }))
+
     -- it has none: no one above is there within d
     none_there : near m v d ≡ false → (b w : ℕ) → a < b → b < P.carts → v ≤ w + d → w ≤ v + d → stands_on P b w ≡ p → ⊥
     none_there e b w up in-fleet low high here = go (t.each p)
@@ -95,11 +121,17 @@ module _ {bays block last : List ℕ} {carts : ℕ} {h : Head} {a v p : ℕ} (k 
   abbrev d : ℕ
   d = h.drift
 
+  pub plain : get_or bays p 0 ≡ 0 → Above P d a v → ⊥
+  plain z = not_narrow P d a v k.there (unmarked bays (stands_on P a v) (ap (λ (n : ℕ). get_or bays n 0) (sym k.at) ∙ z))
+
   narrow_here : (get_or bays p 0 ≡ 0 → ⊥) → Narrow P (stands_on P a v)
   narrow_here z = subst (Narrow P) k.at (marked bays p z)
 
   is : get_or last p 0 ≡ get_or last (stands_on P a v) 0
   is = ap (λ (n : ℕ). get_or last n 0) k.at
+
+  pub found : (get_or bays p 0 ≡ 0 → ⊥) → near (get_or last p 0) v d ≡ true → Above P d a v
+  found z y = near_above P d a v k.there last k.latest (get_or last p 0) is (narrow_here z) y
 
 -- its place is narrow and none above it is there within d; it goes on to q
 pub record Going (bays block last : List ℕ) (carts : ℕ) (h : Head) (a v p q : ℕ) : Type 0 where

@@ -13,6 +13,7 @@ pub mod Symmetric
 pub mod JudgingLaws
 pub mod Marking
 pub mod Deciding
+pub mod Entering
 pub mod Tracking
 pub mod Finding
 pub mod Visiting

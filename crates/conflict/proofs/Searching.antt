@@ -2,7 +2,7 @@
 use Prim.Native.Nat.{ℕ, zero, suc, ◌+◌, ◌≤◌, ◌<◌}
 use native.Mathlib.Omega.{arith}
 use mathlib.Core.Path.{◌≡◌, refl, sym, ap, subst, ◌∙◌}
-use mathlib.Core.Bool.{Bool, false}
+use mathlib.Core.Bool.{Bool, true, false}
 use mathlib.Core.List.{List}
 use lib.ListN.{get_or, replicate}
 use Rattle.row.specs.Lasso.{next_step, step_of}
@@ -11,8 +11,8 @@ use Rattle.plan.specs.declared.Head.{Head}
 use Rattle.conflict.specs.Meaning.{Routes}
 use Rattle.conflict.specs.Table.{block_place, table_routes, LatestAbove}
 use Rattle.conflict.specs.Columns.{Decides, Entered}
-use Rattle.conflict.specs.Above.{Above}
-use Rattle.conflict.proofs.Deciding.{if_false}
+use Rattle.conflict.specs.Above.{Above, FirstAbove}
+use Rattle.conflict.proofs.Deciding.{if_true, if_false}
 use Rattle.conflict.proofs.Tracking.{follows, follows_next, column}
 
 pub zeros : (n p : ℕ) → ◌≡◌ {A = ℕ} (get_or (replicate n 0) p 0) 0
@@ -61,6 +61,9 @@ module _ {bays block : List ℕ} {carts : ℕ} {h : Head} {a : ℕ} {last : List
   entered mark after m r = column block carts h a (v + d) sw mark last after w.ahead (omega arith) r w.latest
 
   module _ (t : Bool) (e : Decides (Above P d a v) t) where
+    pub stopped : t ≡ true → FirstAbove P d a sv
+    stopped y = record { counter = v; step = w.here; above = if_true (Above P d a v) t e y; before = w.none }
+
     none_more : t ≡ false → (u : ℕ) → u < v + 1 → Above P d a u → ⊥
     none_more y u l =
         pick u v (Above P d a u → ⊥) (w.none u)

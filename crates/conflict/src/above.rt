@@ -40,7 +40,8 @@ impl<'a> Rows<'a> {
         self.exchanged(a + 1, sw, row::next_step(h.steps, h.stem, sw), q, p)
     }
 
-    // Enters where those above cart a are at the counters below d; the step of counter d.
+    // Enters where those above cart a are at the counters below d; the step of counter d. In `last` each place has one more than the latest such counter, and 0
+    // if there is none: bytes, since `Latest` is of a list of numbers.
     #[tactic(auto, using(row::specs::Round::step_below))]
     fn lead(&self, last: &mut [u8; 256], a: usize) -> usize
         requires a_lt_carts { a < self.now.carts }
@@ -57,7 +58,8 @@ impl<'a> Rows<'a> {
         s
     }
 
-    // Whether cart a stands on a narrow place on one of its steps.
+    // Whether cart a stands on a narrow place on one of its steps. A loop: of `any` what it returns is left to be shown
+    // by hand (tried), of the loop nothing is.
     fn visits(&self, a: usize) -> bool
         requires { a < self.now.carts }
         ensures { Decides (Some 0 self.now.head.steps (λ s. T (flag self.now.bays.now (block_place self.now.block.now a s)))) result }

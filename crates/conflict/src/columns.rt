@@ -1,5 +1,5 @@
 // Columns of the block: where the carts stand on one step.
-ghost use Rattle.std.specs.Prelude.{◌≡◌, ◌≤◌, ◌<◌};
+ghost use Rattle.std.specs.Prelude.{◌≤◌, ◌<◌};
 ghost use Rattle.conflict.specs.Table.{block_place, Goes};
 ghost use Rattle.conflict.specs.Columns.{Decides, Some, Entered};
 
@@ -24,7 +24,7 @@ impl<'a> Rows<'a> {
         self.place_on(b, step) == q && self.place_on(b, next) == p
     }
 
-    // Whether one of the carts from one on does so.
+    // Whether one of the carts from one on does so: a loop, as in `visits`.
     pub(crate) fn exchanged(
         &self,
         from: usize,

@@ -19,7 +19,8 @@ use floor::Floor;
 use plan::Head;
 use refusal::Refused;
 
-// Judges the rows of an accepted plan. Where nothing is narrow there is nothing to judge.
+// Judges the rows of an accepted plan. Where nothing is narrow there is nothing to judge. The parameters are those of moves::judge_plan; behind them all is in
+// a Rows.
 pub fn judge_plan(floor: &[u8], f: Floor, h: Head, block: &[u8; 2048]) -> Result<(), Refused>
     requires accepted_floor { AcceptedFloor floor.now f }
     requires head_in_range { HeadInRange h }

@@ -5,7 +5,7 @@ ghost use Rattle.conflict.specs.OfPlan.{is_narrow};
 
 use floor::Floor;
 
-// Flags each place that a record of kind 6 names.
+// Flags each place that a record of kind 6 names. Bytes, not bools: `flag`, `table_routes` and the laws on them are of lists of numbers.
 pub(crate) fn marked(floor: &[u8], f: Floor) -> [u8; 256]
     requires { AcceptedFloor floor.now f }
     ensures { Flags result (is_narrow floor.now) }

@@ -17,7 +17,7 @@ pub(crate) struct Rows<'a> {
 }
 
 impl<'a> Rows<'a> {
-    // The place on step s of cart i, as an index.
+    // The place on step s of cart i, as an index: marks has this line too, and knows no conflict.
     pub(crate) fn place_on(&self, i: usize, s: usize) -> usize
         requires { (i < 32) × (s < 64) }
         ensures { (result ≡ block_place self.now.block.now i s) × (result < 256) }

@@ -61,12 +61,12 @@ write_then_read n before after c c' w z r = let b = w.reads_back z in (r.accepte
 
 -- cartplan_read_plan says 0: so do plans, on their floor
 pub plan_read_then_write : (floor s before after : List ℕ) (c c' : Code) (r : PlanReadCode floor s c) (z : c.number ≡ 0)
-    → let n = (r.accepted.0 z).2.numbers in
+    → let n = (r.accepted.0 z).1.numbers in
     PlanWrittenCode floor n.head (flatten n.rows) before c' after → length s ≤ length before
     → (c'.number ≡ 0) × (c'.first ≡ length s) × (after ≡ s ++ drop (length s) before)
 plan_read_then_write floor s before after c c' r z w room =
     let put : Outcome = record { answer = Written (length s); out = s ++ drop (length s) before } in
-    let e = (r.accepted.0 z).2.written_again before
+    let e = (r.accepted.0 z).1.written_again before
     ∙ ap (λ (b : Bool). cond b (unchanged (AboutPlan (refused 18 (length s) 0)) before) put) (le-ltb (length before) (length s) room) in
     let code : c' ≡ code_of (Written (length s)) = w.coded.coded.code ∙ ap (λ (o : Outcome). code_of o.answer) e in
     (ap (λ (x : Code). x.number) code, ap (λ (x : Code). x.first) code, w.coded.out ∙ ap (λ (o : Outcome). o.out) e)
@@ -79,7 +79,7 @@ plan_write_then_read floor h rows before after c c' w z r =
     let x : PlanRead = record { floor = b.0; plan = plan_of b.1 } in
     let e : read_both floor (take c.first after) ≡ Ok x =
     read_both_lem floor (take c.first after) b.0 b.1 (record { floor_read = b.2; plan_read_lem = b.3 }) in
-    r.accepted.1 (x, e, r.read.accepted x e)
+    r.accepted.1 (x, r.read.accepted x e)
 
 ---- Refusals: any number but 0 is listed, and changes no byte.
 pub check_refused : (floor plan rules : List ℕ) (c : Code) → PlanCheckedCode floor plan rules c → (c.number ≡ 0 → ⊥) → RefusedAs checking_plan c

@@ -67,7 +67,7 @@ pub record FloorReadCode (floor : List ℕ) (c : Code) : Type 0 where
 pub record PlanReadCode (floor plan : List ℕ) (c : Code) : Type 0 where
   pub coded : Coded reading_plan (checked (read_both floor plan)) c
   -- number 0 exactly if floor and plan are read, as numbers of the table, which write back as the same bytes
-  pub accepted : (c.number ≡ 0) ↔ ((r : PlanRead) × (read_both floor plan ≡ Ok r) × AcceptedPlan floor plan r)
+  pub accepted : (c.number ≡ 0) ↔ ((r : PlanRead) × AcceptedPlan floor plan r)
   pub read : PlanReads floor plan (read_both floor plan)
 
 -- cartplan_write_floor

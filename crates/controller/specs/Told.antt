@@ -26,7 +26,7 @@ use Rattle.plan.specs.Numbers.{plan_bytes, plan_file, by_floor, write_plan}
 use Rattle.plan.specs.Numbers as numbers
 use Rattle.plan.specs.After.{after_reading, ReadAs}
 use Rattle.plan.specs.Read.{ReadingCases, floor_refused, plan_refused, both_read, reading_cases, read_on_lem}
-use Rattle.plan.specs.Promises.{PlanReads, PlanWritten, AcceptedPlan}
+use Rattle.plan.specs.Promises.{AcceptedPlan, PlanReads, PlanWritten}
 use Rattle.plan.specs.declared.Head.{Head}
 use Rattle.plan.specs.declared.PlanRead.{PlanRead}
 use Rattle.grammar.specs.Grammar.{Clause}
@@ -133,8 +133,8 @@ plan_read_lem floor s r w g c q =
     subst (PlanReadCode floor s) (sym q) (record {
       coded = coded_as reading_plan refl (checked r) (checked (read_both floor s)) e g;
       accepted = (
-        λ z. let x = accepted_gives (read_both floor s) (sym e ∙ zero_accepts reading_plan refl refl (checked r) g z) in (x.0, x.1, whole.accepted x.0 x.1),
-        λ a. ap num (e ∙ read_accepts floor s a.0 a.2),
+        λ z. let x = accepted_gives (read_both floor s) (sym e ∙ zero_accepts reading_plan refl refl (checked r) g z) in (x.0, whole.accepted x.0 x.1),
+        λ a. ap num (e ∙ read_accepts floor s a.0 a.1),
       );
       read = whole;
     })

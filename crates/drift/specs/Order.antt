@@ -1,11 +1,12 @@
 -- The operand that needs more pairs goes first: what operands need is there.
 use Rattle.std.specs.Prelude.{ℕ, ◌+◌, ◌≤◌, ◌<◌, ◌≡◌, refl, List, get_or}
-use Rattle.std.proofs.Common.{sym, ◌∙◌, ⊎_elim, arith, eq-eqb, ne_eqb}
+use Rattle.std.proofs.Common.{sym, subst, ◌∙◌, ⊎_elim, arith, eq-eqb, ne_eqb}
 use Rattle.std.proofs.Math.Nat.{le-max_left, le-max_right}
 use Rattle.cltl.proofs.Basics.{lt_or_le}
-use Rattle.drift.specs.Tree.{kind_at, first_at, second_at}
+use Rattle.drift.specs.Tree.{Ordered, kind_at, first_at, second_at}
 use Rattle.drift.specs.Need.{more, need_node, Needs}
 use Rattle.drift.specs.NodeIs.{of_one, of_two, of_count}
+use Rattle.drift.specs.NodeTruth.{first_low}
 
 module _ (a b : ℕ) where
   less_more : a < b → b ≤ more a b
@@ -44,3 +45,11 @@ module _ (block needs : List ℕ) (k : ℕ) (w : Needs block needs (k + 1)) wher
 
     pub left_first : needed y ≤ needed x → (needed x ≤ needed k) × (needed y < needed k)
     left_first z = let m = least_more (needed x) (needed y) z in let n = two_need in (omega arith, omega arith)
+
+-- the operand of "not", "next", F or G is below it and needs no more pairs; it needs one itself
+pub operand : (block needs : List ℕ) (k x : ℕ) → Ordered block (k + 1) → Needs block needs (k + 1) → 2 ≤ kind_at block k → kind_at block k < 6
+    → x ≡ first_at block k → (x < k) × (get_or needs x 0 ≤ get_or needs k 0) × (0 < get_or needs k 0)
+operand block needs k x o n more less e =
+    let low = first_low block k o more in
+    let need = one_need block needs k n more less in
+    (omega (arith, e, low), subst (λ (i : ℕ). get_or needs i 0 ≤ get_or needs k 0) (sym e) need.0, need.1)

@@ -1,4 +1,5 @@
-// The carts and thresholds of counts, the slack of an or, and the steps at which its counts are true together.
+// The carts and thresholds of counts, the slack of an or, and the steps at which its counts are true together. `as` where a number is proved to fit: std has no
+// From for u32 to usize, and TryFrom would add an error that never comes.
 ghost use Rattle.std.specs.Prelude.{◌≡◌, cond, ℕ, ◌+◌, ◌-◌, ◌/◌, ◌^◌, ◌<◌, ◌≤◌, min, ltb, eqb, length};
 ghost use Rattle.std.specs.Int.Count.{ones};
 ghost use Rattle.cltl.specs.Threshold.{threshold as threshold_of, quota as quota_of};
@@ -77,10 +78,7 @@ pub fn asked_at(nodes: &[u8], who: u32, carts: usize, p: bool, k: usize) -> usiz
 pub fn slack_of(m: usize) -> u8
     ensures { result ≡ min 32 (m - 1) }
 {
-    if m == 0 {
-        return 0;
-    }
-    if 32 < m { 32 } else { (m - 1) as u8 }
+    m.saturating_sub(1).min(32) as u8
 }
 
 // The slack of two sides together, 32 at most.
@@ -88,7 +86,7 @@ pub fn added(a: u8, b: u8) -> u8
     requires { (a ≤ 32) × (b ≤ 32) }
     ensures { result ≡ min 32 (a + b) }
 {
-    if 32 < a + b { 32 } else { a + b }
+    (a + b).min(32)
 }
 
 // The steps at which more of the carts in a word than the slack satisfy, throughout, the text whose table begins at `at`.

@@ -2,7 +2,8 @@
 ghost use Rattle.std.specs.Prelude.{◌≡◌, Bool, List, ℕ, ◌+◌, ◌≤◌, get_or, length};
 ghost use Rattle.table.specs.Table.{Kept};
 ghost use Rattle.table.specs.Layout.{mark_at, Constants, Shown};
-ghost use Rattle.drift.specs.Tree.{Ordered, node_at};
+ghost use Rattle.drift.specs.Tree.{Ordered, kind_at, node_at};
+ghost use Rattle.drift.specs.Decoded.{IsKind};
 ghost use Rattle.drift.specs.Need.{Needs};
 ghost use Rattle.drift.specs.Places.{leaf_at, pairs_end, PairsFrom, Placed};
 ghost use Rattle.drift.specs.Answer.{rows_on, InnerTable};
@@ -26,11 +27,12 @@ fn mark_at(g: Ground, m: usize) -> usize
 }
 
 // Where a leaf's table lies.
-fn leaf_at(nodes: &[u8], g: Ground, k: usize) -> usize
+fn leaf_at(nodes: &[u8], kind: Kind, g: Ground, k: usize) -> usize
     requires ordered { Ordered nodes.now (k + 1) }
+    requires kind_value { IsKind kind (kind_at nodes.now k) }
     ensures { result ≡ leaf_at g.marks g.lasso.h (node_at nodes.now k) }
 {
-    match kind_at(nodes, k) {
+    match kind {
         Kind::Mark => mark_at(g, first_at(nodes, k)),
         _ => constant_at(g, true),
     }
@@ -57,6 +59,6 @@ pub fn inner_table(c: Clause, t: &mut [u32], g: Ground, at: usize, k: usize) -> 
             let second = inner_table(c, t, g, at + 2 * g.lasso.h, turn.second);
             place_two(o, turn.swapped, t, first, second, at, g)
         }
-        _ => leaf_at(c.nodes, g, k),
+        leaf => leaf_at(c.nodes, leaf, g, k),
     }
 }

@@ -1,5 +1,5 @@
 // One operator outside counts, with the tables of its operands where ors of counts are joined.
-ghost use Rattle.std.specs.Prelude.{◌≡◌, Bool, true, false, cond, List, [], ℕ, ◌+◌, ◌*◌, ◌<◌, ◌≤◌, ◌^◌, length, None, Some, IfSome, MatchOption};
+ghost use Rattle.std.specs.Prelude.{◌≡◌, Bool, true, cond, List, [], ℕ, ◌+◌, ◌*◌, ◌<◌, ◌≤◌, ◌^◌, None, Some, IfSome, MatchOption};
 ghost use Rattle.grammar.specs.Grammar.{Counted};
 ghost use Rattle.cltl.specs.Rules.{both, joint};
 ghost use Rattle.mask.specs.Mask.{on, Row};
@@ -41,7 +41,7 @@ fn both_sides(p: bool, first: Option<Joined>, second: Option<Joined>) -> Option<
 {
     let a = first?;
     let b = second?;
-    if p & (a.who == b.who) {
+    if p && a.who == b.who {
         Some((a, b))
     } else {
         None

@@ -1,18 +1,11 @@
 // How many pairs of places the text of each node needs.
-ghost use Rattle.std.specs.Prelude.{◌≡◌, ℕ, ◌+◌, ◌≤◌, ◌<◌, max, get_or, length};
+ghost use Rattle.std.specs.Prelude.{◌≡◌, ℕ, ◌+◌, ◌≤◌, ◌<◌, get_or, length};
 ghost use Rattle.drift.specs.Tree.{Ordered, kind_at, node_at};
 ghost use Rattle.drift.specs.Need.{more as more_of, need_node, Needs, InTurn};
 
 use crate::nodes::{first_at, kind_at, second_at};
 use crate::{Clause, Operands};
 use token::Kind;
-
-// An operator's own table takes a pair.
-fn at_least_one(a: u8) -> u8
-    ensures { result ≡ max 1 a }
-{
-    if a == 0 { 1 } else { a }
-}
 
 // Of two operands.
 fn more(a: u8, b: u8) -> u8
@@ -33,7 +26,8 @@ fn node_need(nodes: &[u8], needs: &[u8], k: usize) -> u8
 {
     match kind_at(nodes, k) {
         Kind::Top | Kind::Mark => 0,
-        Kind::Unary(_) => at_least_one(needs[first_at(nodes, k)]),
+        // An operator's own table takes a pair.
+        Kind::Unary(_) => needs[first_at(nodes, k)].max(1),
         Kind::Binary(_) => more(needs[first_at(nodes, k)], needs[second_at(nodes, k)]),
         Kind::Count { .. } => needs[first_at(nodes, k)],
     }

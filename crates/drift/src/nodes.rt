@@ -15,7 +15,8 @@ pub fn kind_at(nodes: &[u8], k: usize) -> Kind
     Kind::of_byte(nodes[4 * k])
 }
 
-// Whether a count's number is a percentage.
+// Whether a count's number is a percentage. Asked of the node again: handed on from the match in clause_judged, leaf_judged and asked_at would each have a
+// parameter more and require what it is, no plainer.
 pub fn percent_at(nodes: &[u8], k: usize) -> bool
     requires { Ordered nodes.now (k + 1) }
     ensures { result ≡ eqb (kind_at nodes.now k) 11 }
@@ -48,7 +49,8 @@ pub fn number_at(nodes: &[u8], k: usize) -> usize
     usize::from(number16(nodes[4 * k + 2], nodes[4 * k + 3] % 4))
 }
 
-// Which carts a count is over: 0 for all, one more than its number for a group.
+// Which carts a count is over: 0 for all, one more than its number for a group. No Option: `over_of`, `who_of` and marks' words of the carts are by this code,
+// and it is the place of the word behind the bits.
 pub fn over_at(nodes: &[u8], k: usize) -> usize
     requires { Ordered nodes.now (k + 1) }
     ensures { (result ≡ third_at nodes.now k / 4) × (result < 256) }

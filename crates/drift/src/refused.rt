@@ -1,5 +1,5 @@
 // What the refusals of a clause name: a group that the floor lacks, "next" outside a count, and the step at which a G fails.
-ghost use Rattle.std.specs.Prelude.{◌≡◌, Bool, ◌&&◌, ℕ, ◌+◌, ◌/◌, ◌<◌, ◌≤◌, ltb, length, MatchOption};
+ghost use Rattle.std.specs.Prelude.{◌≡◌, Bool, ◌&&◌, ℕ, ◌+◌, ◌/◌, ◌<◌, ◌≤◌, ltb, MatchOption};
 ghost use Rattle.cltl.specs.Rules.{has_next};
 ghost use Rattle.cltl.specs.Step.{lowest, failing};
 ghost use Rattle.mask.specs.Mask.{on};
@@ -13,7 +13,7 @@ ghost use Rattle.drift.specs.Answer.{rows_on};
 
 use crate::clauses::clause_row;
 use crate::nodes::{first_at, kind_at, over_at, second_at};
-use crate::{Clause, Ground, Scratch};
+use crate::{Clause, Ground};
 use token::{Kind, Unary};
 
 // Whether node k is a count over a group that a floor with so many lacks.
@@ -47,6 +47,7 @@ pub fn has_next(nodes: &[u8], k: usize) -> bool
     ensures { (n : ℕ) → k < n → result ≡ has_next (clause_tree nodes.now n k) }
 {
     match kind_at(nodes, k) {
+        // A match in a match: after `Unary(Next)` an arm `Unary(_)` is not told that it is no "next" (tried).
         Kind::Unary(o) => match o {
             Unary::Next => true,
             _ => has_next(nodes, first_at(nodes, k)),
@@ -54,6 +55,7 @@ pub fn has_next(nodes: &[u8], k: usize) -> bool
         Kind::Binary(_) => {
             let a = has_next(nodes, first_at(nodes, k));
             let b = has_next(nodes, second_at(nodes, k));
+            // Not `||`: `two_tells` is of both answers; where one is not asked the check finds no proof (tried), and a lemma more would be needed.
             a | b
         }
         _ => false,
@@ -79,10 +81,7 @@ fn globally_at(nodes: &[u8], k: usize) -> Option<usize>
     ensures { MatchOption result (kind_at nodes.now k ≡ 5 → ⊥) (λ x. (kind_at nodes.now k ≡ 5) × (x ≡ first_at nodes.now k)) }
 {
     match kind_at(nodes, k) {
-        Kind::Unary(o) => match o {
-            Unary::Globally => Some(first_at(nodes, k)),
-            _ => None,
-        },
+        Kind::Unary(Unary::Globally) => Some(first_at(nodes, k)),
         _ => None,
     }
 }
@@ -91,22 +90,23 @@ fn globally_at(nodes: &[u8], k: usize) -> Option<usize>
 pub fn failing_step(
     c: Clause,
     t: &mut [u32],
-    s: &mut Scratch,
+    w: &mut [u32; 81],
+    tallies: &mut [u8; 2048],
     bits: &[u32; 41],
     g: Ground,
     k: usize,
 ) -> usize
     requires lent { Lent g t.old bits.now }
     requires clause_nodes { ClauseNodes c.nodes.now c.needs.now k }
-    requires tallies { Tallies g t.old s.old.tallies }
+    requires tallies { Tallies g t.old tallies.old }
     ensures kept { Kept (pairs_at g.marks g.lasso.h) t.old t.new
-        × Tallies g t.new s.new.tallies }
+        × Tallies g t.new tallies.new }
     ensures by_index { ((bears : ℕ → ℕ → ℕ → Bool) → Shown g.marks g.carts g.lasso.h bears t.old → (n : ℕ) → k < n
         → result ≡ failing (rows_on g.carts g.lasso.h g.lasso.l bears bits.now) g.drift (clause_tree c.entry.nodes.now n k)) × (result ≤ 64) }
 {
     let Some(x) = globally_at(c.nodes, k) else {
         return 0;
     };
-    let body = clause_row(c, t, s, bits, g, true, x);
+    let body = clause_row(c, t, w, tallies, bits, g, true, x);
     lowest_off(body, g.lasso.h)
 }

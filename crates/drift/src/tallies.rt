@@ -7,8 +7,8 @@ ghost use Rattle.quorum.specs.Words.{within};
 ghost use Rattle.drift.specs.Lent.{Lent};
 ghost use Rattle.drift.specs.Tallies.{KeptAt, TalliesOf, Tallies};
 
+use crate::Ground;
 use crate::places::chosen;
-use crate::{Ground, Scratch};
 use quorum::Fleet;
 
 // Where the tallies of the mark whose table begins at `from` are kept, or of its negation; nowhere if the table is no mark's or there is no room.
@@ -40,12 +40,21 @@ fn kept_for(who: u32, fleet: u32, from: usize, p: bool, g: Ground) -> Option<usi
 }
 
 // Makes the tallies of all carts that are kept at `at`, unless they are there already.
-fn fill_if_none(t: &[u32], from: usize, p: bool, who: u32, s: &mut Scratch, g: Ground, at: usize)
+fn fill_if_none(
+    t: &[u32],
+    from: usize,
+    p: bool,
+    who: u32,
+    w: &mut [u32; 81],
+    tallies: &mut [u8; 2048],
+    g: Ground,
+    at: usize,
+)
     requires h_in_bounds { (from + g.lasso.h ≤ length t.now) × (who ≡ 2 ^ g.carts - 1) }
-    requires tallies { Tallies g t.now s.old.tallies × KeptAt g from p at }
-    ensures tallies_2 { Tallies g t.now s.new.tallies × TalliesOf g t.now from p at s.new.tallies }
+    requires tallies { Tallies g t.now tallies.old × KeptAt g from p at }
+    ensures tallies_2 { Tallies g t.now tallies.new × TalliesOf g t.now from p at tallies.new }
 {
-    if s.tallies[at] < 255 {
+    if tallies[at] < 255 {
         return;
     }
     let fleet = Fleet {
@@ -53,7 +62,7 @@ fn fill_if_none(t: &[u32], from: usize, p: bool, who: u32, s: &mut Scratch, g: G
         lasso: g.lasso,
         drift: g.drift,
     };
-    quorum::fill_tallies(t, from, p, who, fleet, &mut s.w, &mut s.tallies, at);
+    quorum::fill_tallies(t, from, p, who, fleet, w, tallies, at);
 }
 
 // The rule for a count with threshold m, over the carts in a word, of the text (p), or the negation of the text, whose table begins at `from`.
@@ -63,14 +72,15 @@ pub fn count_told(
     p: bool,
     m: usize,
     who: u32,
-    s: &mut Scratch,
+    w: &mut [u32; 81],
+    tallies: &mut [u8; 2048],
     bits: &[u32; 41],
     g: Ground,
 ) -> u64
     requires lent { Lent g t.now bits.now }
-    requires tallies { Tallies g t.now s.old.tallies }
+    requires tallies { Tallies g t.now tallies.old }
     requires h_in_bounds { (from + g.lasso.h ≤ length t.now) × (who < 2 ^ g.carts) }
-    ensures tallies_2 { Tallies g t.now s.new.tallies }
+    ensures tallies_2 { Tallies g t.now tallies.new }
     ensures row { Row g.lasso.h result (quorum g.lasso.h g.lasso.l g.carts g.drift m (within who (λ i s. signed p (told t.now from i s)))) }
 {
     let Some(at) = kept_for(who, bits[32], from, p, g) else {
@@ -79,10 +89,8 @@ pub fn count_told(
             lasso: g.lasso,
             drift: g.drift,
         };
-        return quorum::count_row(t, from, p, m, who, fleet, &mut s.w, bits);
+        return quorum::count_row(t, from, p, m, who, fleet, w, bits);
     };
-    fill_if_none(t, from, p, who, s, g, at);
-    quorum::tallied_row(
-        t, from, p, m, who, g.carts, g.lasso.h, &mut s.w, &s.tallies, at, bits,
-    )
+    fill_if_none(t, from, p, who, w, tallies, g, at);
+    quorum::tallied_row(t, from, p, m, who, g.carts, g.lasso.h, w, tallies, at, bits)
 }

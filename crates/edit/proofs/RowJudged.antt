@@ -63,8 +63,8 @@ module _ (floor plan : List ℕ) (c : ℕ) (row : List ℕ) where
       by b q = outcome ∙ ap (λ (t : Bool). record { answer = v; out = cond t (stored plan (row_at n.head.steps c) row) plan }) q
 
     -- the moves or the row are refused
-    pub unfit : (e : Refused) → told e ≡ judging → ReplacementJudged floor plan c row (Err e)
-    unfit e q = stays e (by (told e) q false (refused_stops e))
+    pub refused_after : (e : Refused) → told e ≡ judging → ReplacementJudged floor plan c row (Err e)
+    refused_after e q = stays e (by (told e) q false (refused_stops e))
 
     -- both are accepted
     pub judged : Accepted ≡ judging → (at : ℕ) → at ≡ row_at r.plan.head.steps c → ReplacementJudged floor plan c row (Ok at)

@@ -5,9 +5,9 @@ use native.Mathlib.Omega.{arith}
 use mathlib.Core.Path.{◌≡◌, refl, sym, ap, ap₂, subst, ◌∙◌}
 use mathlib.Core.List.{List, [], ◌∷◌, ◌++◌, map, flatten, append-nil, append_assoc}
 use lib.ListN.{length, take, drop, replicate, length-append, length-drop, length-map}
-use lib.Seq.{take_all, length-take-le}
+use lib.Seq.{take_all, take_at, length-take-le}
 use Rattle.record.specs.Buffer.{stored}
-use Rattle.record.specs.Stored.{stored_more, length-stored, stored_nothing}
+use Rattle.record.specs.Stored.{stored_front, stored_more, length-stored, stored_nothing}
 use Rattle.record.specs.All.{AllOf, all_of}
 use Rattle.plan.specs.Numbers.{plan_bytes, plan_file}
 use Rattle.plan.specs.Plan.{block_rows, held_numbers}
@@ -108,6 +108,11 @@ module _ (h : Head) (s : ℕ) (block : List ℕ) where
                 ∙ stored_more (replicate 2048 0) 0 (moved_in c) row (omega (arith, w.filled, room)) ∙ ap (stored (replicate 2048 0) 0) (sym more);
             filled = ap length more ∙ length-append (moved_in c) row ∙ omega (arith, w.filled, row-length s h r.stem (part c) n, suc-mul c size);
           })
+
+  pub front : (size : ℕ) (rows : List ℕ) (c : ℕ) → Moving size rows c → take (c * size) rows ≡ moved_in c
+  front size rows c w =
+      ap (take (c * size)) (w.is ∙ stored_front (replicate 2048 0) (moved_in c))
+      ∙ take_at (moved_in c) (drop (length (moved_in c)) (replicate 2048 0)) (c * size) w.filled
 
   -- the file of the moved plan, from the rows' front and the head
   module _ (r : HeadInRange h) (long : length block ≡ 2048) (carts : ℕ) (few : carts ≤ 32) where

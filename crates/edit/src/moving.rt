@@ -1,4 +1,4 @@
-// Moving a plan on.
+// Moving a plan on. Casts by `as` are from wider to narrower, proved to fit: TryFrom would add an error that never comes.
 ghost use Rattle.std.specs.Prelude.{◌≡◌, ◌+◌, ◌*◌, ◌≤◌, ◌<◌, length, take};
 ghost use mathlib.Core.List.{map, flatten};
 ghost use Rattle.refusal.specs.Outcome.{Gives, written};
@@ -48,7 +48,7 @@ fn moved_row(row: &[u8], stem: usize, s: usize, out: &mut [u8], at: usize)
     put_turned(&row[stem..], k, out, at);
 }
 
-// The rows of a block moved on, one after the other with nothing between them.
+// The rows of a block moved on, one after the other with nothing between them. Where a row lies is one line, as in moves: a function would be no plainer.
 fn moved_rows(carts: usize, h: Head, block: &[u8; 2048], s: usize, size: usize) -> [u8; 2048]
     requires head_in_range { HeadInRange h }
     requires carts_bound { (carts ≤ 32) × (size ≡ (moved_head s h).steps) }
@@ -95,5 +95,11 @@ pub fn move_on(floor: &[u8], plan: &[u8], s: u16, out: &mut [u8]) -> Result<u32,
     ensures added_up { MovesAddUp floor.now plan.now s out.old (wrote result) out.new }
 {
     let r = plan::read(floor, plan)?;
-    put_moved(r.floor.carts, r.plan.head, &r.plan.block, s as usize, out)
+    put_moved(
+        r.floor.carts,
+        r.plan.head,
+        &r.plan.block,
+        usize::from(s),
+        out,
+    )
 }

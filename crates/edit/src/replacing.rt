@@ -1,5 +1,6 @@
-// Replacing a row: judged first, and written only where that accepts.
-ghost use Rattle.std.specs.Prelude.{◌≡◌, ℕ, ◌≤◌, ◌<◌, Err};
+// Replacing a row: judged first, and written only where that accepts. Casts by `as`: u32 to usize has no From, and where a step becomes a u32 it is proved to
+// fit, so TryFrom would add an error that never comes.
+ghost use Rattle.std.specs.Prelude.{◌≡◌, ℕ, ◌<◌, Err};
 ghost use Rattle.floor.specs.Promises.{AcceptedFloor};
 ghost use Rattle.plan.specs.Plan.{held_numbers};
 ghost use Rattle.plan.specs.Valid.{HeadInRange};
@@ -32,10 +33,7 @@ fn judge_fit(f: Floor, h: Head, cart: u32, row: &[u8]) -> Result<(), Refused>
     if f.carts <= cart as usize {
         return Err(Refused::Plan(refusal::refuse(19, cart, 0)));
     }
-    match plan::judge_row(row, h.steps, f.places) {
-        Ok(()) => Ok(()),
-        Err(fault) => Err(refused_row(cart, fault)),
-    }
+    plan::judge_row(row, h.steps, f.places).map_err(|fault| refused_row(cart, fault))
 }
 
 // Judges the moves of a plan that is read already, and then a row for a cart. Its fit is judged first, so that its moves can follow the plan's

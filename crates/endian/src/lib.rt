@@ -1,4 +1,4 @@
-// Little-endian numbers and their bytes.
+// Little-endian numbers and their bytes. A pair for each width: `from_le_bytes` and `to_le_bytes` are each integer type's own, of no trait.
 #![tactic(auto, unfolding(crate::specs::Little::bytes, crate::specs::Little::value))]
 
 ghost use Rattle.std.specs.Prelude.{◌≡◌, [], ◌∷◌};

@@ -1,4 +1,4 @@
-// One record of a floor, judged behind those already counted.
+// One record of a floor, judged behind those already counted. Its cast by `as` is proved to fit: TryFrom would add an error that never comes.
 #![tactic(auto, using(std::proofs::lemmas::Bool::Decides::nat_tests), unfolding(crate::specs::Floor::judged))]
 
 ghost use Rattle.std.specs.Prelude.{◌≡◌, [], ◌∷◌, ◌^◌, ◌≤◌, leb};
@@ -15,6 +15,7 @@ fn any_counted(lanes: usize, carts: usize, narrow: usize, groups: usize) -> bool
     (lanes | carts | narrow | groups) != 0
 }
 
+// Each kind's judge. An error is document 01's number of the refusal, as `judged` states it.
 fn judge_place(f: Floor, body: &[u8]) -> Result<Floor, u32>
     ensures { result ≡ judged f 1 body.now }
 {
@@ -110,7 +111,7 @@ fn has_absent(word: u32, carts: usize) -> bool
     if 32 <= carts {
         return false;
     }
-    (1u64 << carts) <= (word as u64)
+    (1u64 << carts) <= u64::from(word)
 }
 
 fn judge_group(f: Floor, body: &[u8]) -> Result<Floor, u32>

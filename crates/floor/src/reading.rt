@@ -1,4 +1,4 @@
-// Reading a floor.
+// Reading a floor. Casts by `as` are from wider to narrower, proved to fit: TryFrom would add an error that never comes.
 ghost use Rattle.std.specs.Prelude.{◌≡◌, false, ◌≤◌, Ok};
 ghost use Rattle.floor.specs.Floor.{at_end, floor_verdict};
 ghost use Rattle.floor.specs.Promises.{FloorRead};
@@ -44,7 +44,7 @@ pub fn read(s: &[u8]) -> Result<Floor, Refusal>
     }
 }
 
-// The answer as a verdict.
+// The answer as a verdict. Kept: `floor_verdict` and docs/TRUST.md name it. No From: `Verdict` is of crate refusal, and `Floor` not of it.
 pub fn verdict_of(a: Result<Floor, Refusal>) -> Verdict
     ensures { result ≡ floor_verdict a }
 {

@@ -1,5 +1,5 @@
-// Writing a floor.
-ghost use Rattle.std.specs.Prelude.{◌≡◌, ◌+◌, ◌≤◌, min, length};
+// Writing a floor. Casts by `as` are from wider to narrower, proved to fit: TryFrom would add an error that never comes.
+ghost use Rattle.std.specs.Prelude.{◌≡◌, ◌+◌, ◌≤◌, ◌<◌, length, MatchOption};
 ghost use Rattle.refusal.specs.Outcome.{written, Gives};
 ghost use Rattle.refusal.specs.Results.{wrote};
 ghost use Rattle.refusal.specs.declared.Verdict.TheVariants.{Floor as AboutFloor};
@@ -26,9 +26,10 @@ struct Numbers<'a> {
     groups: &'a [u32],
 }
 
-// The length of a floor laid out, or 65,537 if it is longer than a file may be.
-fn laid_size(n: Numbers) -> usize
-    ensures { result ≡ min 65537 (length (floor_bytes (lent n.entry))) }
+// The length of a floor laid out, unless it is longer than a file may be.
+fn laid_size(n: Numbers) -> Option<usize>
+    ensures { MatchOption result (65536 < length (floor_bytes (lent n.entry)))
+        (λ k. (k ≡ length (floor_bytes (lent n.entry))) × (k ≤ 65536)) }
 {
     let places = n.places.len();
     let lanes = n.lanes.len();
@@ -36,22 +37,25 @@ fn laid_size(n: Numbers) -> usize
     let narrow = n.narrow.len();
     let groups = n.groups.len();
     if 65536 < places.max(lanes).max(carts).max(narrow).max(groups) {
-        return 65537;
+        return None;
     }
     let size = places * 8
         + (lanes
             + lanes.div_ceil(3) * 4
             + (carts + carts.div_ceil(2) * 4 + (narrow * 5 + groups * 8)));
-    size.min(65537)
+    if 65536 < size {
+        return None;
+    }
+    Some(size)
 }
 
 // Judges a floor's numbers as reading their records would.
 fn judge_numbers(n: Numbers) -> Result<Floor, Refusal>
     ensures { result ≡ read_floor (floor_bytes (lent n.entry)) }
 {
-    if 65536 < laid_size(n) {
+    let Some(_) = laid_size(n) else {
         return Err(refusal::at_offset(1, 0));
-    }
+    };
     let (f, lanes_at) = walk_words(Floor::default(), 0, 1, n.places)?;
     let (f, carts_at) = walk_parts(f, lanes_at, 2, 3, n.lanes)?;
     let (f, narrow_at) = walk_parts(f, carts_at, 3, 2, n.carts)?;
@@ -89,7 +93,8 @@ fn put_numbers(n: Numbers, out: &mut [u8]) -> Result<u32, Refused>
     requires { length (floor_bytes (lent n)) ≤ 65536 }
     ensures { Gives (written AboutFloor (floor_bytes (lent n.entry)) out.old) (wrote result) out.new }
 {
-    let size = laid_size(n);
+    // It has one: `requires` says that it is no longer than a file may be.
+    let size = laid_size(n).unwrap();
     if out.len() < size {
         return Err(Refused::Floor(refusal::refuse(18, size as u32, 0)));
     }

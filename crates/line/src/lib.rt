@@ -1,4 +1,5 @@
-// The line that document 01's program prints for a verdict.
+// The line that document 01's program prints for a verdict. Printed by hand, into fixed memory: `write!` promises its bytes only for a String, on the heap, and
+// `verdict_line` promises every byte of the lent buffer.
 #![tactic(auto)]
 
 ghost use Rattle.std.specs.Prelude.{◌≡◌, ◌+◌, ◌≤◌, ◌<◌, ◌∷◌, length};
@@ -17,12 +18,12 @@ fn put_bytes(out: &mut [u8], at: usize, s: &[u8]) -> usize
     at + s.len()
 }
 
-// A digit's byte.
+// A digit's byte. The cast is proved to fit: TryFrom would add an error that never comes.
 fn digit_byte(d: u32) -> u8
     requires { d < 10 }
     ensures { result ≡ digit_byte d }
 {
-    48 + d as u8
+    b'0' + d as u8
 }
 
 // Puts a number's digits.
@@ -53,16 +54,12 @@ fn put_refused(out: &mut [u8], about: u32) -> usize
     ensures put_at { PutAt (spaced (ascii "refused") (file_name about)) out.old 0 result out.new }
     ensures upper_bound { result ≤ 13 }
 {
-    if about == 1 {
-        return put_bytes(out, 0, b"refused floor");
+    match about {
+        1 => put_bytes(out, 0, b"refused floor"),
+        2 => put_bytes(out, 0, b"refused plan"),
+        3 => put_bytes(out, 0, b"refused rules"),
+        _ => put_bytes(out, 0, b"refused"),
     }
-    if about == 2 {
-        return put_bytes(out, 0, b"refused plan");
-    }
-    if about == 3 {
-        return put_bytes(out, 0, b"refused rules");
-    }
-    put_bytes(out, 0, b"refused")
 }
 
 // Lays out the line of a verdict, byte 10 included, and returns its length: at most 47 bytes, three numbers of ten digits being the longest.

@@ -1,5 +1,5 @@
 // Four carts' words turned, so that one mark's four bits stand side by side: bits in turn by twos, then twos by fours.
-ghost use Rattle.std.specs.Prelude.{◌+◌, ◌≤◌, ◌<◌, ◌≡◌, cond, length};
+ghost use Rattle.std.specs.Prelude.{◌+◌, ◌≤◌, ◌<◌, cond};
 ghost use Rattle.mask.specs.Mask.{on};
 ghost use Rattle.table.specs.Table.{Word};
 ghost use Rattle.marks.specs.Fours.{Fours, Packed};
@@ -39,7 +39,7 @@ fn upper(a: u32, b: u32) -> u32
     choose(0x3333_3333, a >> 2, b)
 }
 
-// Turns the words of step s.
+// Turns the words of step s. The words of the four carts lie 64 apart in one array, as `Packed` and `Gathered` have them.
 fn turn(words: &mut [u32; 256], s: usize)
     requires s_bound { s < 64 }
     ensures { Packed s (s + 1) words.old words.new }

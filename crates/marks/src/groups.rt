@@ -1,5 +1,5 @@
 // The carts of the fleet and of each group, a bit each.
-ghost use Rattle.std.specs.Prelude.{◌≡◌, get_or, length};
+ghost use Rattle.std.specs.Prelude.{◌≡◌, get_or};
 ghost use Rattle.floor.specs.Numbers.{numbers_of};
 ghost use Rattle.floor.specs.Promises.{AcceptedFloor};
 ghost use Rattle.table.specs.Table.{Stored};
@@ -18,6 +18,7 @@ fn group_or_none(floor: &[u8], f: Floor, g: usize) -> u32
     0
 }
 
+// By the code that nodes have for what a count is over: 0 for the fleet, one more than its number for a group. `carts_word` is by this code.
 fn word(floor: &[u8], f: Floor, fleet: u32, o: usize) -> u32
     requires { AcceptedFloor floor.now f }
     ensures { result ≡ carts_word fleet floor.now o }
@@ -28,7 +29,7 @@ fn word(floor: &[u8], f: Floor, fleet: u32, o: usize) -> u32
     group_or_none(floor, f, o - 1)
 }
 
-// Puts the word of the fleet and those of eight groups behind the 32 bits of a table.
+// Puts the word of the fleet and those of eight groups behind the 32 bits of a table: one array for both, since all that take the one take the other.
 pub fn fill_groups(floor: &[u8], f: Floor, fleet: u32, words: &mut [u32; 41])
     requires accepted_floor { AcceptedFloor floor.now f }
     ensures { Stored (λ o x. x ≡ carts_word fleet floor.now o) 32 0 9 words.old words.new }

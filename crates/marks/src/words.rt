@@ -14,7 +14,7 @@ pub(crate) fn marks_of(floor: &[u8], place: usize) -> u32
     endian::number32(floor[at + 4], floor[at + 5], floor[at + 6], floor[at + 7])
 }
 
-// The place on step s of cart i.
+// The place on step s of cart i: conflict has this line too, and marks knows no plan.
 fn place_on(block: &[u8; 2048], i: usize, s: usize) -> usize
     requires i_bound { (i < 32) × (s < 64) }
     ensures { result ≡ block_place block.now i s }

@@ -1,4 +1,4 @@
-// Checking the moves of a plan, carts in order.
+// Checking the moves of a plan, carts in order. Casts by `as` are from wider to narrower, proved to fit: TryFrom would add an error that never comes.
 #![tactic(auto)]
 
 ghost use Rattle.std.specs.Prelude.{◌≡◌, ℕ, ◌≤◌, ◌<◌, length, Err};
@@ -32,13 +32,12 @@ fn judge_cart_row(lanes: &Lanes<'_>, c: usize, row: &[u8], stem: usize) -> Resul
     ensures { checked result ≡ cart_verdict lanes.now.floor.now c row.now (length row.now) stem }
 {
     let at = floor::cart_at(lanes.counts, c) + 4;
-    match lanes.judge_moves(lanes.floor[at], lanes.floor[at + 1], row, stem) {
-        Ok(()) => Ok(()),
-        Err(fault) => Err(refused_move(c, fault)),
-    }
+    lanes
+        .judge_moves(lanes.floor[at], lanes.floor[at + 1], row, stem)
+        .map_err(|fault| refused_move(c, fault))
 }
 
-// Judges the rows of all carts.
+// Judges the rows of all carts. Where a cart's row lies is one line, here as in edit's moved_rows: a function for it would be no plainer.
 fn judge_carts(lanes: &Lanes<'_>, h: Head, block: &[u8; 2048]) -> Result<(), Refused>
     requires { RowsFit h }
     ensures { checked result ≡ judged_carts lanes.now.floor.now (held_numbers lanes.now.counts.carts h block.now) lanes.now.counts.carts 0 }

@@ -1,4 +1,4 @@
-// Reading a plan.
+// Reading a plan. The cast by `as` is from wider to narrower, proved to fit: TryFrom would add an error that never comes.
 ghost use Rattle.std.specs.Prelude.{◌≡◌, ◌≤◌, [], length};
 ghost use Rattle.refusal.specs.Codes.{at_offset};
 ghost use Rattle.refusal.specs.declared.Refused.TheVariants.{Plan as RefusedPlan};

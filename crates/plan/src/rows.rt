@@ -7,7 +7,7 @@ ghost use Rattle.plan.specs.Numbers.{row_at};
 use crate::{Head, RowFault};
 use floor::Floor;
 
-// The offset of cart c's row in a plan's file, its length and kind left out.
+// The offset of cart c's row in a plan's file, its length and kind left out. By `as`: std has no From from u32 to usize.
 pub fn row_at(steps: usize, c: u32) -> usize
     requires { steps ≤ 64 }
     ensures { result ≡ row_at steps c }
@@ -15,7 +15,7 @@ pub fn row_at(steps: usize, c: u32) -> usize
     10 + c as usize * (4 + steps) + 4
 }
 
-// Judges a row on its body alone: so many steps, each place on the floor.
+// Judges a row on its body alone: so many steps, each place on the floor. No `position`: tried, and no proof was found of what its closure runs over.
 #[tactic(auto, unfolding(crate::specs::Plan::judged_row))]
 pub fn judge_row(body: &[u8], steps: usize, places: usize) -> Result<(), RowFault>
     ensures { result ≡ judged_row body.now steps places }

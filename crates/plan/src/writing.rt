@@ -1,5 +1,5 @@
-// Writing a plan.
-ghost use Rattle.std.specs.Prelude.{◌≡◌, false, [], ◌+◌, ◌≤◌, ◌<◌, min, length};
+// Writing a plan. Casts by `as` are from wider to narrower, proved to fit: TryFrom would add an error that never comes.
+ghost use Rattle.std.specs.Prelude.{◌≡◌, false, [], ◌+◌, ◌≤◌, ◌<◌, length, MatchOption};
 ghost use Rattle.refusal.specs.Outcome.{Gives, written};
 ghost use Rattle.refusal.specs.Results.{wrote};
 ghost use Rattle.refusal.specs.declared.Verdict.TheVariants.{Plan as AboutPlan};
@@ -14,17 +14,24 @@ use crate::rows::judge_record;
 use floor::Floor;
 use refusal::{Refusal, Refused};
 
-// The length of a plan laid out, or 65,537 if it is longer than a file may be. With no steps all bytes are one record.
-fn laid_size(h: Head, rows: &[u8]) -> usize
-    ensures { result ≡ min 65537 (length (plan_bytes h rows.now)) }
+// The length of a plan laid out, unless it is longer than a file may be. With no steps all bytes are one record.
+fn laid_size(h: Head, rows: &[u8]) -> Option<usize>
+    ensures { MatchOption result (65536 < length (plan_bytes h rows.now)) (λ k. (k ≡ length (plan_bytes h rows.now)) × (k ≤ 65536)) }
 {
-    let len = rows.len().min(65537);
+    let len = rows.len();
+    if 65536 < len {
+        return None;
+    }
     let records = if h.steps == 0 {
         len.min(1)
     } else {
         len.div_ceil(h.steps)
     };
-    (10 + len + records * 4).min(65537)
+    let size = 10 + len + records * 4;
+    if 65536 < size {
+        return None;
+    }
+    Some(size)
 }
 
 // Judges rows laid out behind a head, as reading their records would.
@@ -51,9 +58,9 @@ fn judge_numbers(f: Floor, h: Head, rows: &[u8]) -> Result<(), Refusal>
     requires { Narrow h }
     ensures { result ≡ judged_numbers (read_plan f (plan_bytes h rows.now)) }
 {
-    if 65536 < laid_size(h, rows) {
+    let Some(_) = laid_size(h, rows) else {
         return Err(refusal::at_offset(1, 0));
-    }
+    };
     if out_of_range(h) {
         return Err(refusal::at_offset(8, 0));
     }
@@ -82,7 +89,8 @@ pub fn put_numbers(
     requires { (0 < steps) × (length (plan_bytes (head_of steps stem drift) rows.now) ≤ 65536) }
     ensures { Gives (written AboutPlan (plan_bytes (head_of steps stem drift) rows.now) out.old) (wrote result) out.new }
 {
-    let n = laid_size(head_of(steps, stem, drift), rows);
+    // It has one: `requires` says that it is no longer than a file may be.
+    let n = laid_size(head_of(steps, stem, drift), rows).unwrap();
     if out.len() < n {
         return Err(Refused::Plan(refusal::refuse(18, n as u32, 0)));
     }
@@ -101,7 +109,7 @@ fn head_of(steps: u16, stem: u16, drift: u16) -> Head
     }
 }
 
-// Writes a plan's numbers as a file for a floor, or refuses them as reading that file would.
+// Writes a plan's numbers as a file for a floor, or refuses them as reading that file would. The head's as C lends them, as above.
 pub fn write(
     floor: &[u8],
     steps: u16,

@@ -1,5 +1,6 @@
 // The clauses of an accepted sheet in one pass: 21 wherever it stands, else 16 wherever it stands, else the first 17.
-ghost use Rattle.std.specs.Prelude.{◌≡◌, Bool, false, cond, ℕ, ◌+◌, ◌≤◌, ◌<◌, eqb, length};
+// `as u32` for what a refusal names: it is proved to fit, and TryFrom would add an error that never comes.
+ghost use Rattle.std.specs.Prelude.{◌≡◌, Bool, ℕ, ◌+◌, ◌≤◌, ◌<◌, length};
 ghost use Rattle.refusal.specs.Results.{checked};
 ghost use Rattle.refusal.specs.Stages.{and_then};
 ghost use Rattle.refusal.specs.declared.Verdict.TheVariants.{Accepted};
@@ -19,7 +20,7 @@ ghost use Rattle.plancheck.specs.Check.{clause_verdict};
 ghost use Rattle.plancheck.specs.Turns.{next_of};
 ghost use Rattle.plancheck.specs.Readable.{Readable, clauses_read};
 
-use drift::{Clause, Ground, Scratch};
+use drift::{Clause, Ground};
 use floor::Floor;
 use mask::Lasso;
 use plan::{Head, PlanRead};
@@ -48,7 +49,8 @@ fn first_found(
     found: Result<(), Refused>,
     nodes: &[u8],
     t: &mut [u32],
-    s: &mut Scratch,
+    w: &mut [u32; 81],
+    tallies: &mut [u8; 2048],
     bits: &[u32; 41],
     g: Ground,
     k: usize,
@@ -56,8 +58,8 @@ fn first_found(
 ) -> Result<(), Refused>
     requires lent { Lent g t.old bits.now }
     requires ordered { Ordered nodes.now (k + 1) × (k < 128) × SixPairsDo nodes.now k }
-    requires tallies { Tallies g t.old s.old.tallies }
-    ensures kept { Kept (pairs_at g.marks g.lasso.h) t.old t.new × Tallies g t.new s.new.tallies }
+    requires tallies { Tallies g t.old tallies.old }
+    ensures kept { Kept (pairs_at g.marks g.lasso.h) t.old t.new × Tallies g t.new tallies.new }
     ensures by_index { (bears : ℕ → ℕ → ℕ → Bool) → Shown g.marks g.carts g.lasso.h bears t.old → (m : ℕ) → k < m → checked result ≡ and_then (checked found)
         (clause_verdict (rows_on g.carts g.lasso.h g.lasso.l bears bits.now) g.drift n (clause_tree nodes.now m k)) }
 {
@@ -68,11 +70,11 @@ fn first_found(
         nodes,
         needs: &needs,
     };
-    let row = drift::clause_row(c, t, s, bits, g, true, k);
+    let row = drift::clause_row(c, t, w, tallies, bits, g, true, k);
     if row % 2 == 1 {
         return Ok(());
     }
-    let step = drift::failing_step(c, t, s, bits, g, k);
+    let step = drift::failing_step(c, t, w, tallies, bits, g, k);
     Err(Refused::Rules(refusal::refuse(17, n, step as u32)))
 }
 
@@ -114,10 +116,8 @@ pub fn judge_lines(
     let mut bits = [0u32; 41];
     quorum::fill_bits(&mut bits);
     marks::fill_groups(floor, f, quorum::lowest(f.carts), &mut bits);
-    let mut s = Scratch {
-        w: [0u32; 81],
-        tallies: [255u8; 2048],
-    };
+    let mut w = [0u32; 81];
+    let mut tallies = [255u8; 2048];
     let mut nodes = [0u8; 512];
     let mut next = Ok(());
     let mut found = Ok(());
@@ -125,13 +125,24 @@ pub fn judge_lines(
     let mut n = 0;
     // No range: where the next clause begins is known once this one is read.
     while at < rules.len() {
+        // It never fails: a sheet that was accepted has a clause wherever one ended and bytes are left (proved: `line_reads`).
         let part = sheet::read_clause(rules, at, &mut nodes).unwrap();
         let last = part.n - 1;
-        if let Some(g) = drift::lacking_group(&nodes, part.n, f.groups) {
-            return Err(Refused::Rules(refusal::refuse(21, n, g as u32)));
+        if let Some(group) = drift::lacking_group(&nodes, part.n, f.groups) {
+            return Err(Refused::Rules(refusal::refuse(21, n, group as u32)));
         }
         next = first_next(next, &nodes, last, h.drift, n);
-        found = first_found(next.and(found), &nodes, t, &mut s, &bits, g, last, n);
+        found = first_found(
+            next.and(found),
+            &nodes,
+            t,
+            &mut w,
+            &mut tallies,
+            &bits,
+            g,
+            last,
+            n,
+        );
         at = part.at;
         n += 1;
     }

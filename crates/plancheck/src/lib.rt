@@ -17,7 +17,8 @@ use clauses::judge_lines;
 use plan::PlanRead;
 use refusal::Refused;
 
-// Judges the clauses in a block of N words.
+// Judges the clauses in a block of N words. floor, r and rules stay three parameters down to judge_lines: the crates below take them one by one, and a struct
+// of them would be taken apart at each call.
 fn judge_in<const N: usize>(
     floor: &[u8],
     r: &PlanRead,

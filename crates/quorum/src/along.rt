@@ -1,5 +1,5 @@
 // The carts that keep to a text all along a window of drift + 1 counters.
-ghost use Rattle.std.specs.Prelude.{ℕ, ◌+◌, ◌^◌, ◌≤◌, ◌<◌, ◌≡◌, leb, length, get_or};
+ghost use Rattle.std.specs.Prelude.{ℕ, ◌+◌, ◌^◌, ◌≤◌, ◌<◌, leb, length, get_or};
 ghost use Rattle.cltl.specs.Rules.{throughout};
 ghost use Rattle.mask.specs.Mask.{Row};
 ghost use Rattle.table.specs.Table.{told};

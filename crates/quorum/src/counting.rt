@@ -1,5 +1,6 @@
 // The steps whose words have bits enough. A table of the bits is lent: to join its words makes vectors of a loop where to move bits does not.
-ghost use Rattle.std.specs.Prelude.{ℕ, ◌+◌, ◌^◌, ◌≤◌, ◌<◌, ◌≡◌, Bool, leb, length, get_or};
+// `as` only where a number gets narrower, here and in tallies and words: it is proved to fit, and TryFrom would add an error that never comes.
+ghost use Rattle.std.specs.Prelude.{ℕ, ◌+◌, ◌^◌, ◌≤◌, ◌<◌, ◌≡◌, Bool, leb, get_or};
 ghost use Rattle.std.specs.Int.Count.{ones};
 ghost use Rattle.mask.specs.Mask.{Row};
 ghost use Rattle.quorum.specs.Words.{Bits};
@@ -48,10 +49,10 @@ pub(crate) fn in_parts<F: Fn(usize, usize) -> u32>(from: usize, h: usize, part: 
         → Row h result (λ j. f (from + j)) }
 {
     if h <= 32 {
-        return part(from, h) as u64;
+        return u64::from(part(from, h));
     }
-    let low = part(from, 32) as u64;
-    let high = part(from + 32, h - 32) as u64;
+    let low = u64::from(part(from, 32));
+    let high = u64::from(part(from + 32, h - 32));
     low | (high << 32)
 }
 

@@ -8,7 +8,7 @@ mod running;
 mod tallies;
 mod words;
 
-ghost use Rattle.std.specs.Prelude.{ℕ, ◌+◌, ◌^◌, ◌≤◌, ◌<◌, ◌≡◌, ◌&&◌, eqb, length, get_or};
+ghost use Rattle.std.specs.Prelude.{ℕ, ◌+◌, ◌^◌, ◌≤◌, ◌<◌, ◌&&◌, eqb, length, get_or};
 ghost use Rattle.cltl.specs.Counting.{every};
 ghost use Rattle.cltl.specs.Rules.{quorum};
 ghost use Rattle.mask.specs.Mask.{Row, signed};
@@ -20,7 +20,8 @@ pub use fleet::Fleet;
 pub use tallies::{fill_tallies, tallied_row};
 pub use words::lowest;
 
-// The table of the bits that count_row, joint_row and tallied_row ask for.
+// The table of the bits that count_row, joint_row and tallied_row ask for. Behind the 32 bits is room for nine words of carts (marks): whatever is judged takes
+// both, and one parameter less is held on the stack for each of up to 79 nodes.
 pub fn fill_bits(bits: &mut [u32; 41])
     ensures { Bits bits.new }
 {

@@ -1,5 +1,5 @@
 // Running counts of all carts at once, cut off at 17 and in unary: 17 words from a step's own on, the one j further on with the carts whose count is above j.
-ghost use Rattle.std.specs.Prelude.{ℕ, ◌+◌, ◌≤◌, ◌<◌, ◌≡◌, cond, ltb, length, get_or};
+ghost use Rattle.std.specs.Prelude.{ℕ, ◌+◌, ◌≤◌, ◌<◌, ◌≡◌, cond, ltb, get_or};
 ghost use Rattle.std.specs.Int.Bits.{bit_and};
 ghost use Rattle.cltl.specs.Rules.{window};
 ghost use Rattle.cltl.specs.Running.{lap_count};

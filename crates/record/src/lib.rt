@@ -1,14 +1,14 @@
 // Records of a file: a two-byte body length, a two-byte kind and the body.
 #![tactic(auto)]
 
-ghost use Rattle.std.specs.Prelude.{◌≡◌, ◌+◌, ◌-◌, ◌≤◌, ◌<◌, min, length};
+ghost use Rattle.std.specs.Prelude.{◌≡◌, ◌+◌, ◌-◌, ◌≤◌, ◌<◌, length};
 ghost use Rattle.record.specs.Record.{encoded};
 ghost use Rattle.record.specs.Parts.{of_kind, laid};
 ghost use Rattle.record.specs.Found.{found_at};
 ghost use Rattle.record.specs.Buffer.{stored};
 
-// What stands at an offset of a file: nothing more, less than a record, or a record and where its body lies. Kept: three cases, which neither an Option nor a
-// Result has.
+// What stands at an offset of a file: nothing more, less than a record, or a record and where its body lies. Kept: `found_at` and the theorems on it
+// are of these three cases. The end of a file is no fault and no body, and `Cut` is a fault only to whoever reads on.
 #[derive(Clone, Copy)]
 pub enum Found {
     End,
@@ -48,7 +48,7 @@ pub fn copy_at(out: &mut [u8], at: usize, src: &[u8])
     out[at..at + src.len()].copy_from_slice(src);
 }
 
-// Writes a record at an offset. Every other byte stays.
+// Writes a record at an offset. Every other byte stays. Its cast by `as` is proved to fit: TryFrom would add an error that never comes.
 pub fn put(out: &mut [u8], at: usize, kind: u16, body: &[u8])
     requires { (length body.now < 65536) × (at + 4 + length body.now ≤ length out.old) }
     ensures { out.new ≡ stored out.old at (encoded (of_kind kind body.now)) }

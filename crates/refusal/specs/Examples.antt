@@ -6,7 +6,6 @@ use Rattle.refusal.specs.Stages.{and_then}
 use Rattle.refusal.specs.Outcome.{unchanged, written}
 use Rattle.refusal.specs.Given.{reading_floor, checking_moves, reading_sheet, checking_plan, replacing_row}
 use Rattle.refusal.specs.Numbered.{among}
-use Rattle.refusal.specs.declared.Code.{Code}
 use Rattle.refusal.specs.declared.Verdict.{Verdict}
 use Rattle.refusal.specs.declared.Verdict.TheVariants.{Accepted, Written, Floor, Plan, Rules}
 

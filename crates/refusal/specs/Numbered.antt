@@ -1,11 +1,10 @@
 -- A verdict that an operation may give is told by its four numbers: it is done exactly if its number is 0.
-use Rattle.std.specs.Prelude.{ℕ, zero, suc, ◌<◌, ◌≡◌, refl, Bool, true, false, cond, not, ◌&&◌, ◌||◌, ◌⊎◌, ◌↔◌, List, [], ◌∷◌, ◌++◌, eqb, ltb}
+use Rattle.std.specs.Prelude.{ℕ, zero, suc, ◌<◌, ◌≡◌, refl, Bool, true, false, cond, not, ◌&&◌, ◌||◌, ◌⊎◌, List, [], ◌∷◌, ◌++◌, eqb, ltb}
 use Rattle.std.proofs.Common.{arith, sym, ap, subst, ◌∙◌, inl, inr, eqb-true, eq-eqb, ltb-true}
 use Rattle.std.proofs.lemmas.Bool.{eqb-false}
 use Rattle.refusal.specs.Codes.{first_fault, unless_fault, code_of}
 use Rattle.refusal.specs.Faults.{either_false, not_is, or-true}
-use Rattle.refusal.specs.Given.{OneOf, Done, accepts, writes, Refusals, Given, RefusedAs, Answered}
-use Rattle.refusal.specs.declared.Code.{Code}
+use Rattle.refusal.specs.Given.{OneOf, accepts, writes, Refusals, Given, Answered}
 use Rattle.refusal.specs.declared.Verdict.{Verdict}
 use Rattle.refusal.specs.declared.Verdict.TheVariants.{Accepted, Written, Floor, Plan, Rules}
 

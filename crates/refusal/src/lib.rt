@@ -114,7 +114,7 @@ pub fn verdict_bytes(v: Verdict) -> [u8; 16]
     ]
 }
 
-// Whether a verdict accepts.
+// Whether a verdict accepts. Kept, though no function calls it now: it is public, and the definition `is_accepted`, of which laws speak, is what it gives.
 pub fn accepts(v: Verdict) -> bool
     ensures { result ≡ is_accepted v }
 {

@@ -8,7 +8,8 @@ use std::io::Read;
 use std::rt::Files;
 use std::{fs, io};
 
-// Reads until the buffer is full, the file ends or a read fails, and returns how many bytes it put at the start of the buffer.
+// Reads until the buffer is full, the file ends or a read fails, and returns how many bytes it put at the start of the buffer. A read says itself how far it
+// came; the range only bounds how often one is tried.
 fn fill(file: &mut impl Read, buf: &mut [u8]) -> usize
     ensures { IsPrefixLen result buf.new }
 {

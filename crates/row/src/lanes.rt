@@ -18,7 +18,8 @@ pub struct Lanes<'a> {
     pub ghost lanes_in_bounds: { counts.lanes ≤ length next.now },
 }
 
-// Links the lanes of an accepted floor, the last lane first. next has a link for each lane.
+// Links the lanes of an accepted floor, the last lane first. next has a link for each lane. Its cast by `as` is proved to fit: TryFrom would add an error
+// that never comes.
 pub fn link(s: &[u8], f: Floor, first: &mut [u16; 256], next: &mut [u16])
     requires accepted_floor { AcceptedFloor s.now f }
     requires first_value { first.old ≡ replicate 256 0 }

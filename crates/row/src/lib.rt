@@ -8,7 +8,7 @@ pub use lanes::{Lanes, link};
 pub use moves::next_step;
 
 // What is refused of a row's moves: it begins elsewhere than at the start, or the lowest step that is left by a move that is not open.
-#[derive(Clone, Copy, Debug, PartialEq, Eq)]
+#[derive(Clone, Copy)]
 pub enum MoveFault {
     Elsewhere,
     Shut(usize),

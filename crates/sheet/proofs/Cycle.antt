@@ -16,7 +16,7 @@ use Rattle.sheet.specs.Ranks.{LeafOf, leaf_nodes, leaf_flat, leaf_reader}
 use Rattle.token.specs.More.{WithNode}
 use Rattle.token.specs.Operator.{Stands, Lacks}
 use Rattle.token.specs.Joined.{part_length}
-use Rattle.sheet.specs.Room.{flat_size, Room, room}
+use Rattle.sheet.specs.Room.{flat_size, Room, room, refused_part}
 use Rattle.sheet.specs.Chained.{Chain, chain_refused, begun, ended, spent, broken, onward}
 use Rattle.token.specs.declared.Part.{Part}
 use Rattle.token.specs.declared.Fault.{Fault}
@@ -102,6 +102,12 @@ module _ (inner : Bool) (k : Joint) (level : ℕ) (s : List ℕ) (at n left : �
           spent (leaf_nodes inner) (leaf_flat inner) (flat_size inner) (joint_byte k) (joint_op k) (joint k) (flat-joint inner k)
           (links inner k level) s n left before (whole inner k level left (drop at s)) r block w i op z
 
+      -- no node is left for the operator
+      pub turn_shut : length before ≡ 512 → n + left ≤ 128 → r.left ≡ 0 → (f : Fault) → f ≡ record { number = 14; at = i }
+          → P (Err f) block (whole inner k level left (drop at s))
+      turn_shut long few z f e =
+          refused_part inner s n left before f block 14 i _ e (λ z. omega arith) (omega (arith, op.inside)) (turn_size long few) (turn_spent z)
+
       -- another part behind the operator
       module _ (some : 0 < r.left) (long : length before ≡ 512) (few : n + left ≤ 128) (late : List ℕ) where
         abbrev Next : Result Part Fault → Type 0
@@ -122,6 +128,13 @@ module _ (inner : Bool) (k : Joint) (level : ℕ) (s : List ℕ) (at n left : �
         module _ (p : Part) (next : Next (Ok p)) where
           pub next_room : Room r.n (r.left - 1) p
           next_room = room inner s r.n (r.left - 1) block p late (links inner k level (r.left - 1) (drop (i + 1) s)) next
+
+          -- its node and the operator's stand in the block
+          pub next_fits : (0 < p.n) × (p.n < 128) × (r.n - 1 < 128)
+          next_fits =
+              let m = turn_room in
+              let x = next_room in
+              (omega (arith, x.some), omega (arith, x.kept, m.kept), omega (arith, m.kept, m.some))
 
           pub turn_on : (q : Part) (after : List ℕ) → WithNode late p (two_byte (joint_op k) ∷ (r.n - 1) ∷ (p.n - 1) ∷ 0 ∷ []) q after
               → Turn q after × (q.left < r.left)

@@ -59,8 +59,3 @@ pub part_inside : (inner : Bool) (s : List ℕ) (n left : ℕ) (before : List �
     → PartIs (leaf_nodes inner) (leaf_flat inner) s n left before (Ok r) block g → r.at ≤ length s
 part_inside inner s n left before r block (no w t) h = absurd h
 part_inside inner s n left before r block (got a m t) h = h.inside
-
-pub fault_inside : (inner : Bool) (s : List ℕ) (n left : ℕ) (before : List ℕ) (f : Fault) (block : List ℕ) (g : Got (Form (LeafOf inner)))
-    → PartIs (leaf_nodes inner) (leaf_flat inner) s n left before (Err f) block g → f.at ≤ length s
-fault_inside inner s n left before f block (no w t) h = h.inside
-fault_inside inner s n left before f block (got a m t) h = absurd h

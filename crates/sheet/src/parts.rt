@@ -1,5 +1,7 @@
 // The four levels of a clause, which call each other in a cycle: an or-chain over and-chains over until-chains over smallest
-// parts. The levels still allowed fall at each call that goes further in.
+// parts. The levels still allowed fall at each call that goes further in. Of what these five functions are given only the text is
+// the same at every call, so a struct of it would be no plainer. What may follow an operator (one byte on, one node less) is
+// written out at each: a function for it would hide from the proofs the fields that they compute with.
 ghost use Rattle.std.specs.Prelude.{◌≡◌, ◌+◌, ◌≤◌, ◌<◌, length};
 ghost use Rattle.grammar.specs.Grammar.{small, untils, ands, ors};
 ghost use Rattle.sheet.specs.Ranks.{Reads, LeafReads};
@@ -54,10 +56,7 @@ fn small_part(
     match prefix_kind(b) {
         None => leaf_part(s, Part { at: i, ..p }, level, inner, nodes),
         Some(o) => {
-            if level == 0 {
-                return Err(refused(14, i));
-            }
-            if p.left == 0 {
+            if level == 0 || p.left == 0 {
                 return Err(refused(14, i));
             }
             let operand = Part {
@@ -90,10 +89,7 @@ fn leaf_part(
     if s[i] != b'[' {
         return Err(refused(13, i));
     }
-    if level == 0 {
-        return Err(refused(14, i));
-    }
-    if p.left == 0 {
+    if level == 0 || p.left == 0 {
         return Err(refused(14, i));
     }
     let text = Part {
@@ -121,10 +117,7 @@ fn until_part(
     match reach_at(s, r.at) {
         None => Ok(r),
         Some(k) => {
-            if level == 0 {
-                return Err(refused(14, k.at));
-            }
-            if r.left == 0 {
+            if level == 0 || r.left == 0 {
                 return Err(refused(14, k.at));
             }
             let rest = Part {

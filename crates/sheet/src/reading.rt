@@ -35,7 +35,7 @@ fn read_lines(s: &[u8]) -> Result<(), Fault>
     if 16384 < s.len() {
         return Err(refused(12, 0));
     }
-    if s.len() == 0 {
+    if s.is_empty() {
         return Err(refused(7, 0));
     }
     let mut nodes = [0u8; 512];
@@ -53,12 +53,9 @@ fn read_lines(s: &[u8]) -> Result<(), Fault>
     Ok(())
 }
 
-// Reads a rule sheet.
+// Reads a rule sheet. An offset is at most 16,384, so `as` keeps it, and `try_from` would bring an error that never comes.
 pub fn read(s: &[u8]) -> Result<(), Refused>
     ensures { RulesRead s.now (checked result) }
 {
-    match read_lines(s) {
-        Ok(()) => Ok(()),
-        Err(f) => Err(Refused::Rules(refusal::at_offset(f.number, f.at as u32))),
-    }
+    read_lines(s).map_err(|f| Refused::Rules(refusal::at_offset(f.number, f.at as u32)))
 }

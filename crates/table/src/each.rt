@@ -21,7 +21,7 @@ fn each_word<F: Fn(u32, u32) -> u32>(t: &mut [u32], a: usize, b: usize, k: usize
     }
 }
 
-// "and" (p) or "or" of the tables at a and b.
+// "and" (p) or "or" of the tables at a and b. By a flag, as `join` and `fix` are: a negation turns it over, and each law is then of both at once.
 pub fn join_table(p: bool, t: &mut [u32], a: usize, b: usize, k: usize, h: usize)
     requires h_in_bounds { (a + h ≤ length t.old) × (b + h ≤ length t.old) × (k + h ≤ length t.old) }
     requires apart { Apart a k h × Apart b k h }

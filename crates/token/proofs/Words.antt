@@ -67,55 +67,58 @@ module _ (s : List ℕ) (left i : ℕ) where
   abbrev then : Got (Unit {0}) → Got (Unit {0})
   then g = bind g (λ u m r₁. node (drop i s) m (λ m₁. got tt m₁ r₁))
 
-  -- k of those bytes were there, and j is behind them
-  pub record Spelled (k j : ℕ) : Type 0 where
-    pub is : j ≡ i + 1 + k
-    pub inside : j ≤ length s
-    pub same : word_got s left i ≡ then (literal {A = Unit {0}} (drop k rue) tt left (drop j s))
+  -- k of those bytes were there
+  pub record Spelled (k : ℕ) : Type 0 where
+    pub inside : i + 1 + k ≤ length s
+    pub same : word_got s left i ≡ then (literal {A = Unit {0}} (drop k rue) tt left (drop (i + 1 + k) s))
 
-  pub spelled_none : i < length s → Spelled 0 (i + 1)
+  pub spelled_none : i < length s → Spelled 0
   spelled_none l = record {
-    is = omega arith;
     inside = omega arith;
-    same = ap (λ (j : ℕ). then (literal {A = Unit {0}} rue tt left (drop j s))) (sym (add-one i));
+    same =
+        let q : suc i ≡ i + 1 + 0 = omega arith in
+        ap (λ (j : ℕ). then (literal {A = Unit {0}} rue tt left (drop j s))) q;
   }
 
-  module _ (k j : ℕ) (w : Spelled k j) where
-    module _ (l : k < 3) (b : Bool) (y : ByteAt s j (get_or rue k 0) b) where
+  module _ (k : ℕ) (w : Spelled k) where
+    module _ (l : k < 3) (b : Bool) (y : ByteAt s (i + 1 + k) (get_or rue k 0) b) where
       next : drop k rue ≡ get_or rue k 0 ∷ drop (suc k) rue
       next = drop-cons rue k 0 l
 
-      pub spelled_off : b ≡ false → word_got s left i ≡ no 13 (drop j s)
+      pub spelled_off : b ≡ false → word_got s left i ≡ no 13 (drop (i + 1 + k) s)
       unfolding bind
       spelled_off e =
-          w.same ∙ ap (λ (v : List ℕ). then (literal {A = Unit {0}} v tt left (drop j s))) next
-          ∙ ap then (literal_miss (get_or rue k 0) (drop (suc k) rue) left (drop j s) (y.no e))
+          w.same ∙ ap (λ (v : List ℕ). then (literal {A = Unit {0}} v tt left (drop (i + 1 + k) s))) next
+          ∙ ap then (literal_miss (get_or rue k 0) (drop (suc k) rue) left (drop (i + 1 + k) s) (y.no e))
 
-      pub spelled_on : b ≡ true → Spelled (k + 1) (j + 1)
+      pub spelled_on : b ≡ true → Spelled (k + 1)
       spelled_on e =
           let h = y.low e in
+          let q : suc (i + 1 + k) ≡ i + 1 + (k + 1) = omega arith in
           record {
-            is = omega (arith, w.is);
             inside = omega arith;
             same =
-                w.same ∙ ap (λ (v : List ℕ). then (literal {A = Unit {0}} v tt left (drop j s))) next
-                ∙ ap then (literal_hit (get_or rue k 0) (drop (suc k) rue) left (drop j s) (drop (suc j) s) (y.yes e))
-                ∙ ap₂ (λ (a c : ℕ). then (literal {A = Unit {0}} (drop a rue) tt left (drop c s))) (sym (add-one k)) (sym (add-one j));
+                w.same ∙ ap (λ (v : List ℕ). then (literal {A = Unit {0}} v tt left (drop (i + 1 + k) s))) next
+                ∙ ap then (literal_hit (get_or rue k 0) (drop (suc k) rue) left (drop (i + 1 + k) s) (drop (suc (i + 1 + k)) s) (y.yes e))
+                ∙ ap₂ (λ (a c : ℕ). then (literal {A = Unit {0}} (drop a rue) tt left (drop c s))) (sym (add-one k)) q;
           }
 
-    module _ (e : 3 ≤ k) where
-      whole : word_got s left i ≡ node (drop i s) left (λ m₁. got tt m₁ (drop j s))
+    module _ (e : k ≡ 3) where
+      whole : word_got s left i ≡ node (drop i s) left (λ m₁. got tt m₁ (drop (i + 4) s))
       unfolding bind literal
-      whole = w.same ∙ ap (λ (v : List ℕ). then (literal {A = Unit {0}} v tt left (drop j s))) (drop_of_length-le rue {i = k} e)
+      whole =
+          let q : i + 1 + k ≡ i + 4 = omega (arith, e) in
+          w.same ∙ ap (λ (v : List ℕ). then (literal {A = Unit {0}} v tt left (drop (i + 1 + k) s))) (drop_of_length-le rue {i = k} (omega (arith, e)))
+          ∙ ap (λ (j : ℕ). node (drop i s) left (λ m₁. got tt m₁ (drop j s))) q
 
       pub word_spent : left ≡ 0 → word_got s left i ≡ no 14 (drop i s)
       unfolding node
-      word_spent z = whole ∙ ap (λ (m : ℕ). node {A = Unit {0}} (drop i s) m (λ m₁. got tt m₁ (drop j s))) z
+      word_spent z = whole ∙ ap (λ (m : ℕ). node {A = Unit {0}} (drop i s) m (λ m₁. got tt m₁ (drop (i + 4) s))) z
 
-      pub word_read : 0 < left → word_got s left i ≡ got tt (left - 1) (drop j s)
+      pub word_read : 0 < left → word_got s left i ≡ got tt (left - 1) (drop (i + 4) s)
       unfolding node
       word_read l =
-          let q : left ≡ suc (left - 1) = omega arith in whole ∙ ap (λ (m : ℕ). node {A = Unit {0}} (drop i s) m (λ m₁. got tt m₁ (drop j s))) q
+          let q : left ≡ suc (left - 1) = omega arith in whole ∙ ap (λ (m : ℕ). node {A = Unit {0}} (drop i s) m (λ m₁. got tt m₁ (drop (i + 4) s))) q
 
 -- a mark, by its number
 pub mark_off : (s : List ℕ) (left i : ℕ) → i < length s → (get_or s i 0 ≡ 109 → ⊥) → marks left (drop i s) ≡ no 13 (drop i s)

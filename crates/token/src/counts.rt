@@ -55,13 +55,10 @@ fn group_digit(s: &[u8], j: usize) -> Option<usize>
         return None;
     }
     let b = s[j];
-    if b < 48 {
+    if b < b'0' || b'7' < b {
         return None;
     }
-    if 55 < b {
-        return None;
-    }
-    Some((b - 48) as usize)
+    Some(usize::from(b - b'0'))
 }
 
 // The amount with its group, if one stands behind its number.
@@ -105,7 +102,7 @@ fn carts(over: Option<usize>) -> usize
     }
 }
 
-// A count's node, behind its inner text.
+// A count's node, behind its inner text. By `as`: the bytes fit, and `try_from` would bring an error that never comes.
 fn with_count(nodes: &mut [u8; 512], r: Part, k: Amount) -> Part
     requires { (0 < r.n) × (r.n < 128) × (k.value ≤ 999) × low_group k.over }
     ensures { WithNode nodes.old r (node_bytes (count_n (r.n - 1) (amount_of k))) result nodes.new }

@@ -25,18 +25,18 @@ pub fn reach_at(s: &[u8], at: usize) -> Option<ReachAt>
 {
     let i = spaces(s, at);
     if is_at(s, i, b'U') {
-        return Some(reach(i, Binary::Until));
+        return Some(ReachAt {
+            at: i,
+            operator: Binary::Until,
+        });
     }
     if is_at(s, i, b'R') {
-        return Some(reach(i, Binary::Release));
+        return Some(ReachAt {
+            at: i,
+            operator: Binary::Release,
+        });
     }
     None
-}
-
-fn reach(at: usize, operator: Binary) -> ReachAt
-    ensures { result ≡ record { at = at; operator = operator } }
-{
-    ReachAt { at, operator }
 }
 
 // A part up to behind the byte that has to follow it.
@@ -78,20 +78,19 @@ pub fn word(s: &[u8], p: Part, nodes: &mut [u8; 512]) -> Result<Part, Fault>
     requires { (p.at < length s.now) × (p.n + p.left ≤ 128) }
     ensures { LeafIs (λ u. top_n) s.now p.n p.left nodes.old result nodes.new (word_got s.now p.left p.at) }
 {
-    let mut i = p.at + 1;
-    for c in b"rue" {
+    for (k, c) in b"rue".iter().enumerate() {
+        let i = p.at + 1 + k;
         if !is_at(s, i, *c) {
             return Err(refused(13, i));
         }
-        i += 1;
     }
     if p.left == 0 {
         return Err(refused(14, p.at));
     }
-    Ok(alone(nodes, Part { at: i, ..p }, Kind::Top, 0))
+    Ok(alone(nodes, Part { at: p.at + 4, ..p }, Kind::Top, 0))
 }
 
-// A mark, at its first byte.
+// A mark, at its first byte. Its number becomes a byte by `as`: it is at most 31, and `try_from` would bring an error that never comes.
 pub fn mark(s: &[u8], p: Part, nodes: &mut [u8; 512]) -> Result<Part, Fault>
     requires { (p.at < length s.now) × (p.n + p.left ≤ 128) }
     ensures { LeafIs mark_n s.now p.n p.left nodes.old result nodes.new (marks p.left (drop p.at s.now)) }

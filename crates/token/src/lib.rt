@@ -15,7 +15,8 @@ pub use nodes::{refused, with_one, with_two};
 pub use tokens::spaces;
 
 // How far reading has come: an offset, the nodes still allowed, and how many nodes stand in the block. Behind a part that was
-// read, its own node is the last of them.
+// read, its own node is the last of them. That left and n make at most 128 stands with the functions that need it: as a ghost field
+// it would ask more of those who call `expect`, `with_one`, `with_two` or `count_end`.
 #[derive(Clone, Copy)]
 pub struct Part {
     pub at: usize,
@@ -23,7 +24,7 @@ pub struct Part {
     pub n: usize,
 }
 
-// A refusal's number, and the refused offset.
+// A refusal's number, and the refused offset. The number stays one: the definition's readers refuse by it (`no 13`), and C gets it.
 #[derive(Clone, Copy)]
 pub struct Fault {
     pub number: u32,
@@ -38,7 +39,7 @@ pub struct Num {
 }
 
 // An amount that was read: the offset behind it, its number, whether it is a percentage, and the group of its carts, or none for
-// the whole fleet.
+// the whole fleet. The flag is the number's unit, which its node's kind says in the same way.
 #[derive(Clone, Copy)]
 pub struct Amount {
     pub at: usize,

@@ -1,12 +1,12 @@
-// Nodes put into the block, four bytes to each.
-ghost use Rattle.std.specs.Prelude.{◌≡◌, [], ◌∷◌, ◌≤◌, ◌<◌, ◌*◌, ◌-◌};
+// Nodes put into the block, four bytes to each. Numbers become bytes by `as`: they fit, and `try_from` would bring an error that never comes.
+ghost use Rattle.std.specs.Prelude.{◌≡◌, [], ◌∷◌, ◌<◌, ◌*◌, ◌-◌};
 ghost use Rattle.record.specs.Buffer.{stored};
 ghost use Rattle.token.specs.Block.{kind_byte, unary_byte, binary_byte};
 ghost use Rattle.token.specs.More.{more_one, WithNode};
 
 use crate::{Binary, Fault, Kind, Part, Unary};
 
-// A refusal at an offset.
+// A refusal at an offset. Shorter than the struct's fields at each of the places that refuse.
 pub fn refused(number: u32, at: usize) -> Fault
     ensures { result ≡ record { number = number; at = at } }
 {

@@ -26,9 +26,7 @@ fn shifted(v: usize, b: u8) -> usize
     requires { (v ≤ 1000) × (48 ≤ b) }
     ensures { result ≡ min (v * 10 + (b - 48)) 1000 }
 {
-    let d = (b - 48) as usize;
-    let w = v * 10 + d;
-    if 1000 < w { 1000 } else { w }
+    (v * 10 + usize::from(b - b'0')).min(1000)
 }
 
 // The number at an offset.
@@ -40,8 +38,11 @@ pub(crate) fn number(s: &[u8], at: usize) -> Result<Num, Fault>
         return Err(refused(13, at));
     }
     let b = s[at];
-    if b == 48 {
-        return Ok(number_to(0, at + 1));
+    if b == b'0' {
+        return Ok(Num {
+            value: 0,
+            at: at + 1,
+        });
     }
     if !b.is_ascii_digit() {
         return Err(refused(13, at));
@@ -50,16 +51,12 @@ pub(crate) fn number(s: &[u8], at: usize) -> Result<Num, Fault>
     for i in at + 1..s.len() {
         let c = s[i];
         if !c.is_ascii_digit() {
-            return Ok(number_to(v, i));
+            return Ok(Num { value: v, at: i });
         }
         v = shifted(v, c);
     }
-    Ok(number_to(v, s.len()))
-}
-
-// A number that ends at an offset.
-fn number_to(value: usize, at: usize) -> Num
-    ensures { result ≡ record { value = value; at = at } }
-{
-    Num { value, at }
+    Ok(Num {
+        value: v,
+        at: s.len(),
+    })
 }

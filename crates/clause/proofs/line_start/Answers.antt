@@ -1,5 +1,4 @@
 use Rattle.clause.proofs.Walking.{start_begin, start_again, start_here, start_end}
-use Prim.Native.Nat.{◌-◌}
 use native.Mathlib.Omega.{arith}
 use Rattle.clause.proofs.line_start.Goals as goal
 

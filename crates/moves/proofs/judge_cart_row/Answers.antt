@@ -3,7 +3,12 @@ use native.Mathlib.Omega.{arith}
 use mathlib.Core.Path.{◌≡◌, sym, ap, ap₂, subst, ◌∙◌}
 use mathlib.Core.List.{List}
 use lib.ListN.{length}
-use Rattle.std.specs.Prelude.{get_or, Result, Err}
+use Rattle.std.specs.Prelude.{get_or, Result, Ok, Err}
+use Rattle.std.specs.Result.{MatchResult, IsErrAnd}
+use Rattle.std.proofs.Common.{rules}
+use Rattle.std.proofs.lemmas.Result.{err_from_is_err_and}
+use Rattle.refusal.specs.Results.{told, checked}
+use Rattle.refusal.specs.declared.Refused.{Refused}
 use Rattle.floor.specs.Numbers.{cart_at}
 use Rattle.floor.specs.Promises.{AcceptedFloor}
 use Rattle.floor.specs.declared.Floor.{Floor}
@@ -22,6 +27,12 @@ judged_is : (s : List ℕ) (f : Floor) (w : AcceptedFloor s f) (c : ℕ) (l : c 
 judged_is s f w c l at e row stem a is =
     is ∙ sym (ap₂ (λ (x y : ℕ). judged_moves (lanes_in s) x y row (length row) stem) (class_at s f w c l at e) (start_at s f w c l at e))
 
+-- what a refused move is told as
+told_as : (c : ℕ) (W : MoveFault → Refused → Type 0) → ((e : MoveFault) (y : Refused) → W e y → told y ≡ verdict_of c (Err e))
+    → (r : Result (Unit {0}) MoveFault) (x : Result (Unit {0}) Refused) → MatchResult r (λ v. x ≡ Ok v) (λ e. IsErrAnd x (W e)) → checked x ≡ verdict_of c r
+told_as c W is (Ok v) x w = ap checked w
+told_as c W is (Err e) x w = let p = err_from_is_err_and x w in ap checked p.1 ∙ is e p.0 p.2
+
 pub bounds-lanes-at : goal.bounds-lanes-at
 bounds-lanes-at c = let l = c.args.lanes.now in
     omega (arith, c.cart_at-at.ensures, file_length_lem _ _ l.accepted_floor, c.requires.0)
@@ -35,27 +46,19 @@ judge_moves-requires-clause-class_bound c = let l = c.args.lanes.now in
     subst (λ (x : ℕ). x < 8) (class_at l.floor.now l.counts l.accepted_floor c.args.c c.requires.0 _ c.cart_at-at.ensures)
     (class_low l.floor.now l.counts l.accepted_floor c.args.c c.requires.0)
 
-pub refused_move-requires : goal.refused_move-requires
-refused_move-requires c = let a = c.args in
+pub map_err-requires : goal.map_err-requires
+map_err-requires c = λ e q k v w f u. let a = c.args in
     let l = a.lanes.now in (
       omega (arith, c.requires.0, l.accepted_floor.valid.few_carts),
-      λ s e. omega (
+      λ s z. omega (
         arith,
-        (refused_step (lanes_in l.floor.now) _ a.row.now (length a.row.now)
-            a.stem _ s (sym c.judge_moves.ensures ∙ c.in-Err.is ∙ ap Err e)).1.first.below,
+        (refused_step (lanes_in l.floor.now) _ a.row.now (length a.row.now) a.stem _ s (sym c.judge_moves.ensures ∙ q ∙ ap Err z)).1.first.below,
         c.requires.2,
       ),
     )
 
-pub returns-in-Ok : goal.returns-in-Ok
-returns-in-Ok c = let a = c.args in
+pub returns : goal.returns
+returns c = let a = c.args in
     let l = a.lanes.now in
-    ap (verdict_of a.c)
-    (sym c.in-Ok.is ∙ judged_is l.floor.now l.counts l.accepted_floor a.c c.requires.0 _ c.cart_at-at.ensures a.row.now a.stem _ c.judge_moves.ensures)
-
-pub returns-in-Err : goal.returns-in-Err
-returns-in-Err c = let a = c.args in
-    let l = a.lanes.now in
-    c.refused_move.ensures
-    ∙ ap (verdict_of a.c)
-    (sym c.in-Err.is ∙ judged_is l.floor.now l.counts l.accepted_floor a.c c.requires.0 _ c.cart_at-at.ensures a.row.now a.stem _ c.judge_moves.ensures)
+    told_as a.c _ (λ e y p. search rules) _ _ c.map_err.ensures.cases
+    ∙ ap (verdict_of a.c) (judged_is l.floor.now l.counts l.accepted_floor a.c c.requires.0 _ c.cart_at-at.ensures a.row.now a.stem _ c.judge_moves.ensures)

@@ -1,8 +1,4 @@
-use Rattle.std.proofs.Common.{◌≡◌, ◌<◌, ◌≤◌, ◌+◌, ◌++◌, min, length, arith, map, ap, subst, refl, ◌∙◌, List, ℕ, [], ◌∷◌}
-use Rattle.std.proofs.lemmas.List.{nil_from_length}
-use Rattle.record.specs.Record.{Record}
-use Rattle.record.specs.Parts.{of_kind, parts}
-use Rattle.record.specs.Fuel.{parts_none}
+use Rattle.std.proofs.Common.{◌≤◌, ◌+◌, length, arith, refl, ◌∙◌}
 use Rattle.record.specs.Laid.{first_part, no_part}
 use Rattle.record.specs.Putting.{Putting, begin, fits, again, finish}
 use Rattle.record.proofs.put_parts.Goals as goal
@@ -16,14 +12,12 @@ pub put-requires : goal.put-requires
 put-requires c =
     let k = c.in-Some.ensures.steps in
     let v = c.loop-body.invariant in
-    let s = v.size in
     (omega (arith, k), fits _ _ _ c.requires.2 _ _ _ _ (first_part (Putting _ _ _ _ _) _ _ _ _ _ c.requires.0 k.1.2 k.1.0 (omega (arith, k)) v.putting))
 
 pub overflow_add-next-in-loop-body : goal.overflow_add-next-in-loop-body
 overflow_add-next-in-loop-body c =
     let k = c.in-Some.ensures.steps in
     let v = c.loop-body.invariant in
-    let s = v.size in
     let room : c.loop-body.next + 4 + length c.in-Some.body.now ≤ length c.loop-body.out =
     fits _ _ _ c.requires.2 _ _ _ _ (first_part (Putting _ _ _ _ _) _ _ _ _ _ c.requires.0 k.1.2 k.1.0 (omega (arith, k)) v.putting) in
     omega (arith, c.loop-body.auto.out)

@@ -1,11 +1,10 @@
 use Prim.Native.Nat.{ℕ, ◌+◌, ◌≤◌, ◌<◌}
 use native.Mathlib.Omega.{arith}
-use mathlib.Core.Path.{◌≡◌, refl, sym, ap, subst, ◌∙◌}
+use mathlib.Core.Path.{◌≡◌, refl, sym, ap, ◌∙◌}
 use mathlib.Core.Bool.{Bool}
 use mathlib.Core.List.{List, []}
 use mathlib.Core.Logic.{⊎_elim}
 use native.Mathlib.Nat.{le_refl}
-use lib.ListN.{get_or}
 use Rattle.cltl.proofs.Basics.{lt_or_le}
 use Rattle.std.specs.Prelude.{Option, None, Some, IfSome}
 use Rattle.grammar.specs.Grammar.{Counted}
@@ -23,9 +22,8 @@ use Rattle.table.specs.Keeping.{kept_all, kept_then, kept_shown, shown_itself}
 use Rattle.drift.specs.Tree.{Ordered, kind_at, first_at, second_at, one_of, clause_tree}
 use Rattle.drift.specs.Operator.{under, one_rule}
 use Rattle.drift.specs.Answer.{rows_on, TableAt, Fits, Gathered, joinable, ClauseJudged}
-use Rattle.drift.specs.Lent.{ClauseNodes}
-use Rattle.drift.specs.NodeTruth.{under_other, first_low}
-use Rattle.drift.specs.Order.{one_need}
+use Rattle.drift.specs.NodeTruth.{under_other}
+use Rattle.drift.specs.Order.{operand}
 use Rattle.drift.specs.Placing.{pairs_end_lem, placed_ends, fewer_pairs, pairs_behind}
 use Rattle.drift.specs.Lending.{still_lent}
 use Rattle.drift.specs.Tallying.{still_tallied}
@@ -48,20 +46,12 @@ returns-in-Top-clause-by_index t c =
     (alone_gathered P g.few [] (no_counts P) a.t.now)
 
 ---- One operand.
--- an operator whose operand is below it and needs no more pairs
-operand : (nodes needs : List ℕ) (k x : ℕ) → ClauseNodes nodes needs k → 2 ≤ kind_at nodes k → kind_at nodes k < 6 → x ≡ first_at nodes k
-    → (x < k) × (get_or needs x 0 ≤ get_or needs k 0)
-operand nodes needs k x n more less e = (
-  omega (arith, e, first_low nodes k n.ordered more),
-  subst (λ (i : ℕ). get_or needs i 0 ≤ get_or needs k 0) (sym e) (one_need nodes needs k n.needed more less).0,
-)
-
 pub clause_judged-a-requires : goal.clause_judged-a-requires
 clause_judged-a-requires t c =
     let a = c.args in
     let room = c.requires.pairs_from in
     let e = rw c.in-Unary.is at c.kind_at.ensures in
-    let x = operand a.c.nodes.now a.c.needs.now a.k _ c.requires.clause_nodes e.0 e.1 c.first_at.ensures in (
+    let x = operand a.c.nodes.now a.c.needs.now a.k _ c.requires.clause_nodes.ordered c.requires.clause_nodes.needed e.0 e.1 c.first_at.ensures in (
       omega (arith, c.decreases, x.0),
       (
         c.requires.lent,

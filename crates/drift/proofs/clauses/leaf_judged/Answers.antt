@@ -94,7 +94,7 @@ count_told-row-requires c =
     let same : Kept (pairs_at a.g.marks a.g.lasso.h) a.t.now c.inner_table-from.new.t =
     kept_then _ a.at a.t.now a.t.now _ c.requires.pairs_from.0 (kept_all _ a.t.now) c.inner_table-from.ensures.kept.0 in record {
       lent = still_lent a.g a.t.now a.bits.now _ c.requires.lent same;
-      tallies = still_tallied a.g a.t.now _ a.s.now.tallies same c.requires.tallies;
+      tallies = still_tallied a.g a.t.now _ a.tallies.now same c.requires.tallies;
       h_in_bounds = (c.inner_table-from.ensures.kept.2, low a.g a.t.now a.bits.now c.requires.lent _ _ c.who_at-who.ensures);
     }
 

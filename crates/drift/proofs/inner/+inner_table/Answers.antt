@@ -1,31 +1,18 @@
-use Prim.Native.Nat.{ℕ, ◌+◌, ◌≤◌, ◌<◌}
-use mathlib.Core.List.{List}
-use mathlib.Core.Path.{◌≡◌, refl, sym, subst}
+use mathlib.Core.Path.{refl, sym, subst}
 use mathlib.Core.Logic.{inl}
 use native.Mathlib.Omega.{arith}
-use lib.ListN.{get_or}
 use Rattle.table.specs.Keeping.{kept_all, kept_then, stored_keeps, kept_constants, kept_shown}
 use Rattle.drift.specs.Answer.{rows_on, InnerTable}
 use Rattle.drift.specs.Places.{Placed}
-use Rattle.drift.specs.Tree.{Ordered, kind_at, first_at, node_at}
-use Rattle.drift.specs.Need.{Needs}
+use Rattle.drift.specs.Tree.{node_at}
 use Rattle.drift.specs.Decoding.{leaf_is}
-use Rattle.drift.specs.NodeTruth.{first_low}
 use Rattle.drift.specs.Needing.{up_to}
-use Rattle.drift.specs.Order.{one_need}
+use Rattle.drift.specs.Order.{operand}
 use Rattle.drift.specs.Placing.{leaf_ends, placed_ends, other_placed, other_behind, fewer_pairs, pairs_behind}
 use Rattle.drift.specs.NodeTables.{table_kept, leaf_table, one_made, two_made}
 use Rattle.drift.proofs.inner.+inner_table.Goals as goal
 
 ---- One operand.
--- its operand is below it and needs no more pairs; it needs one itself
-operand : (nodes needs : List ℕ) (k x : ℕ) → Ordered nodes (k + 1) → Needs nodes needs (k + 1) → 2 ≤ kind_at nodes k → kind_at nodes k < 6
-    → x ≡ first_at nodes k → (x < k) × (get_or needs x 0 ≤ get_or needs k 0) × (0 < get_or needs k 0)
-operand nodes needs k x o n more less e =
-    let low = first_low nodes k o more in
-    let need = one_need nodes needs k n more less in
-    (omega (arith, e, low), subst (λ (i : ℕ). get_or needs i 0 ≤ get_or needs k 0) (sym e) need.0, need.1)
-
 pub inner_table-a-requires : goal.inner_table-a-requires
 inner_table-a-requires t c =
     let a = c.args in

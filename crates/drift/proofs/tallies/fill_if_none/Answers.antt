@@ -8,13 +8,13 @@ returns c = let s = c in
     let filled = c.fill_tallies.ensures in
     let made = rw s.requires.h_in_bounds.1 at filled.stored in record {
       tallies_2 = (
-        tallied_too a.g a.t.now a.from a.p a.at s.requires.tallies.1 a.s.now.tallies _ made s.requires.tallies.0,
+        tallied_too a.g a.t.now a.from a.p a.at s.requires.tallies.1 a.tallies.now _ made s.requires.tallies.0,
         λ j q. made.each j (omega arith) q,
       );
     }
 
-pub returns-then-s-at-lt255 : goal.returns-then-s-at-lt255
-returns-then-s-at-lt255 c =
+pub returns-then-tallies-at-lt255 : goal.returns-then-tallies-at-lt255
+returns-then-tallies-at-lt255 c =
     let a = c.args in
     let all = c.requires.tallies.0 in
-    record { tallies_2 = (all, there a.g a.t.now a.from a.p a.at c.requires.tallies.1 a.s.now.tallies all c.if-s-at-lt255.true) }
+    record { tallies_2 = (all, there a.g a.t.now a.from a.p a.at c.requires.tallies.1 a.tallies.now all c.if-tallies-at-lt255.true) }

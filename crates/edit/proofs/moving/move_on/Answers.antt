@@ -62,11 +62,11 @@ put_moved-requires-clause-carts_bound c =
 pub returns-clause-moved : goal.returns-clause-moved
 returns-clause-moved c =
     let a = c.args in
-    let g = put a.floor.now a.plan.now a.s a.out.now _ (c.read.ensures.accepted _ c.in_ok-r.was) _ _ c.put_moved.ensures in
+    let g = put a.floor.now a.plan.now a.s a.out.now _ (c.read.ensures.accepted _ c.in_ok-r.was) _ _ (rw c.from.ensures at c.put_moved.ensures) in
     promise _ _ (λ i. omega (arith, c.type_inv.floor i)) _ _ _ _ g
 
 pub returns-clause-added_up : goal.returns-clause-added_up
 returns-clause-added_up c =
     let a = c.args in
-    let g = put a.floor.now a.plan.now a.s a.out.now _ (c.read.ensures.accepted _ c.in_ok-r.was) _ _ c.put_moved.ensures in
+    let g = put a.floor.now a.plan.now a.s a.out.now _ (c.read.ensures.accepted _ c.in_ok-r.was) _ _ (rw c.from.ensures at c.put_moved.ensures) in
     added_up _ _ (λ i. omega (arith, c.type_inv.floor i)) (λ i. omega (arith, c.type_inv.plan i)) _ _ _ _ g

@@ -6,7 +6,7 @@ use Rattle.refusal.specs.Results.{checked}
 use Rattle.floor.specs.Located.{accepts}
 use Rattle.plan.specs.Read.{held_range}
 use Rattle.edit.specs.Judgement.{ReplacementJudged}
-use Rattle.edit.proofs.RowJudged.{refused, unfit, judged}
+use Rattle.edit.proofs.RowJudged.{refused, refused_after, judged}
 use Rattle.edit.proofs.replacing.judge.Goals as goal
 
 pub returns-in_err-r : goal.returns-in_err-r
@@ -28,7 +28,7 @@ returns-in_err-judge_moves_and_row c =
     let a = c.args in
     let e : c.from_residual-in_err-judge_moves_and_row.result ≡ Err c.in_err-judge_moves_and_row.field-0.0 = search rules in
     subst (ReplacementJudged a.floor.now a.plan.now a.cart a.row.now) (sym e)
-    (unfit a.floor.now a.plan.now a.cart a.row.now c.in_ok-r.r (c.read.ensures.accepted _ c.in_ok-r.was) _
+    (refused_after a.floor.now a.plan.now a.cart a.row.now c.in_ok-r.r (c.read.ensures.accepted _ c.in_ok-r.was) _
     (ap checked (sym c.in_err-judge_moves_and_row.was) ∙ c.judge_moves_and_row.ensures))
 
 pub row_at-requires : goal.row_at-requires

@@ -4,6 +4,5 @@ use Rattle.std.specs.Prelude.{Err}
 use Rattle.plan.specs.Passed.{absent_below}
 use Rattle.edit.proofs.replacing.judge_fit.Goals as goal
 
-pub refused_row-requires : goal.refused_row-requires
-refused_row-requires c = λ s e.
-    omega (arith, absent_below _ _ _ s (sym c.judge_row.ensures ∙ c.in-Err.is ∙ ap Err e), c.requires.head_in_range.steps)
+pub map_err-requires : goal.map_err-requires
+map_err-requires c = λ e q k v w f u s z. omega (arith, absent_below _ _ _ s (sym c.judge_row.ensures ∙ q ∙ ap Err z), c.requires.head_in_range.steps)

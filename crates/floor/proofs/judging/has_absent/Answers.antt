@@ -12,4 +12,4 @@ returns-then-carts-ge32 c = let a = c.args in
 
 pub returns : goal.returns
 returns c = let a = c.args in
-    ap (λ (x : ℕ). leb x a.word) (omega (arith, pow_mono {i = a.carts} {j = 32} (omega arith)))
+    rw c.from.ensures (ap (λ (x : ℕ). leb x a.word) (omega (arith, pow_mono {i = a.carts} {j = 32} (omega arith))))

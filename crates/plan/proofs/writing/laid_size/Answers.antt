@@ -1,5 +1,5 @@
 use Rattle.std.specs.Int.{div_ceil}
-use Rattle.std.proofs.Common.{refl, ap, leb-true, leb-false, eqb-true}
+use Rattle.std.proofs.Common.{refl, eqb-true}
 use Rattle.std.proofs.lemmas.Bool.{eqb-false}
 use Rattle.std.proofs.lemmas.Grind.{div_ceil_times}
 use Prim.Native.Nat.{ℕ, ◌+◌, ◌-◌, ◌*◌, ◌≤◌, ◌<◌, min}
@@ -8,7 +8,7 @@ use native.Mathlib.Omega.{arith}
 use mathlib.Core.Bool.{Bool, true, false}
 use mathlib.Core.List.{List}
 use mathlib.Core.Path.{◌≡◌}
-use lib.Dec.{eqb, leb}
+use lib.Dec.{eqb}
 use lib.ListN.{length}
 use Rattle.record.specs.Parts.{part_count}
 use Rattle.plan.specs.Judged.{length_empty, length_zero, length_some, length_over}
@@ -27,38 +27,40 @@ rounded_up n size p =
 few : (n size : ℕ) → div_ceil n size ≤ n + 1
 few n size = omega (arith, div-le_self n size)
 
-module _ (h : Head) (rows : List ℕ) (len : ℕ) (e : len ≡ min (length rows) 65537) where
-  one_record : h.steps ≡ 0 → min (10 + len + min len 1 * 4) 65537 ≡ min 65537 (length (plan_bytes h rows))
+module _ (h : Head) (rows : List ℕ) where
+  one_record : h.steps ≡ 0 → 10 + length rows + min (length rows) 1 * 4 ≡ length (plan_bytes h rows)
   one_record z = go (eqb (length rows) 0) refl
     where
-      go : (b : Bool) → eqb (length rows) 0 ≡ b → min (10 + len + min len 1 * 4) 65537 ≡ min 65537 (length (plan_bytes h rows))
+      go : (b : Bool) → eqb (length rows) 0 ≡ b → 10 + length rows + min (length rows) 1 * 4 ≡ length (plan_bytes h rows)
       go true q = let n : length rows ≡ 0 = eqb-true _ _ q in omega (arith, length_empty h rows n)
       go false q =
           let n : (length rows ≡ 0 → ⊥) = eqb-false _ _ q in
           omega (arith, length_zero h rows z (omega arith))
 
-  whole_records : 0 < h.steps → min (10 + len + div_ceil len h.steps * 4) 65537 ≡ min 65537 (length (plan_bytes h rows))
-  whole_records p = go (leb (length rows) 65536) refl
-    where
-      go : (b : Bool) → leb (length rows) 65536 ≡ b → min (10 + len + div_ceil len h.steps * 4) 65537 ≡ min 65537 (length (plan_bytes h rows))
-      go true q =
-          let l : length rows ≤ 65536 = leb-true _ _ q in
-          let n : len ≡ length rows = omega arith in
-          let r : part_count h.steps (length rows) ≡ div_ceil (length rows) h.steps = rounded_up (length rows) h.steps p in
-          let d : div_ceil len h.steps ≡ div_ceil (length rows) h.steps = ap (λ (k : ℕ). div_ceil k h.steps) n in
-          omega (arith, length_some h rows p)
-      go false q = let l : 65536 < length rows = leb-false _ _ q in omega (arith, length_over h rows)
+  whole_records : 0 < h.steps → 10 + length rows + div_ceil (length rows) h.steps * 4 ≡ length (plan_bytes h rows)
+  whole_records p =
+      let r : part_count h.steps (length rows) ≡ div_ceil (length rows) h.steps = rounded_up (length rows) h.steps p in
+      omega (arith, length_some h rows p)
 
-pub overflow_mul-records : goal.overflow_mul-records
-overflow_mul-records c =
-    elim c.if-h-eq0.branch [ then-h-eq0 w ↦ omega arith | else-h-eq0 w ↦ omega (arith, few c.min-len.result c.args.h.steps) ]
+pub returns-then-len-gt65536 : goal.returns-then-len-gt65536
+returns-then-len-gt65536 c = omega (arith, length_over c.args.h c.args.rows.now)
 
-pub overflow_add-len-2 : goal.overflow_add-len-2
-overflow_add-len-2 c =
-    elim c.if-h-eq0.branch [ then-h-eq0 w ↦ omega arith | else-h-eq0 w ↦ omega (arith, few c.min-len.result c.args.h.steps) ]
+pub overflow_mul-size : goal.overflow_mul-size
+overflow_mul-size c =
+    elim c.if-h-eq0.branch [ then-h-eq0 w ↦ omega arith | else-h-eq0 w ↦ omega (arith, few (length c.args.rows.now) c.args.h.steps) ]
+
+pub overflow_add-size-2 : goal.overflow_add-size-2
+overflow_add-size-2 c =
+    elim c.if-h-eq0.branch [ then-h-eq0 w ↦ omega arith | else-h-eq0 w ↦ omega (arith, few (length c.args.rows.now) c.args.h.steps) ]
+
+pub returns-then-size-gt65536 : goal.returns-then-size-gt65536
+returns-then-size-gt65536 c = elim c.if-h-eq0.branch [
+  | then-h-eq0 w ↦ let r = one_record c.args.h c.args.rows.now w.if-h-eq0.true in omega arith
+  | else-h-eq0 w ↦ let r = whole_records c.args.h c.args.rows.now (omega arith) in omega arith
+]
 
 pub returns : goal.returns
 returns c = elim c.if-h-eq0.branch [
-  | then-h-eq0 w ↦ let r = one_record c.args.h c.args.rows.now _ c.min-len.ensures w.if-h-eq0.true in omega arith
-  | else-h-eq0 w ↦ let r = whole_records c.args.h c.args.rows.now _ c.min-len.ensures (omega arith) in omega arith
+  | then-h-eq0 w ↦ let r = one_record c.args.h c.args.rows.now w.if-h-eq0.true in (omega arith, omega arith)
+  | else-h-eq0 w ↦ let r = whole_records c.args.h c.args.rows.now (omega arith) in (omega arith, omega arith)
 ]

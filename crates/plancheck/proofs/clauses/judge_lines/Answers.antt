@@ -77,7 +77,7 @@ pub returns-in-Some : goal.returns-in-Some
 returns-in-Some c = let v = c.loop-at in
     let w = ready v.invariant.going.left c.loop-at-test.true c.unwrap-part.ensures v.nodes c.read_clause.new.nodes c.read_clause.ensures v.invariant.nodes in
     let a = c.args in
-    let x = c.in-Some.g in
+    let x = c.in-Some.group in
     let e : first_lacked a.r.now.floor.groups (groups w.line.clause) ≡ suc x =
     ap (first_lacked a.r.now.floor.groups) (sym w.judge.named) ∙ c.in-Some.ensures.0 ∙ add-one x in
     ap AboutRules c.refuse.ensures

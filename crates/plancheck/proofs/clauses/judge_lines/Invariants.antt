@@ -13,7 +13,7 @@ invariant-loop-at l = record {
   shown : Shown l.marks l.r.floor.carts l.r.plan.head.steps (rows_read l.floor l.r).bears l.t;
   going : Going (rows_read l.floor l.r) l.r.plan.head.drift l.r.floor.groups l.rules l.at l.n (checked l.next) (checked l.found);
   lent : Lent l.g l.t l.bits;
-  tallies : Tallies l.g l.t l.s.tallies;
+  tallies : Tallies l.g l.t l.tallies;
 }
 
 abbrev pub decreases-loop-at : goal.decreases-loop-at

@@ -3,9 +3,10 @@ use Rattle.std.proofs.Common.{◌-◌, ◌+◌, true, arith, drop}
 use Rattle.std.proofs.lemmas.Result.{err_from_is_err_and}
 use Rattle.grammar.specs.Reader.{marks, ors, smalls, untils}
 use Rattle.sheet.specs.Ranks.{leaf_reader}
-use Rattle.sheet.specs.Room.{room, refused_part, part_inside}
-use Rattle.sheet.proofs.Cycle.{conj, disj, first_refused, first_turn, turn_room, turn_size, turn_ended, turn_spent, turn_broken, next_room, turn_on}
+use Rattle.sheet.specs.Room.{room, part_inside}
+use Rattle.sheet.proofs.Cycle.{conj, disj, first_refused, first_turn, turn_room, turn_ended, turn_shut, turn_broken, next_fits, turn_on}
 use Rattle.sheet.proofs.Levels.{small_nothing, small_word, small_shut, small_broken, small_closed, small_leaf, small_no_level, small_no_node, operand_refused, operand_read, first_broken, until_alone, until_no_level, until_no_node, rest_refused, rest_read, leaf_mark, leaf_none, leaf_no_level, leaf_no_node, text_refused, text_read}
+use Rattle.sheet.proofs.parts.+and_part_leaf_part_or_part_small_part_until_part.Goals.{leaf_part-then-level-eq0-via-then-level-eq0, leaf_part-then-level-eq0-via-else-level-eq0+then-p-eq0, small_part-then-level-eq0-2-via-then-level-eq0-2, small_part-then-level-eq0-2-via-else-level-eq0-2+then-p-eq0, until_part-then-level-eq0-via-then-level-eq0, until_part-then-level-eq0-via-else-level-eq0+then-r-eq0}
 use Rattle.sheet.proofs.parts.+and_part_leaf_part_or_part_small_part_until_part.Goals as goal
 
 pub and_part-returns-in_err-r : goal.and_part-returns-in_err-r
@@ -28,11 +29,8 @@ and_part-returns t c =
 pub and_part-returns-then-r-eq0 : goal.and_part-returns-then-r-eq0
 and_part-returns-then-r-eq0 t c =
     let a = c.args in
-    let w = c.loop-i.invariant in
-    let l = c.in-Some.ensures.inside in
-    refused_part a.inner a.s.now a.p.n a.p.left a.nodes.now _ c.loop-i.nodes 14 c.in-Some.i _ c.refused.ensures (λ z. omega arith) (omega arith)
-    (turn_size a.inner conj a.level a.s.now a.p.at a.p.n a.p.left a.nodes.now _ _ w c.told-nodes c.requires.2)
-    (turn_spent a.inner conj a.level a.s.now a.p.at a.p.n a.p.left a.nodes.now _ _ w _ c.in-Some.ensures c.if-r-eq0.true)
+    turn_shut a.inner conj a.level a.s.now a.p.at a.p.n a.p.left a.nodes.now _ _ c.loop-i.invariant _ c.in-Some.ensures c.told-nodes c.requires.2
+    c.if-r-eq0.true _ c.refused.ensures
 
 pub and_part-returns-in_err-q : goal.and_part-returns-in_err-q
 and_part-returns-in_err-q t c =
@@ -47,18 +45,13 @@ and_part-returns-in_err-q t c =
 pub and_part-overflow_sub-r : goal.and_part-overflow_sub-r
 and_part-overflow_sub-r t c =
     let a = c.args in
-    let m = turn_room a.inner conj a.level a.s.now a.p.at a.p.n a.p.left a.nodes.now _ _ c.loop-i.invariant in
-    omega (arith, m.some)
+    (turn_room a.inner conj a.level a.s.now a.p.at a.p.n a.p.left a.nodes.now _ _ c.loop-i.invariant).some
 
 pub and_part-with_two-r-requires : goal.and_part-with_two-r-requires
 and_part-with_two-r-requires t c =
     let a = c.args in
-    let m = turn_room a.inner conj a.level a.s.now a.p.at a.p.n a.p.left a.nodes.now _ _ c.loop-i.invariant in
-    let x = next_room a.inner conj a.level a.s.now a.p.at a.p.n a.p.left a.nodes.now c.loop-i.r c.loop-i.nodes c.loop-i.invariant c.in-Some.i
-    c.in-Some.ensures
-    (omega (arith, c.if-r-eq0.false)) c.told-nodes c.requires.2
-    _ _ c.in_ok-q.ensures in
-    (omega (arith, x.some), omega (arith, x.kept, m.kept, c.if-r-eq0.false), omega (arith, m.kept, m.some))
+    next_fits a.inner conj a.level a.s.now a.p.at a.p.n a.p.left a.nodes.now _ _ c.loop-i.invariant _ c.in-Some.ensures
+    (omega (arith, c.if-r-eq0.false)) c.told-nodes c.requires.2 _ _ c.in_ok-q.ensures
 
 pub and_part-loop-i-preserved : goal.and_part-loop-i-preserved
 and_part-loop-i-preserved t c =
@@ -87,11 +80,8 @@ or_part-returns t c =
 pub or_part-returns-then-r-eq0 : goal.or_part-returns-then-r-eq0
 or_part-returns-then-r-eq0 t c =
     let a = c.args in
-    let w = c.loop-i.invariant in
-    let l = c.in-Some.ensures.inside in
-    refused_part a.inner a.s.now a.p.n a.p.left a.nodes.now _ c.loop-i.nodes 14 c.in-Some.i _ c.refused.ensures (λ z. omega arith) (omega arith)
-    (turn_size a.inner disj a.level a.s.now a.p.at a.p.n a.p.left a.nodes.now _ _ w c.told-nodes c.requires.2)
-    (turn_spent a.inner disj a.level a.s.now a.p.at a.p.n a.p.left a.nodes.now _ _ w _ c.in-Some.ensures c.if-r-eq0.true)
+    turn_shut a.inner disj a.level a.s.now a.p.at a.p.n a.p.left a.nodes.now _ _ c.loop-i.invariant _ c.in-Some.ensures c.told-nodes c.requires.2
+    c.if-r-eq0.true _ c.refused.ensures
 
 pub or_part-returns-in_err-q : goal.or_part-returns-in_err-q
 or_part-returns-in_err-q t c =
@@ -106,18 +96,13 @@ or_part-returns-in_err-q t c =
 pub or_part-overflow_sub-r : goal.or_part-overflow_sub-r
 or_part-overflow_sub-r t c =
     let a = c.args in
-    let m = turn_room a.inner disj a.level a.s.now a.p.at a.p.n a.p.left a.nodes.now _ _ c.loop-i.invariant in
-    omega (arith, m.some)
+    (turn_room a.inner disj a.level a.s.now a.p.at a.p.n a.p.left a.nodes.now _ _ c.loop-i.invariant).some
 
 pub or_part-with_two-r-requires : goal.or_part-with_two-r-requires
 or_part-with_two-r-requires t c =
     let a = c.args in
-    let m = turn_room a.inner disj a.level a.s.now a.p.at a.p.n a.p.left a.nodes.now _ _ c.loop-i.invariant in
-    let x = next_room a.inner disj a.level a.s.now a.p.at a.p.n a.p.left a.nodes.now c.loop-i.r c.loop-i.nodes c.loop-i.invariant c.in-Some.i
-    c.in-Some.ensures
-    (omega (arith, c.if-r-eq0.false)) c.told-nodes c.requires.2
-    _ _ c.in_ok-q.ensures in
-    (omega (arith, x.some), omega (arith, x.kept, m.kept, c.if-r-eq0.false), omega (arith, m.kept, m.some))
+    next_fits a.inner disj a.level a.s.now a.p.at a.p.n a.p.left a.nodes.now _ _ c.loop-i.invariant _ c.in-Some.ensures
+    (omega (arith, c.if-r-eq0.false)) c.told-nodes c.requires.2 _ _ c.in_ok-q.ensures
 
 pub or_part-loop-i-preserved : goal.or_part-loop-i-preserved
 or_part-loop-i-preserved t c =
@@ -139,14 +124,14 @@ leaf_part-returns-then-s-i-ne91 t c =
 pub leaf_part-returns-then-level-eq0 : goal.leaf_part-returns-then-level-eq0
 leaf_part-returns-then-level-eq0 t c =
     let a = c.args in
-    leaf_no_level a.inner a.s.now a.level a.p.at a.p.n a.p.left a.nodes.now c.if-inner.false c.requires.0 c.if-s-i-ne91.false c.if-level-eq0.true _
-    c.refused-then-level-eq0.ensures
-
-pub leaf_part-returns-then-p-eq0 : goal.leaf_part-returns-then-p-eq0
-leaf_part-returns-then-p-eq0 t c =
-    let a = c.args in
-    leaf_no_node a.inner a.s.now a.level a.p.at a.p.n a.p.left a.nodes.now c.if-inner.false c.requires.0 c.if-s-i-ne91.false c.if-level-eq0.false
-    c.if-p-eq0.true _ c.refused-then-p-eq0.ensures
+    elim c.then-level-eq0.branch [
+      | leaf_part-then-level-eq0-via-then-level-eq0 w ↦
+          leaf_no_level a.inner a.s.now a.level a.p.at a.p.n a.p.left a.nodes.now c.if-inner.false c.requires.0 c.if-s-i-ne91.false w.if-level-eq0.true _
+          c.refused-then-level-eq0.ensures
+      | leaf_part-then-level-eq0-via-else-level-eq0+then-p-eq0 w ↦
+          leaf_no_node a.inner a.s.now a.level a.p.at a.p.n a.p.left a.nodes.now c.if-inner.false c.requires.0 c.if-s-i-ne91.false w.if-level-eq0.false
+          w.if-p-eq0.true _ c.refused-then-level-eq0.ensures
+    ]
 
 pub leaf_part-returns-in_err-r : goal.leaf_part-returns-in_err-r
 leaf_part-returns-in_err-r t c =
@@ -216,15 +201,14 @@ small_part-returns-in-None t c =
 pub small_part-returns-then-level-eq0-2 : goal.small_part-returns-then-level-eq0-2
 small_part-returns-then-level-eq0-2 t c =
     let a = c.args in
-    small_no_level a.inner a.s.now a.level a.p.at a.p.n a.p.left a.nodes.now c.spaces-i.result c.spaces-i.ensures.0 (omega (arith, c.if-s-i.false))
-    c.in-Some.o c.in-Some.ensures c.if-level-eq0-2.true _ c.refused-then-level-eq0-2.ensures
-
-pub small_part-returns-then-p-eq0 : goal.small_part-returns-then-p-eq0
-small_part-returns-then-p-eq0 t c =
-    let a = c.args in
-    small_no_node a.inner a.s.now a.level a.p.at a.p.n a.p.left a.nodes.now c.spaces-i.result c.spaces-i.ensures.0 (omega (arith, c.if-s-i.false))
-    c.in-Some.o c.in-Some.ensures c.if-level-eq0-2.false c.if-p-eq0.true _
-    c.refused-then-p-eq0.ensures
+    elim c.then-level-eq0-2.branch [
+      | small_part-then-level-eq0-2-via-then-level-eq0-2 w ↦
+          small_no_level a.inner a.s.now a.level a.p.at a.p.n a.p.left a.nodes.now c.spaces-i.result c.spaces-i.ensures.0 (omega (arith, c.if-s-i.false))
+          c.in-Some.o c.in-Some.ensures w.if-level-eq0-2.true _ c.refused-then-level-eq0-2.ensures
+      | small_part-then-level-eq0-2-via-else-level-eq0-2+then-p-eq0 w ↦
+          small_no_node a.inner a.s.now a.level a.p.at a.p.n a.p.left a.nodes.now c.spaces-i.result c.spaces-i.ensures.0 (omega (arith, c.if-s-i.false))
+          c.in-Some.o c.in-Some.ensures w.if-level-eq0-2.false w.if-p-eq0.true _ c.refused-then-level-eq0-2.ensures
+    ]
 
 pub small_part-returns-in_err-q-in-Some : goal.small_part-returns-in_err-q-in-Some
 small_part-returns-in_err-q-in-Some t c =
@@ -265,16 +249,14 @@ until_part-returns-in-None t c =
 pub until_part-returns-then-level-eq0 : goal.until_part-returns-then-level-eq0
 until_part-returns-then-level-eq0 t c =
     let a = c.args in
-    until_no_level a.inner a.s.now a.level a.p.at a.p.n a.p.left a.nodes.now c.in_ok-r.r c.small_part.new.nodes c.in_ok-r.ensures c.told-nodes
-    c.requires.2 c.in-Some.k c.in-Some.ensures
-    c.if-level-eq0.true _ c.refused.ensures
-
-pub until_part-returns-then-r-eq0 : goal.until_part-returns-then-r-eq0
-until_part-returns-then-r-eq0 t c =
-    let a = c.args in
-    until_no_node a.inner a.s.now a.level a.p.at a.p.n a.p.left a.nodes.now c.in_ok-r.r c.small_part.new.nodes c.in_ok-r.ensures c.told-nodes
-    c.requires.2 c.in-Some.k c.in-Some.ensures
-    c.if-level-eq0.false c.if-r-eq0.true _ c.refused-then-r-eq0.ensures
+    elim c.then-level-eq0.branch [
+      | until_part-then-level-eq0-via-then-level-eq0 w ↦
+          until_no_level a.inner a.s.now a.level a.p.at a.p.n a.p.left a.nodes.now c.in_ok-r.r c.small_part.new.nodes c.in_ok-r.ensures c.told-nodes
+          c.requires.2 c.in-Some.k c.in-Some.ensures w.if-level-eq0.true _ c.refused.ensures
+      | until_part-then-level-eq0-via-else-level-eq0+then-r-eq0 w ↦
+          until_no_node a.inner a.s.now a.level a.p.at a.p.n a.p.left a.nodes.now c.in_ok-r.r c.small_part.new.nodes c.in_ok-r.ensures c.told-nodes
+          c.requires.2 c.in-Some.k c.in-Some.ensures w.if-level-eq0.false w.if-r-eq0.true _ c.refused.ensures
+    ]
 
 pub until_part-returns-in_err-q-in-Some : goal.until_part-returns-in_err-q-in-Some
 until_part-returns-in_err-q-in-Some t c =

@@ -1,8 +1,10 @@
-use lib.ListN.{drop}
+use lib.ListN.{drop, length}
 use mathlib.Core.Bool.{false}
 use mathlib.Core.Path.{◌≡◌, sym, ap, ◌∙◌}
 use native.Mathlib.Omega.{arith}
-use Prim.Native.Nat.{ℕ, ◌-◌, ◌+◌, suc}
+use Prim.Native.Nat.{ℕ, ◌-◌, ◌+◌, ◌<◌, suc}
+use Rattle.std.proofs.Common.{rules}
+use Rattle.std.proofs.lemmas.Bool.{eqb-true}
 use Rattle.std.proofs.lemmas.Result.{err_from_is_err_and}
 use Rattle.grammar.specs.Reader.{clause_line}
 use Rattle.sheet.specs.Rules.{told_verdict}
@@ -16,12 +18,15 @@ pub returns-then-s-gt16384-clause-answer : goal.returns-then-s-gt16384-clause-an
 returns-then-s-gt16384-clause-answer c =
     ap (λ (f : Fault). told_verdict (Err f)) c.refused.ensures ∙ sym (too_long c.args.s.now c.if-s-gt16384.true)
 
-pub returns-then-s-eq0-clause-answer : goal.returns-then-s-eq0-clause-answer
-returns-then-s-eq0-clause-answer c =
-    ap (λ (f : Fault). told_verdict (Err f)) c.refused-then-s-eq0.ensures ∙ sym (empty c.args.s.now c.if-s-eq0.true)
+pub returns-then-is_empty-clause-answer : goal.returns-then-is_empty-clause-answer
+returns-then-is_empty-clause-answer c =
+    let e = eqb-true _ _ (sym c.is_empty.ensures ∙ c.if-is_empty.true) in
+    ap (λ (f : Fault). told_verdict (Err f)) c.refused-then-is_empty.ensures ∙ sym (empty c.args.s.now e)
 
 pub loop-line-init : goal.loop-line-init
-loop-line-init c = (omega arith, by_lines c.args.s.now (omega (arith, c.if-s-eq0.false)) (omega (arith, c.if-s-gt16384.false)))
+loop-line-init c =
+    let e : 0 < length c.args.s.now = search rules in
+    (omega arith, by_lines c.args.s.now e (omega (arith, c.if-s-gt16384.false)))
 
 pub returns-then-s-at-clause-answer : goal.returns-then-s-at-clause-answer
 returns-then-s-at-clause-answer c =

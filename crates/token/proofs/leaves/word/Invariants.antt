@@ -1,5 +1,5 @@
 use Rattle.token.proofs.Words.{Spelled}
 use Rattle.token.proofs.leaves.word.Given as goal
 
-abbrev pub invariant-loop-c : goal.invariant-loop-c
-invariant-loop-c l = Spelled l.s l.p.left l.p.at l.c-index l.i
+abbrev pub invariant-loop-k : goal.invariant-loop-k
+invariant-loop-k l = Spelled l.s l.p.left l.p.at l.k

@@ -9,7 +9,7 @@ returns-then-s-at-clause-value c = let a = c.args in none a.s.now a.at _ _ c.ref
 
 pub returns-then-b-eq48-clause-value : goal.returns-then-b-eq48-clause-value
 returns-then-b-eq48-clause-value c = let a = c.args in
-    some a.s.now (a.at + 1) 0 0 0 _ _ c.number_to.ensures refl (number_nought_at a.s.now a.at (omega (arith, c.if-s-at.false)) c.if-b-eq48.true)
+    some a.s.now (a.at + 1) 0 0 0 _ _ refl refl (number_nought_at a.s.now a.at (omega (arith, c.if-s-at.false)) c.if-b-eq48.true)
 
 pub returns-then-not-is_ascii_digit-clause-value : goal.returns-then-not-is_ascii_digit-clause-value
 returns-then-not-is_ascii_digit-clause-value c = let a = c.args in
@@ -28,7 +28,7 @@ loop-i-init c = let a = c.args in (
 pub returns-then-not-is_ascii_digit-2-clause-value : goal.returns-then-not-is_ascii_digit-2-clause-value
 returns-then-not-is_ascii_digit-2-clause-value c = let a = c.args in
     let v = c.loop-i in
-    some a.s.now v.i v.invariant.0 v.v 0 _ _ c.number_to-then-not-is_ascii_digit-2.ensures v.invariant.1
+    some a.s.now v.i v.invariant.0 v.v 0 _ _ refl v.invariant.1
     (v.invariant.2 ∙ digits_stop_at a.s.now v.i v.invariant.0 (omega (arith, c.loop-i-test.true))
     (sym c.is_ascii_digit-in-loop-i.ensures.value ∙ c.if-not-is_ascii_digit-2.true))
 
@@ -46,5 +46,5 @@ pub returns-clause-value : goal.returns-clause-value
 returns-clause-value c = let a = c.args in
     let v = c.loop-i in
     let e : v.i ≡ length a.s.now = omega (arith, c.loop-i.auto.i-end) in
-    some a.s.now (length a.s.now) v.invariant.0 v.v 0 _ _ c.number_to-2.ensures v.invariant.1
+    some a.s.now (length a.s.now) v.invariant.0 v.v 0 _ _ refl v.invariant.1
     (v.invariant.2 ∙ digits_end_at a.s.now v.i v.invariant.0 (omega (arith, c.loop-i-test.false)) ∙ ap (λ (j : ℕ). got v.invariant.0 0 (drop j a.s.now)) e)
