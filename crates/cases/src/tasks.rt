@@ -37,7 +37,7 @@ fn check_and_show(rt: &impl Print, floor: &[u8], plan: &[u8], rules: &[u8]) -> i
     report::print_part(rt, clause::clause_part(rules, &bytes))
 }
 
-// Does what is asked for, reading the plan where nothing is, and prints what comes of it.
+// Does what is asked for, reading the plan where nothing is, and prints what comes of it. What is asked for is the data set's own byte.
 pub(crate) fn run(
     rt: &impl Print,
     floor: &[u8],

@@ -39,7 +39,7 @@ fn names_clause(number: usize) -> bool
     number == 16 || (number == 17 || number == 21)
 }
 
-// Whether a verdict's bytes pick a clause.
+// Whether a verdict's bytes pick a clause. They are C's, so the file (3) and the refusal stand in them as numbers.
 fn picks_clause(verdict: &[u8]) -> bool
     ensures { result ≡ picks verdict.now }
 {
@@ -60,7 +60,8 @@ fn ends_left(b: u8, left: usize) -> usize
     if b == 10 { left - 1 } else { left }
 }
 
-// Where the line with a number begins; the text's length where there are fewer lines.
+// Where the line with a number begins; the text's length where there are fewer lines, as the definition of that name says it. A loop, since each byte changes
+// what is left to pass: an adapter that carries it and stops at the first find would be no plainer.
 fn line_start(s: &[u8], k: usize) -> usize
     ensures { result ≡ line_start k s.now }
 {

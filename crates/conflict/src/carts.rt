@@ -10,7 +10,8 @@ use crate::rows::Rows;
 use plan::Head;
 use refusal::Refused;
 
-// A cart's first meeting, if there is one, as its refusal. `as`, as in above: the numbers are proved to fit, and TryFrom would add an error that never comes.
+// A cart's first meeting, if there is one, as its refusal. `as`, here and in above.rt: the numbers are proved to fit, and TryFrom would add an error that
+// never comes.
 fn refused_meeting(a: usize, m: Option<usize>) -> Result<(), Refused>
     requires { (a < 32) × ((s : ℕ) → m ≡ Some s → s < 64) }
     ensures { checked result ≡ verdict_of a m }

@@ -14,7 +14,6 @@ ghost use Rattle.drift.specs.Lent.{who_of, Lent};
 
 use crate::Ground;
 use crate::nodes::{number_at, over_at, percent_at};
-use quorum::Fleet;
 
 // The number of carts that a count over so many carts asks for: a share is rounded to the nearest, a half going up.
 pub fn threshold(number: usize, percent: bool, size: usize) -> usize
@@ -107,10 +106,5 @@ pub fn together(
     if g.carts <= few {
         return 0;
     }
-    let fleet = Fleet {
-        carts: g.carts,
-        lasso: g.lasso,
-        drift: g.drift,
-    };
-    quorum::joint_row(t, at, few + 1, who, fleet, w, bits)
+    quorum::joint_row(t, at, few + 1, who, g.fleet(), w, bits)
 }

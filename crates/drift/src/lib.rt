@@ -13,11 +13,12 @@ mod refused;
 mod tables;
 mod tallies;
 
-ghost use Rattle.std.specs.Prelude.{◌<◌, ◌≤◌};
+ghost use Rattle.std.specs.Prelude.{◌≡◌, ◌<◌, ◌≤◌};
 
 pub use clauses::clause_row;
 use mask::Lasso;
 pub use needs::fill_needs;
+use quorum::Fleet;
 pub use refused::{failing_step, has_next, lacking_group};
 
 // What clauses are judged on: so many carts, the lasso of their steps, the drift, and so many tables of marks. The bits of steps are lent beside it,
@@ -25,7 +26,7 @@ pub use refused::{failing_step, has_next, lacking_group};
 // to fill, w alone or with the tallies. Nor a node's block with its number: each step down would make one, and prove `Ordered` for it, where a number does.
 // Words for the windows of a count (w), and the tallies that are kept from count to count, are lent for a whole check, the tallies each 255 at the start, for
 // none: memory is fixed, and an Option to each would take twice the bytes. w and tallies are lent one by one: a struct of them is cleared when it is made,
-// and the check of a small floor takes 2,243 instructions more (29 %).
+// and the check of a small floor takes 2,218 instructions more (29 %).
 #[derive(Clone, Copy)]
 pub struct Ground {
     pub carts: usize,
@@ -36,6 +37,20 @@ pub struct Ground {
     pub ghost few: { carts ≤ 32 },
     pub ghost drift_bound: { drift ≤ 16 },
     pub ghost marks_bound: { marks ≤ 32 },
+}
+
+impl Ground {
+    // What its counts are over.
+    #[inline(always)]
+    pub(crate) fn fleet(self) -> Fleet
+        ensures { (result.carts ≡ self.carts) × (result.lasso ≡ self.lasso) × (result.drift ≡ self.drift) }
+    {
+        Fleet {
+            carts: self.carts,
+            lasso: self.lasso,
+            drift: self.drift,
+        }
+    }
 }
 
 // The nodes up to a clause's last one, four bytes to each, and how many pairs of places the text of each needs.

@@ -27,6 +27,7 @@ pub fn percent_at(nodes: &[u8], k: usize) -> bool
     }
 }
 
+// first_at and second_at differ in a constant: by a parameter they would say less.
 pub fn first_at(nodes: &[u8], k: usize) -> usize
     requires { Ordered nodes.now (k + 1) }
     ensures { result ≡ first_at nodes.now k }

@@ -62,7 +62,7 @@ pub fn has_next(nodes: &[u8], k: usize) -> bool
     }
 }
 
-// The lowest step at which a row is false.
+// The lowest step at which a row is false, or h for none: `lowest` is so.
 fn lowest_off(a: u64, h: usize) -> usize
     requires { h ≤ 64 }
     ensures { (result ≡ lowest (on a) h 0) × (result ≤ h) }
@@ -86,7 +86,7 @@ fn globally_at(nodes: &[u8], k: usize) -> Option<usize>
     }
 }
 
-// The step at which node k's clause fails, if it does.
+// The step at which node k's clause fails, if it does. 0 where it is no G: `failing` and the paper say so.
 pub fn failing_step(
     c: Clause,
     t: &mut [u32],

@@ -9,7 +9,6 @@ ghost use Rattle.drift.specs.Tallies.{KeptAt, TalliesOf, Tallies};
 
 use crate::Ground;
 use crate::places::chosen;
-use quorum::Fleet;
 
 // Where the tallies of the mark whose table begins at `from` are kept, or of its negation; nowhere if the table is no mark's or there is no room.
 fn kept_at(from: usize, p: bool, g: Ground) -> Option<usize>
@@ -57,12 +56,7 @@ fn fill_if_none(
     if tallies[at] < 255 {
         return;
     }
-    let fleet = Fleet {
-        carts: g.carts,
-        lasso: g.lasso,
-        drift: g.drift,
-    };
-    quorum::fill_tallies(t, from, p, who, fleet, w, tallies, at);
+    quorum::fill_tallies(t, from, p, who, g.fleet(), w, tallies, at);
 }
 
 // The rule for a count with threshold m, over the carts in a word, of the text (p), or the negation of the text, whose table begins at `from`.
@@ -84,12 +78,7 @@ pub fn count_told(
     ensures row { Row g.lasso.h result (quorum g.lasso.h g.lasso.l g.carts g.drift m (within who (λ i s. signed p (told t.now from i s)))) }
 {
     let Some(at) = kept_for(who, bits[32], from, p, g) else {
-        let fleet = Fleet {
-            carts: g.carts,
-            lasso: g.lasso,
-            drift: g.drift,
-        };
-        return quorum::count_row(t, from, p, m, who, fleet, w, bits);
+        return quorum::count_row(t, from, p, m, who, g.fleet(), w, bits);
     };
     fill_if_none(t, from, p, who, w, tallies, g, at);
     quorum::tallied_row(t, from, p, m, who, g.carts, g.lasso.h, w, tallies, at, bits)

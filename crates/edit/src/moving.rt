@@ -48,7 +48,8 @@ fn moved_row(row: &[u8], stem: usize, s: usize, out: &mut [u8], at: usize)
     put_turned(&row[stem..], k, out, at);
 }
 
-// The rows of a block moved on, one after the other with nothing between them. Where a row lies is one line, as in moves: a function would be no plainer.
+// The rows of a block moved on, one after the other with nothing between them. Where a row lies is a product, a sum and a slice,
+// as in moves: a function in plan would only wrap them.
 fn moved_rows(carts: usize, h: Head, block: &[u8; 2048], s: usize, size: usize) -> [u8; 2048]
     requires head_in_range { HeadInRange h }
     requires carts_bound { (carts ≤ 32) × (size ≡ (moved_head s h).steps) }
@@ -64,7 +65,8 @@ fn moved_rows(carts: usize, h: Head, block: &[u8; 2048], s: usize, size: usize) 
     rows
 }
 
-// Writes a plan that is read already, moved on, if there is room. Not by &PlanRead: tried, and behind it the block's length is not known.
+// Writes a plan that is read already, moved on, if there is room. Not by &PlanRead: tried, and behind it the length of the
+// block's slices is not known.
 fn put_moved(
     carts: usize,
     h: Head,

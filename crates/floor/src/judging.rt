@@ -133,7 +133,7 @@ fn judge_group(f: Floor, body: &[u8]) -> Result<Floor, u32>
     })
 }
 
-// Judges a record by its kind and body, behind those already counted.
+// Judges a record by its kind and body, behind those already counted. The kind is the file's number: any may stand there.
 #[inline(always)]
 fn judge(f: Floor, kind: u16, body: &[u8]) -> Result<Floor, u32>
     ensures { result ≡ judged f kind body.now }

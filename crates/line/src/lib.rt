@@ -1,5 +1,5 @@
-// The line that document 01's program prints for a verdict. Printed by hand, into fixed memory: `write!` promises its bytes only for a String, on the heap, and
-// `verdict_line` promises every byte of the lent buffer.
+// The line that document 01's program prints for a verdict. Printed by hand, into fixed memory: there is no heap for a String, from an InlineText the bytes
+// would be copied into the lent buffer as well, and `verdict_line` promises every byte of that.
 #![tactic(auto)]
 
 ghost use Rattle.std.specs.Prelude.{◌≡◌, ◌+◌, ◌≤◌, ◌<◌, ◌∷◌, length};
@@ -48,7 +48,7 @@ fn put_number(out: &mut [u8], at: usize, n: u32) -> usize
     put_decimal(out, from, n)
 }
 
-// Puts the word `refused` and the name of the file, if there is one.
+// Puts the word `refused` and the name of the file, if there is one. The file is C's number, as in `Code`: `line_of` is of any code.
 fn put_refused(out: &mut [u8], about: u32) -> usize
     requires { 13 ≤ length out.old }
     ensures put_at { PutAt (spaced (ascii "refused") (file_name about)) out.old 0 result out.new }

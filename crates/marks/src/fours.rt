@@ -11,7 +11,8 @@ fn choose(m: u32, x: u32, y: u32) -> u32
     (x & m) | (y ^ (y & m))
 }
 
-// The even bits of a, and those of b above them.
+// The even bits of a, and those of b above them. `lower` is this with another mask and shift, as `upper` is `odds`: one function with both as parameters would
+// state its four bits by cases.
 fn evens(a: u32, b: u32) -> u32
     ensures { Fours (λ j. on a j) (λ j. on b j) (λ j. on a (j + 2)) (λ j. on b (j + 2)) result }
 {

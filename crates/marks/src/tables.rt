@@ -6,7 +6,7 @@ ghost use Rattle.marks.specs.Tables.{Each, Holds, Tables, Empty, Room, MovedUp, 
 
 use super::{fours, words};
 
-// One word stored n times.
+// One word stored n times. A `fill` of a range, as table's `put_lap` is: a function over both would wrap that.
 pub(crate) fn put(t: &mut [u32], at: usize, n: usize, x: u32)
     requires { at + n ≤ length t.old }
     ensures { Stored (λ s y. y ≡ x) at 0 n t.old t.new }

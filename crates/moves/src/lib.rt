@@ -37,7 +37,8 @@ fn judge_cart_row(lanes: &Lanes<'_>, c: usize, row: &[u8], stem: usize) -> Resul
         .map_err(|fault| refused_move(c, fault))
 }
 
-// Judges the rows of all carts. Where a cart's row lies is one line, here as in edit's moved_rows: a function for it would be no plainer.
+// Judges the rows of all carts. Where a cart's row lies is a product, a sum and a slice, here as in edit's moved_rows: a function in plan
+// would only wrap them.
 fn judge_carts(lanes: &Lanes<'_>, h: Head, block: &[u8; 2048]) -> Result<(), Refused>
     requires { RowsFit h }
     ensures { checked result ≡ judged_carts lanes.now.floor.now (held_numbers lanes.now.counts.carts h block.now) lanes.now.counts.carts 0 }
@@ -91,6 +92,8 @@ fn judge_linked<const N: usize>(
 }
 
 // Judges the rows of an accepted plan and then a further one as a cart's. Clearing a large table of links would cost a small floor more than reading it.
+// The floor's bytes, its numbers, the head and the block come one by one: `plan::read` gives the last three without the bytes, and a struct of all four would be
+// made at each call.
 pub fn judge_plan_and_row(
     s: &[u8],
     f: Floor,

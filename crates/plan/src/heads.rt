@@ -11,7 +11,7 @@ pub(crate) fn out_of_range(h: Head) -> bool
     h.steps == 0 || 64 < h.steps || h.steps <= h.stem || 16 < h.drift
 }
 
-// Judges the first record by its kind and body.
+// Judges the first record by its kind and body. The kind is the file's number: any may stand there.
 #[tactic(auto, unfolding(crate::specs::Plan::judged_head))]
 pub(crate) fn judge_head(kind: u16, body: &[u8]) -> Result<Head, Refusal>
     ensures { result ≡ judged_head kind body.now }

@@ -31,7 +31,8 @@ pub fn judge_row(body: &[u8], steps: usize, places: usize) -> Result<(), RowFaul
     Ok(())
 }
 
-// Judges a record behind n rows. An error is document 01's number of the refusal, as `row_fault` states it.
+// Judges a record behind n rows. An error is document 01's number of the refusal, as `row_fault` states it; the kind is the file's number, and any may stand
+// there.
 pub(crate) fn judge_record(f: Floor, h: Head, n: usize, kind: u16, body: &[u8]) -> Result<(), u32>
     ensures { result ≡ unless_fault (row_fault f h n kind body.now) (Ok tt) Err }
 {

@@ -9,6 +9,7 @@ ghost use Rattle.record.specs.Buffer.{stored};
 
 // What stands at an offset of a file: nothing more, less than a record, or a record and where its body lies. Kept: `found_at` and the theorems on it
 // are of these three cases. The end of a file is no fault and no body, and `Cut` is a fault only to whoever reads on.
+// A record's kind stays the file's number: any may stand there, and `found_at` gives it.
 #[derive(Clone, Copy)]
 pub enum Found {
     End,

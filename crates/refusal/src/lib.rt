@@ -6,7 +6,7 @@ ghost use Rattle.refusal.specs.Codes.{refused, at_offset, code_about, code_of, b
 ghost use Rattle.refusal.specs.Stages.{is_accepted};
 ghost use Rattle.refusal.specs.Results.{told, checked, wrote};
 
-// A refusal's number and its two further numbers.
+// A refusal's number and its two further numbers. A number, not an enum: `refuse` and `at_offset` promise their answer for any, and C gets it.
 #[derive(Clone, Copy)]
 pub struct Refusal {
     pub number: u32,

@@ -47,7 +47,8 @@ pub fn print_line(rt: &impl Print, v: Verdict) -> io::Result<()> {
     rt.write_all(&out[..n])
 }
 
-// Prints the line of an operation's answer but for its byte 10, since what was written or picked follows.
+// Prints the line of an operation's answer but for its byte 10, since what was written or picked follows. Another line than in print_line, and
+// one byte fewer: a function over both would take these two as parameters, no plainer.
 pub fn print_answer(rt: &impl Print, v: Verdict) -> io::Result<()> {
     let mut out = [0u8; 48];
     let n = line::answer_line(refusal::code_of(v), &mut out);

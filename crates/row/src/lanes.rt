@@ -6,7 +6,8 @@ ghost use Rattle.row.specs.Chain.{Chained};
 
 use floor::Floor;
 
-// The lanes of an accepted floor, linked by the place that they leave. A link is 0, or one more than a lane's number.
+// The lanes of an accepted floor, linked by the place that they leave. A link is 0, or one more than a lane's number:
+// tables of numbers, since memory is fixed, and `Chained` and what `link` promises are of such links.
 #[derive(Clone, Copy)]
 pub struct Lanes<'a> {
     pub floor: &'a [u8],

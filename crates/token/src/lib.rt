@@ -14,8 +14,8 @@ pub use leaves::{expect, mark, operator_at, reach_at, word};
 pub use nodes::{refused, with_one, with_two};
 pub use tokens::spaces;
 
-// How far reading has come: an offset, the nodes still allowed, and how many nodes stand in the block. Behind a part that was
-// read, its own node is the last of them. That left and n make at most 128 stands with the functions that need it: as a ghost field
+// How far reading has come: an offset, the nodes still allowed, and how many nodes stand in the block, a lent array, as there is no heap. Behind a part
+// that was read, its own node is the last of them. That left and n make at most 128 stands with the functions that need it: as a ghost field
 // it would ask more of those who call `expect`, `with_one`, `with_two` or `count_end`.
 #[derive(Clone, Copy)]
 pub struct Part {
@@ -31,7 +31,8 @@ pub struct Fault {
     pub at: usize,
 }
 
-// A number that was read: its value, or 1,000 if it is more, and the offset behind it.
+// A number that was read: its value, or 1,000 if it is more, and the offset behind it. No Option for more: `NumIs` says `min k 1000`, and the amounts'
+// bounds are told by that number.
 #[derive(Clone, Copy)]
 pub struct Num {
     pub value: usize,

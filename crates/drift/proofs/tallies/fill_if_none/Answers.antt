@@ -5,8 +5,8 @@ use Rattle.drift.proofs.tallies.fill_if_none.Goals as goal
 pub returns : goal.returns
 returns c = let s = c in
     let a = s.args in
-    let filled = c.fill_tallies.ensures in
-    let made = rw s.requires.h_in_bounds.1 at filled.stored in record {
+    let of = c.fleet.ensures in
+    let made = rw (of.0, of.1, of.2, s.requires.h_in_bounds.1) at c.fill_tallies.ensures.stored in record {
       tallies_2 = (
         tallied_too a.g a.t.now a.from a.p a.at s.requires.tallies.1 a.tallies.now _ made s.requires.tallies.0,
         λ j q. made.each j (omega arith) q,
