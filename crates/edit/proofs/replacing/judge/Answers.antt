@@ -32,7 +32,7 @@ returns-in_err-judge_moves_and_row c =
     (ap checked (sym c.in_err-judge_moves_and_row.was) ∙ c.judge_moves_and_row.ensures))
 
 pub row_at-requires : goal.row_at-requires
-row_at-requires c = (held_range _ _ _ (c.read.ensures.accepted _ c.in_ok-r.was)).steps
+row_at-requires c = let range = held_range _ _ _ (c.read.ensures.accepted _ c.in_ok-r.was) in omega (arith, range.stem, range.steps)
 
 pub returns : goal.returns
 returns c =
