@@ -31,3 +31,17 @@ pub fn bytes32(n: u32) -> [u8; 4]
 {
     u32::to_le_bytes(n)
 }
+
+// A byte as an index. Nothing of this repository calls it now, since std's `From` says the same; it stays for whoever does.
+pub fn wide(b: u8) -> usize
+    ensures { result ≡ b }
+{
+    usize::from(b)
+}
+
+// A two-byte number as an index or a length. As `wide`.
+pub fn wide16(n: u16) -> usize
+    ensures { result ≡ n }
+{
+    usize::from(n)
+}

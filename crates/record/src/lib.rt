@@ -1,7 +1,7 @@
 // Records of a file: a two-byte body length, a two-byte kind and the body.
 #![tactic(auto)]
 
-ghost use Rattle.std.specs.Prelude.{◌≡◌, ◌+◌, ◌-◌, ◌≤◌, ◌<◌, length};
+ghost use Rattle.std.specs.Prelude.{◌≡◌, ◌+◌, ◌-◌, ◌≤◌, ◌<◌, min, length};
 ghost use Rattle.record.specs.Record.{encoded};
 ghost use Rattle.record.specs.Parts.{of_kind, laid};
 ghost use Rattle.record.specs.Found.{found_at};
@@ -58,6 +58,17 @@ pub fn put(out: &mut [u8], at: usize, kind: u16, body: &[u8])
     let tag = endian::bytes16(kind);
     copy_at(out, at, &[size[0], size[1], tag[0], tag[1]]);
     copy_at(out, at + 4, body);
+}
+
+// Where the part of so many bytes that begins at an offset ends: the last part is shorter where bytes are left over. Nothing of this repository calls it now,
+// since `chunks` cuts the parts; it stays for whoever does.
+pub fn part_end(from: usize, size: usize, len: usize) -> usize
+    ensures { result ≡ from + min size (len - from) }
+{
+    if len <= from {
+        return from;
+    }
+    if len - from < size { len } else { from + size }
 }
 
 // Writes records of one kind, so many bytes of the bodies to each, one after the other from an offset on, and returns where
