@@ -1,6 +1,0 @@
-use borrow.Author.Rules.{rules}
-use Rattle.mask.specs.Combined.{negated}
-use Rattle.mask.proofs.lasso.Lasso.complement.Goals as goal
-
-pub returns : goal.returns
-returns c = negated c.args.self.h c.args.a c.full.result (search rules) c.full.ensures

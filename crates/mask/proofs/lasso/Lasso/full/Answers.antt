@@ -1,6 +1,0 @@
-use borrow.Author.Rules.{rules}
-use Rattle.mask.specs.Combined.{all_true}
-use Rattle.mask.proofs.lasso.Lasso.full.Goals as goal
-
-pub returns : goal.returns
-returns c = all_true c.args.self.h (search rules)
