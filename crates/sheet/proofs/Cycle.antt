@@ -5,7 +5,7 @@ use mathlib.Core.Path.{◌≡◌, refl, sym, subst}
 use mathlib.Core.Bool.{Bool}
 use mathlib.Core.List.{List, [], ◌∷◌, ◌++◌}
 use lib.ListN.{length, drop}
-use Rattle.std.specs.Prelude.{Result, Ok, Err}
+use Rattle.std.specs.Prelude.{Result, Ok, Err, IfOk}
 use Rattle.grammar.specs.Grammar.{Form, and, or}
 use Rattle.grammar.specs.Limits.{nodes}
 use Rattle.grammar.specs.Nodes.{two_n, Op₂, and₂, or₂, flat}
@@ -13,7 +13,7 @@ use Rattle.grammar.specs.Reader.{Got, got, no, Reader, chain, and_chain, or_chai
 use Rattle.token.specs.Block.{two_byte}
 use Rattle.token.specs.Parts.{PartIs}
 use Rattle.sheet.specs.Ranks.{LeafOf, leaf_nodes, leaf_flat, leaf_reader}
-use Rattle.token.specs.More.{WithNode}
+use Rattle.token.specs.More.{WithNode, WithNodeIfRead}
 use Rattle.token.specs.Operator.{Stands, Lacks}
 use Rattle.token.specs.Joined.{part_length}
 use Rattle.sheet.specs.Room.{flat_size, Room, room, refused_part}
@@ -129,16 +129,39 @@ module _ (inner : Bool) (k : Joint) (level : ℕ) (s : List ℕ) (at n left : �
           pub next_room : Room r.n (r.left - 1) p
           next_room = room inner s r.n (r.left - 1) block p late (links inner k level (r.left - 1) (drop (i + 1) s)) next
 
-          -- its node and the operator's stand in the block
-          pub next_fits : (0 < p.n) × (p.n < 128) × (r.n - 1 < 128)
-          next_fits =
-              let m = turn_room in
-              let x = next_room in
-              (omega (arith, x.some), omega (arith, x.kept, m.kept), omega (arith, m.kept, m.some))
-
           pub turn_on : (q : Part) (after : List ℕ) → WithNode late p (two_byte (joint_op k) ∷ (r.n - 1) ∷ (p.n - 1) ∷ 0 ∷ []) q after
               → Turn q after × (q.left < r.left)
           turn_on q after put =
               onward (leaf_nodes inner) (leaf_flat inner) (flat_size inner) (joint_byte k) (joint_op k) (joint k) (flat-joint inner k)
               (links inner k level) s n left before (whole inner k level left (drop at s)) r block w i op (r.left - 1) (omega arith) late long few p
               (behind_it (Ok p) next) q after put
+
+        -- its node, if it was read, and the operator's stand in the block
+        pub next_fits : (p : Result Part Fault) → Next p → IfOk p (λ x. (0 < x.n) × (x.n < 128)) × (r.n - 1 < 128)
+        next_fits p next =
+            let m = turn_room in (
+              fits p next,
+              omega
+                  (arith, m.kept, m.some),
+            )
+          where
+            fits : (p : Result Part Fault) → Next p → IfOk p (λ x. (0 < x.n) × (x.n < 128))
+            fits (Ok p) next = let m = turn_room in let x = next_room p next in (x.some, omega (arith, x.kept, m.kept))
+            fits (Err f) next = tt
+
+        -- by what the function that puts the operator's node gives
+        abbrev Put : Result Part Fault → ℕ → Result Part Fault → List ℕ → Type 0
+        Put p j q after = WithNodeIfRead late p (λ x. j ∷ (r.n - 1) ∷ (x.n - 1) ∷ 0 ∷ []) q after
+
+        pub turn_broken_with : (p : Result Part Fault) → Next p → (j : ℕ) (f : Fault) (after : List ℕ) → Put p j (Err f) after
+            → P (Err f) after (whole inner k level left (drop at s))
+        turn_broken_with (Ok p) next j f after put = absurd put
+        turn_broken_with (Err g) next j f after put =
+            subst (λ (x : Result Part Fault). P x after (whole inner k level left (drop at s))) (sym put.0)
+            (subst (λ (l : List ℕ). P (Err g) l (whole inner k level left (drop at s))) (sym put.1) (turn_broken g next))
+
+        pub turn_on_with : (p : Result Part Fault) → Next p → (j : ℕ) → j ≡ two_byte (joint_op k) → (q : Part) (after : List ℕ) → Put p j (Ok q) after
+            → Turn q after × (q.left < r.left)
+        turn_on_with (Ok p) next j e q after put =
+            turn_on p next q after (subst (λ (x : ℕ). WithNode late p (x ∷ (r.n - 1) ∷ (p.n - 1) ∷ 0 ∷ []) q after) e put)
+        turn_on_with (Err f) next j e q after put = let z : ◌≡◌ {A = Result Part Fault} (Ok q) (Err f) = put.0 in absurd cc

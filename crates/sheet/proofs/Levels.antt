@@ -6,22 +6,22 @@ use mathlib.Core.Bool.{Bool, true, false}
 use mathlib.Core.List.{List, [], ◌∷◌}
 use lib.ListN.{length, get_or, drop, drop_of_length-le}
 use lib.Seq.{drop-cons}
-use Rattle.std.specs.Prelude.{None, Some, Result, Ok, Err}
-use Rattle.grammar.specs.Grammar.{Form, Inner}
+use Rattle.std.specs.Prelude.{None, Some, Result, Ok, Err, IfOk}
+use Rattle.grammar.specs.Grammar.{Form}
 use Rattle.grammar.specs.Limits.{mark_nodes, count_nodes}
 use Rattle.grammar.specs.Nodes.{top_n, mark_n, flat_mark, flat_count}
-use Rattle.grammar.specs.Reader.{Got, got, no, bind, skip, marks, smalls, untils, ors}
+use Rattle.grammar.specs.Reader.{Got, got, bind, skip, marks, smalls, untils, ors}
 use Rattle.token.specs.Block.{unary_byte, binary_byte}
 use Rattle.token.specs.Counts.{CountEnds, count_got}
 use Rattle.token.specs.Joined.{part_length}
-use Rattle.token.specs.Leaves.{LeafIs, Expected, word_got}
-use Rattle.token.specs.More.{WithNode}
+use Rattle.token.specs.Leaves.{LeafIs, Expected, ExpectedIfRead, word_got}
+use Rattle.token.specs.More.{WithNode, WithNodeIfRead}
 use Rattle.token.specs.Operator.{Reaches}
 use Rattle.token.specs.Parts.{PartIs}
 use Rattle.sheet.specs.LeafParts.{mark_part, no_count, count_shut, count_spent, count_is}
 use Rattle.sheet.specs.Ranks.{LeafOf, LeafReads, leaf_nodes, leaf_flat, leaf_reader}
 use Rattle.sheet.specs.Reached.{until_refused, until_ended, until_shut, until_spent, until_broken, until_joined}
-use Rattle.sheet.specs.Room.{flat_size, refused_part}
+use Rattle.sheet.specs.Room.{flat_size, room, refused_part, part_inside}
 use Rattle.sheet.specs.Small.{prefix_kind, prefix_of, other_byte, nothing, leaf_is, paren_shut, paren_refused, paren_closed, prefix_shut, prefix_spent, prefix_refused, prefix_over, word_is}
 use Rattle.token.specs.declared.Unary.{Unary}
 use Rattle.token.specs.declared.Part.{Part}
@@ -81,6 +81,11 @@ module _ (inner : Bool) (s : List ℕ) (level at n left : ℕ) (before : List �
             (part_length (leaf_nodes inner) (leaf_flat inner) (flat_size inner) s n left before (Ok r) after
             (ors (leaf_reader inner) (level - 1) left (drop (i + 1) s)) h long few) q w
 
+        pub small_paren : length before ≡ 512 → n + left ≤ 128 → (r : Result Part Fault) (after : List ℕ) → Inside r after (i + 1)
+            → (q : Result Part Fault) → ExpectedIfRead s r 41 q → Small q after
+        small_paren long few (Ok r) after h q w = small_closed long few r after h q w
+        small_paren long few (Err f) after h q w = subst (λ (x : Result Part Fault). Small x after) (sym w) (small_broken f after h)
+
       pub small_leaf : (b ≡ 116 → ⊥) → (b ≡ 40 → ⊥) → None ≡ prefix_kind b → (r : Result Part Fault) (after : List ℕ)
           → LeafReads inner level s i n left before r after → Small r after
       small_leaf t p k r after h =
@@ -123,6 +128,16 @@ module _ (inner : Bool) (s : List ℕ) (level at n left : ℕ) (before : List �
                 prefix_over (leaf_nodes inner) (leaf_flat inner) (flat_size inner) (leaf_reader inner) s n left before level (drop at s) i is b here
                 p.operator p.byte (level - 1) (omega (arith, deep)) (left - 1) (omega (arith, some)) long few r mid (subst (Operand (Ok r) mid) next h) q after
                 (subst (λ (j : ℕ). WithNode mid r (j ∷ (r.n - 1) ∷ 0 ∷ 0 ∷ []) q after) p.node put)
+
+            -- by what the function that puts the operator's node gives
+            pub operand_with : length before ≡ 512 → n + left ≤ 128 → (r : Result Part Fault) (mid : List ℕ) → Operand r mid (i + 1)
+                → (j : ℕ) → j ≡ unary_byte k → (q : Result Part Fault) (after : List ℕ)
+                → WithNodeIfRead mid r (λ p. j ∷ (p.n - 1) ∷ 0 ∷ 0 ∷ []) q after → Small q after
+            operand_with long few (Ok r) mid h j e (Ok q) after put =
+                operand_read long few r mid h q after (subst (λ (x : ℕ). WithNode mid r (x ∷ (r.n - 1) ∷ 0 ∷ 0 ∷ []) q after) e put)
+            operand_with long few (Ok r) mid h j e (Err f) after put = absurd put
+            operand_with long few (Err f) mid h j e q after put =
+                subst (λ (x : Result Part Fault). Small x after) (sym put.0) (subst (Small (Err f)) (sym put.1) (operand_refused f mid h))
 
   -- an until-chain, by its smallest part
   abbrev Until : Result Part Fault → List ℕ → Type 0
@@ -178,12 +193,13 @@ module _ (inner : Bool) (s : List ℕ) (level at n left : ℕ) (before : List �
               (level - 1) (omega (arith, deep)) (r.left - 1) (omega (arith, some)) late long few p (subst (Rest (Ok p)) next_at next) q after
               (subst (λ (j : ℕ). WithNode late p (j ∷ (r.n - 1) ∷ (p.n - 1) ∷ 0 ∷ []) q after) w.2 put)
 
--- refused inner text is a refused count
-text_broken : (s : List ℕ) (n m left : ℕ) (before : List ℕ) (f : Fault) (block : List ℕ) (g : Got Inner)
-    → PartIs mark_nodes flat_mark s n m before (Err f) block g → PartIs count_nodes flat_count s n left before (Err f) block (count_got g)
-unfolding bind
-text_broken s n m left before f block (no w t) h = h
-text_broken s n m left before f block (got a k t) h = absurd h
+          pub rest_with : (p : Result Part Fault) → Rest p (k.at + 1) → (j : ℕ) → j ≡ binary_byte k.operator → (q : Result Part Fault) (after : List ℕ)
+              → WithNodeIfRead late p (λ x. j ∷ (r.n - 1) ∷ (x.n - 1) ∷ 0 ∷ []) q after → Until q after
+          rest_with (Ok p) more j e (Ok q) after put =
+              rest_read p more q after (subst (λ (x : ℕ). WithNode late p (x ∷ (r.n - 1) ∷ (p.n - 1) ∷ 0 ∷ []) q after) e put)
+          rest_with (Ok p) more j e (Err f) after put = absurd put
+          rest_with (Err f) more j e q after put =
+              subst (λ (x : Result Part Fault). Until x after) (sym put.0) (subst (Until (Err f)) (sym put.1) (rest_refused f more))
 
 -- a leaf at its first byte: in inner text a mark, in a clause a count
 module _ (inner : Bool) (s : List ℕ) (level i n left : ℕ) (before : List ℕ) where
@@ -228,14 +244,16 @@ module _ (inner : Bool) (s : List ℕ) (level i n left : ℕ) (before : List ℕ
               ap (λ (j : ℕ). count_got (ors (λ j. marks) (level - 1) (left - 1) (drop j s))) q
               ∙ sym (count_is s level left i low x (level - 1) (omega (arith, deep)) (left - 1) (omega (arith, some)))
 
-          pub text_refused : (f : Fault) (block : List ℕ) → Text (Err f) block → Leaf (Err f) block
-          text_refused f block h =
-              of_clause (Err f) block
-              (subst (PartIs count_nodes flat_count s n left before (Err f) block) same
-              (text_broken s n (left - 1) left before f block (ors (λ j. marks) (level - 1) (left - 1) (drop (i + 1) s)) h))
+          -- where the text ends and its nodes, if it was read
+          pub text_fits : n + left ≤ 128 → (r : Result Part Fault) (block : List ℕ) → Text r block → IfOk r (λ p. (p.at ≤ length s) × (0 < p.n) × (p.n < 128))
+          text_fits few (Ok r) block h =
+              let g = ors (λ j. marks) (level - 1) (left - 1) (drop (i + 1) s) in
+              let o = room true s n (left - 1) before r block g h in
+              (part_inside true s n (left - 1) before (Ok r) block g h, o.some, omega (arith, o.kept, some, few))
+          text_fits few (Err f) block h = tt
 
-          pub text_read : length before ≡ 512 → n + left ≤ 128 → (r : Part) (block : List ℕ) → Text (Ok r) block → (q : Result Part Fault) (after : List ℕ)
-              → CountEnds s r block q after → Leaf q after
+          pub text_read : length before ≡ 512 → n + left ≤ 128 → (r : Result Part Fault) (block : List ℕ) → Text r block
+              → (q : Result Part Fault) (after : List ℕ) → CountEnds s r block q after → Leaf q after
           text_read long few r block h q after ends =
               let one : suc (left - 1) ≡ left = omega (arith, some) in
               let g = ors (λ j. marks) (level - 1) (left - 1) (drop (i + 1) s) in

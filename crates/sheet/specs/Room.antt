@@ -1,5 +1,5 @@
 -- What a part that was read leaves room for.
-use Rattle.std.specs.Prelude.{ℕ, ◌+◌, ◌≤◌, ◌<◌, ◌≡◌, Bool, true, false, List, length, drop, Ok, Err}
+use Rattle.std.specs.Prelude.{ℕ, ◌+◌, ◌≤◌, ◌<◌, ◌≡◌, Bool, true, false, List, length, drop, Result, Ok, Err, MatchResult, IfOk}
 use Rattle.std.proofs.Common.{arith, sym, subst}
 use Rattle.grammar.specs.Grammar.{Form, top, leaf, neg, and, or, next, until, release, ev, gl, counted}
 use Rattle.grammar.specs.Limits.{nodes}
@@ -46,6 +46,11 @@ room inner s n left before r block (got a m t) h =
     let y = some_node inner a in
     record { kept = h.kept; some = omega (arith, h.slots); more = omega (arith, h.slots) }
 
+pub room_if_read : (inner : Bool) (s : List ℕ) (n left : ℕ) (before : List ℕ) (r : Result Part Fault) (block : List ℕ) (g : Got (Form (LeafOf inner)))
+    → PartIs (leaf_nodes inner) (leaf_flat inner) s n left before r block g → IfOk r (Room n left)
+room_if_read inner s n left before (Ok r) block g h = room inner s n left before r block g h
+room_if_read inner s n left before (Err f) block g h = tt
+
 -- a refusal as a part
 pub refused_part : (inner : Bool) (s : List ℕ) (n left : ℕ) (before : List ℕ) (f : Fault) (block : List ℕ) (w i : ℕ) (g : Got (Form (LeafOf inner)))
     → f ≡ record { number = w; at = i } → (w ≡ 0 → ⊥) → i ≤ length s → length block ≡ length before → g ≡ no w (drop i s)
@@ -55,7 +60,9 @@ refused_part inner s n left before f block w i g e some l b q =
     (refused_at s before f block w i e some l b)
 
 -- where a part ends is in the text, and so is what is refused
-pub part_inside : (inner : Bool) (s : List ℕ) (n left : ℕ) (before : List ℕ) (r : Part) (block : List ℕ) (g : Got (Form (LeafOf inner)))
-    → PartIs (leaf_nodes inner) (leaf_flat inner) s n left before (Ok r) block g → r.at ≤ length s
-part_inside inner s n left before r block (no w t) h = absurd h
-part_inside inner s n left before r block (got a m t) h = h.inside
+pub part_inside : (inner : Bool) (s : List ℕ) (n left : ℕ) (before : List ℕ) (r : Result Part Fault) (block : List ℕ) (g : Got (Form (LeafOf inner)))
+    → PartIs (leaf_nodes inner) (leaf_flat inner) s n left before r block g → MatchResult r (λ p. p.at ≤ length s) (λ f. f.at ≤ length s)
+part_inside inner s n left before (Err f) block (no w t) h = h.inside
+part_inside inner s n left before (Ok r) block (no w t) h = absurd h
+part_inside inner s n left before (Err f) block (got a m t) h = absurd h
+part_inside inner s n left before (Ok r) block (got a m t) h = h.inside

@@ -8,8 +8,8 @@ ghost use Rattle.sheet.specs.Ranks.{Reads, LeafReads};
 ghost use Rattle.sheet.specs.Small.{prefix_kind};
 
 use token::{
-    Binary, Fault, Part, Unary, count_end, expect, mark, operator_at, reach_at, refused, spaces,
-    with_one, with_two, word,
+    Binary, Fault, Kind, Part, Unary, count_end, expect, mark, operator_at, reach_at, refused,
+    spaces, with_one, with_two, word,
 };
 
 // A prefix operator, by its byte.
@@ -50,7 +50,7 @@ fn small_part(
         if level == 0 {
             return Err(refused(14, i));
         }
-        let r = or_part(s, Part { at: i + 1, ..p }, level - 1, inner, nodes)?;
+        let r = or_part(s, Part { at: i + 1, ..p }, level - 1, inner, nodes);
         return expect(s, r, b')');
     }
     match prefix_kind(b) {
@@ -64,8 +64,8 @@ fn small_part(
                 left: p.left - 1,
                 ..p
             };
-            let q = small_part(s, operand, level - 1, inner, nodes)?;
-            Ok(with_one(nodes, q, o))
+            let q = small_part(s, operand, level - 1, inner, nodes);
+            with_one(nodes, q, Kind::Unary(o).byte())
         }
     }
 }
@@ -97,7 +97,7 @@ fn leaf_part(
         left: p.left - 1,
         ..p
     };
-    let r = or_part(s, text, level - 1, true, nodes)?;
+    let r = or_part(s, text, level - 1, true, nodes);
     count_end(s, r, nodes)
 }
 
@@ -125,8 +125,8 @@ fn until_part(
                 left: r.left - 1,
                 ..r
             };
-            let q = until_part(s, rest, level - 1, inner, nodes)?;
-            Ok(with_two(nodes, q, k.operator, r.n - 1))
+            let q = until_part(s, rest, level - 1, inner, nodes);
+            with_two(nodes, q, Kind::Binary(k.operator).byte(), r.n - 1)
         }
     }
 }
@@ -154,8 +154,8 @@ fn and_part(
             left: r.left - 1,
             ..r
         };
-        let q = until_part(s, next, level, inner, nodes)?;
-        r = with_two(nodes, q, Binary::And, r.n - 1);
+        let q = until_part(s, next, level, inner, nodes);
+        r = with_two(nodes, q, Kind::Binary(Binary::And).byte(), r.n - 1)?;
     }
     Ok(r)
 }
@@ -182,8 +182,8 @@ pub(crate) fn or_part(
             left: r.left - 1,
             ..r
         };
-        let q = and_part(s, next, level, inner, nodes)?;
-        r = with_two(nodes, q, Binary::Or, r.n - 1);
+        let q = and_part(s, next, level, inner, nodes);
+        r = with_two(nodes, q, Kind::Binary(Binary::Or).byte(), r.n - 1)?;
     }
     Ok(r)
 }

@@ -23,7 +23,7 @@ pub fn read_clause(s: &[u8], at: usize, nodes: &mut [u8; 512]) -> Result<Part, F
         left: 128,
         n: 0,
     };
-    let r = or_part(s, start, 32, false, nodes)?;
+    let r = or_part(s, start, 32, false, nodes);
     expect(s, r, 10)
 }
 

@@ -37,6 +37,13 @@ module _ (a : Inner) (n : ℕ) (u : List ℕ) where
   unfolding count_end
   count_end_is = ap (λ (g : Got Amount). bind g (λ x m r. expect 93 (counted a x) m r)) (amounts_any n u) ∙ by_amount (amounts 0 u)
 
+-- refused inner text is a refused count
+pub text_handed_on : (s : List ℕ) (n m left : ℕ) (before : List ℕ) (f : Fault) (block : List ℕ) (g : Got Inner)
+    → PartIs mark_nodes flat_mark s n m before (Err f) block g → PartIs count_nodes flat_count s n left before (Err f) block (count_got g)
+unfolding bind
+text_handed_on s n m left before f block (no w t) h = h
+text_handed_on s n m left before f block (got a k t) h = absurd h
+
 module _ (s : List ℕ) (n left : ℕ) (before : List ℕ) (long : length before ≡ 512) (few : n + suc left ≤ 128) (r : Part) (block : List ℕ) (g : Got Inner)
     (h : PartIs mark_nodes flat_mark s n left before (Ok r) block g) where
   abbrev C : Result Part Fault → List ℕ → Got Clause → Type 0

@@ -8,8 +8,9 @@ use Rattle.std.proofs.Math.ListN.{length, drop}
 use Rattle.grammar.specs.Grammar.{Form}
 use Rattle.grammar.specs.Nodes.{Node}
 use Rattle.grammar.specs.Reader.{Got, got, no, pick, bind, skip, expect_at, expect}
-use Rattle.token.specs.Leaves.{PartRefused, Found, Missing, Expected}
+use Rattle.token.specs.Leaves.{PartRefused, Found, Missing, Expected, ExpectedIfRead}
 use Rattle.token.specs.Parts.{PartIs}
+use Rattle.token.specs.Joined.{stay}
 use Rattle.token.specs.declared.Part.{Part}
 use Rattle.token.specs.declared.Fault.{Fault}
 
@@ -60,3 +61,13 @@ ended_part leaf_nodes leaf_flat s n left before r block c (Ok q) w (got a m t) h
       kept = omega (arith, w.allowed, w.slots, h.kept);
       block = h.block;
     })
+
+-- a refused part stays refused
+pub ended_if_read : {L : Type 0} (leaf_nodes : L → ℕ) (leaf_flat : L → ℕ → List Node) (s : List ℕ) (n left : ℕ) (before : List ℕ) (r : Result Part Fault)
+    (block : List ℕ) (c : ℕ) (q : Result Part Fault) → ExpectedIfRead s r c q → (g : Got (Form L)) → PartIs leaf_nodes leaf_flat s n left before r block g
+    → length block ≡ length before
+    → PartIs leaf_nodes leaf_flat s n left before q block (bind g (λ a m t. expect c a m t))
+ended_if_read leaf_nodes leaf_flat s n left before (Ok r) block c q w g h long = ended_part leaf_nodes leaf_flat s n left before r block c q w g h long
+ended_if_read leaf_nodes leaf_flat s n left before (Err f) block c q w g h long =
+    subst (λ (x : Result Part Fault). PartIs leaf_nodes leaf_flat s n left before x block (bind g (λ a m t. expect c a m t))) (sym w)
+    (stay leaf_nodes leaf_flat leaf_nodes leaf_flat s n left n left before before f block g h refl (λ a m t. expect c a m t))

@@ -56,6 +56,11 @@ abbrev pub Expected : List ℕ → Part → ℕ → Result Part Fault → Type 0
 Expected s r c (Ok q) = Found s r c q
 Expected s r c (Err f) = Missing s r c f
 
+-- behind a part that was read; a refused one is handed on
+abbrev pub ExpectedIfRead : List ℕ → Result Part Fault → ℕ → Result Part Fault → Type 0
+ExpectedIfRead s (Ok p) c q = Expected s p c q
+ExpectedIfRead s (Err f) c q = q ≡ Err f
+
 -- `true`, from its first byte on
 abbrev pub word_got : List ℕ → ℕ → ℕ → Got (Unit {0})
 word_got s left i = bind (literal {A = Unit {0}} (114 ∷ 117 ∷ 101 ∷ []) tt left (drop (suc i) s)) (λ u m r₁. node (drop i s) m (λ m₁. got tt m₁ r₁))

@@ -1,11 +1,11 @@
 // Single tokens: an operator, a byte that ends a part, `true`, a mark.
-ghost use Rattle.std.specs.Prelude.{◌≡◌, [], ◌∷◌, ◌+◌, ◌-◌, ◌*◌, ◌≤◌, ◌<◌, length, drop};
+ghost use Rattle.std.specs.Prelude.{◌≡◌, [], ◌∷◌, ◌+◌, ◌-◌, ◌*◌, ◌≤◌, ◌<◌, length, drop, IfOk};
 ghost use Rattle.grammar.specs.Nodes.{top_n, mark_n};
 ghost use Rattle.record.specs.Buffer.{stored};
 ghost use Rattle.grammar.specs.Reader.{marks};
 ghost use Rattle.token.specs.Block.{kind_byte};
 ghost use Rattle.token.specs.Operator.{OperatorAt, Reaches};
-ghost use Rattle.token.specs.Leaves.{LeafIs, Expected, ByteAt, word_got};
+ghost use Rattle.token.specs.Leaves.{LeafIs, Expected, ExpectedIfRead, ByteAt, word_got};
 
 use crate::nodes::{put, refused};
 use crate::tokens::{number, spaces};
@@ -39,8 +39,17 @@ pub fn reach_at(s: &[u8], at: usize) -> Option<ReachAt>
     None
 }
 
-// A part up to behind the byte that has to follow it.
-pub fn expect(s: &[u8], r: Part, c: u8) -> Result<Part, Fault>
+// A part up to behind the byte that has to follow it. A refused part is handed on.
+pub fn expect(s: &[u8], r: Result<Part, Fault>, c: u8) -> Result<Part, Fault>
+    requires { IfOk r (λ p. p.at ≤ length s.now) }
+    ensures { ExpectedIfRead s.now r c result }
+{
+    let r = r?;
+    expect_read(s, r, c)
+}
+
+// The same of a part that was read.
+pub(crate) fn expect_read(s: &[u8], r: Part, c: u8) -> Result<Part, Fault>
     requires { r.at ≤ length s.now }
     ensures { Expected s.now r c result }
 {
@@ -70,7 +79,7 @@ fn alone(nodes: &mut [u8; 512], p: Part, kind: Kind, number: u8) -> Part
         left: p.left - 1,
         ..p
     };
-    put(nodes, r, kind, number, 0, 0)
+    put(nodes, r, kind.byte(), number, 0, 0)
 }
 
 // `true`, behind its first byte.

@@ -1,11 +1,11 @@
 -- The levels of a clause: each reads what the definition's reader of its rank reads. Assumes nothing.
-use Rattle.std.proofs.Common.{◌-◌, ◌+◌, true, arith, drop}
-use Rattle.std.proofs.lemmas.Result.{err_from_is_err_and}
-use Rattle.grammar.specs.Reader.{marks, ors, smalls, untils}
+use Rattle.std.proofs.Common.{◌-◌, ◌+◌, arith, drop}
+use Rattle.std.proofs.lemmas.Result.{err_from_is_err_and, IfOk-weaker}
+use Rattle.grammar.specs.Reader.{smalls, untils}
 use Rattle.sheet.specs.Ranks.{leaf_reader}
-use Rattle.sheet.specs.Room.{room, part_inside}
-use Rattle.sheet.proofs.Cycle.{conj, disj, first_refused, first_turn, turn_room, turn_ended, turn_shut, turn_broken, next_fits, turn_on}
-use Rattle.sheet.proofs.Levels.{small_nothing, small_word, small_shut, small_broken, small_closed, small_leaf, small_no_level, small_no_node, operand_refused, operand_read, first_broken, until_alone, until_no_level, until_no_node, rest_refused, rest_read, leaf_mark, leaf_none, leaf_no_level, leaf_no_node, text_refused, text_read}
+use Rattle.sheet.specs.Room.{room, room_if_read}
+use Rattle.sheet.proofs.Cycle.{conj, disj, first_refused, first_turn, turn_room, turn_ended, turn_shut, turn_broken_with, next_fits, turn_on_with}
+use Rattle.sheet.proofs.Levels.{small_nothing, small_word, small_shut, small_paren, small_leaf, small_no_level, small_no_node, operand_with, first_broken, until_alone, until_no_level, until_no_node, rest_with, leaf_mark, leaf_none, leaf_no_level, leaf_no_node, text_fits, text_read}
 use Rattle.sheet.proofs.parts.+and_part_leaf_part_or_part_small_part_until_part.Goals.{leaf_part-then-level-eq0-via-then-level-eq0, leaf_part-then-level-eq0-via-else-level-eq0+then-p-eq0, small_part-then-level-eq0-2-via-then-level-eq0-2, small_part-then-level-eq0-2-via-else-level-eq0-2+then-p-eq0, until_part-then-level-eq0-via-then-level-eq0, until_part-then-level-eq0-via-else-level-eq0+then-r-eq0}
 use Rattle.sheet.proofs.parts.+and_part_leaf_part_or_part_small_part_until_part.Goals as goal
 
@@ -32,33 +32,33 @@ and_part-returns-then-r-eq0 t c =
     turn_shut a.inner conj a.level a.s.now a.p.at a.p.n a.p.left a.nodes.now _ _ c.loop-i.invariant _ c.in-Some.ensures c.told-nodes c.requires.2
     c.if-r-eq0.true _ c.refused.ensures
 
-pub and_part-returns-in_err-q : goal.and_part-returns-in_err-q
-and_part-returns-in_err-q t c =
-    let a = c.args in
-    let e = err_from_is_err_and c.from_residual-in_err-q.result c.from_residual-in_err-q.ensures.1 in
-    rw (e.1, e.2)
-    (turn_broken a.inner conj a.level a.s.now a.p.at a.p.n a.p.left a.nodes.now c.loop-i.r c.loop-i.nodes c.loop-i.invariant c.in-Some.i
-    c.in-Some.ensures
-    (omega (arith, c.if-r-eq0.false)) c.told-nodes c.requires.2
-    c.until_part-in-Some.new.nodes _ c.in_err-q.ensures)
-
 pub and_part-overflow_sub-r : goal.and_part-overflow_sub-r
 and_part-overflow_sub-r t c =
     let a = c.args in
     (turn_room a.inner conj a.level a.s.now a.p.at a.p.n a.p.left a.nodes.now _ _ c.loop-i.invariant).some
 
-pub and_part-with_two-r-requires : goal.and_part-with_two-r-requires
-and_part-with_two-r-requires t c =
+pub and_part-with_two-requires : goal.and_part-with_two-requires
+and_part-with_two-requires t c =
     let a = c.args in
     next_fits a.inner conj a.level a.s.now a.p.at a.p.n a.p.left a.nodes.now _ _ c.loop-i.invariant _ c.in-Some.ensures
-    (omega (arith, c.if-r-eq0.false)) c.told-nodes c.requires.2 _ _ c.in_ok-q.ensures
+    (omega (arith, c.if-r-eq0.false)) c.told-nodes c.requires.2 _ c.until_part-q.result c.until_part-q.ensures
+
+pub and_part-returns-in_err-r-2 : goal.and_part-returns-in_err-r-2
+and_part-returns-in_err-r-2 t c =
+    let a = c.args in
+    let e = err_from_is_err_and c.from_residual-in_err-r-2.result c.from_residual-in_err-r-2.ensures.1 in
+    rw (e.1, e.2)
+    (turn_broken_with a.inner conj a.level a.s.now a.p.at a.p.n a.p.left a.nodes.now c.loop-i.r c.loop-i.nodes c.loop-i.invariant c.in-Some.i
+    c.in-Some.ensures
+    (omega (arith, c.if-r-eq0.false)) c.told-nodes c.requires.2
+    _ c.until_part-q.result c.until_part-q.ensures _ _ _ c.in_err-r-2.ensures)
 
 pub and_part-loop-i-preserved : goal.and_part-loop-i-preserved
 and_part-loop-i-preserved t c =
     let a = c.args in
-    (turn_on a.inner conj a.level a.s.now a.p.at a.p.n a.p.left a.nodes.now c.loop-i.r c.loop-i.nodes c.loop-i.invariant c.in-Some.i c.in-Some.ensures
+    (turn_on_with a.inner conj a.level a.s.now a.p.at a.p.n a.p.left a.nodes.now c.loop-i.r c.loop-i.nodes c.loop-i.invariant c.in-Some.i c.in-Some.ensures
     (omega (arith, c.if-r-eq0.false)) c.told-nodes c.requires.2
-    _ _ c.in_ok-q.ensures _ _ c.with_two-r.ensures).0
+    _ c.until_part-q.result c.until_part-q.ensures _ c.byte.ensures _ _ c.in_ok-r-2.ensures).0
 
 pub or_part-returns-in_err-r : goal.or_part-returns-in_err-r
 or_part-returns-in_err-r t c =
@@ -83,33 +83,33 @@ or_part-returns-then-r-eq0 t c =
     turn_shut a.inner disj a.level a.s.now a.p.at a.p.n a.p.left a.nodes.now _ _ c.loop-i.invariant _ c.in-Some.ensures c.told-nodes c.requires.2
     c.if-r-eq0.true _ c.refused.ensures
 
-pub or_part-returns-in_err-q : goal.or_part-returns-in_err-q
-or_part-returns-in_err-q t c =
-    let a = c.args in
-    let e = err_from_is_err_and c.from_residual-in_err-q.result c.from_residual-in_err-q.ensures.1 in
-    rw (e.1, e.2)
-    (turn_broken a.inner disj a.level a.s.now a.p.at a.p.n a.p.left a.nodes.now c.loop-i.r c.loop-i.nodes c.loop-i.invariant c.in-Some.i
-    c.in-Some.ensures
-    (omega (arith, c.if-r-eq0.false)) c.told-nodes c.requires.2
-    c.and_part-in-Some.new.nodes _ c.in_err-q.ensures)
-
 pub or_part-overflow_sub-r : goal.or_part-overflow_sub-r
 or_part-overflow_sub-r t c =
     let a = c.args in
     (turn_room a.inner disj a.level a.s.now a.p.at a.p.n a.p.left a.nodes.now _ _ c.loop-i.invariant).some
 
-pub or_part-with_two-r-requires : goal.or_part-with_two-r-requires
-or_part-with_two-r-requires t c =
+pub or_part-with_two-requires : goal.or_part-with_two-requires
+or_part-with_two-requires t c =
     let a = c.args in
     next_fits a.inner disj a.level a.s.now a.p.at a.p.n a.p.left a.nodes.now _ _ c.loop-i.invariant _ c.in-Some.ensures
-    (omega (arith, c.if-r-eq0.false)) c.told-nodes c.requires.2 _ _ c.in_ok-q.ensures
+    (omega (arith, c.if-r-eq0.false)) c.told-nodes c.requires.2 _ c.and_part-q.result c.and_part-q.ensures
+
+pub or_part-returns-in_err-r-2 : goal.or_part-returns-in_err-r-2
+or_part-returns-in_err-r-2 t c =
+    let a = c.args in
+    let e = err_from_is_err_and c.from_residual-in_err-r-2.result c.from_residual-in_err-r-2.ensures.1 in
+    rw (e.1, e.2)
+    (turn_broken_with a.inner disj a.level a.s.now a.p.at a.p.n a.p.left a.nodes.now c.loop-i.r c.loop-i.nodes c.loop-i.invariant c.in-Some.i
+    c.in-Some.ensures
+    (omega (arith, c.if-r-eq0.false)) c.told-nodes c.requires.2
+    _ c.and_part-q.result c.and_part-q.ensures _ _ _ c.in_err-r-2.ensures)
 
 pub or_part-loop-i-preserved : goal.or_part-loop-i-preserved
 or_part-loop-i-preserved t c =
     let a = c.args in
-    (turn_on a.inner disj a.level a.s.now a.p.at a.p.n a.p.left a.nodes.now c.loop-i.r c.loop-i.nodes c.loop-i.invariant c.in-Some.i c.in-Some.ensures
+    (turn_on_with a.inner disj a.level a.s.now a.p.at a.p.n a.p.left a.nodes.now c.loop-i.r c.loop-i.nodes c.loop-i.invariant c.in-Some.i c.in-Some.ensures
     (omega (arith, c.if-r-eq0.false)) c.told-nodes c.requires.2
-    _ _ c.in_ok-q.ensures _ _ c.with_two-r.ensures).0
+    _ c.and_part-q.result c.and_part-q.ensures _ c.byte.ensures _ _ c.in_ok-r-2.ensures).0
 
 pub leaf_part-returns-then-inner : goal.leaf_part-returns-then-inner
 leaf_part-returns-then-inner t c =
@@ -133,31 +133,19 @@ leaf_part-returns-then-level-eq0 t c =
           w.if-p-eq0.true _ c.refused-then-level-eq0.ensures
     ]
 
-pub leaf_part-returns-in_err-r : goal.leaf_part-returns-in_err-r
-leaf_part-returns-in_err-r t c =
-    let a = c.args in
-    let e = err_from_is_err_and c.from_residual.result c.from_residual.ensures.1 in
-    rw (e.1, e.2)
-    (text_refused a.inner a.s.now a.level a.p.at a.p.n a.p.left a.nodes.now c.if-inner.false c.requires.0 c.if-s-i-ne91.false c.if-level-eq0.false
-    c.if-p-eq0.false _ c.or_part.new.nodes c.in_err-r.ensures)
-
 pub leaf_part-count_end-requires : goal.leaf_part-count_end-requires
 leaf_part-count_end-requires t c =
-    let a = c.args in
-    let g = ors (λ j. marks) (a.level - 1) (a.p.left - 1) (drop (a.p.at + 1) a.s.now) in
-    let o = room true a.s.now a.p.n (a.p.left - 1) a.nodes.now _ _ g c.in_ok-r.ensures in (
-      part_inside true a.s.now a.p.n (a.p.left - 1) a.nodes.now _ _ g c.in_ok-r.ensures,
+    let a = c.args in (
+      text_fits a.inner a.s.now a.level a.p.at a.p.n a.p.left a.nodes.now c.if-inner.false c.requires.0 c.if-s-i-ne91.false c.if-level-eq0.false
+          c.if-p-eq0.false c.requires.2 c.or_part-r.result _ c.or_part-r.ensures,
       c.requires.1,
-      omega (arith, o.some),
-      omega
-          (arith, o.kept, c.if-p-eq0.false),
     )
 
 pub leaf_part-returns : goal.leaf_part-returns
 leaf_part-returns t c =
     let a = c.args in
     text_read a.inner a.s.now a.level a.p.at a.p.n a.p.left a.nodes.now c.if-inner.false c.requires.0 c.if-s-i-ne91.false c.if-level-eq0.false
-    c.if-p-eq0.false c.told-nodes c.requires.2 _ _ c.in_ok-r.ensures _ _ c.count_end.ensures
+    c.if-p-eq0.false c.told-nodes c.requires.2 c.or_part-r.result _ c.or_part-r.ensures _ _ c.count_end.ensures
 
 pub small_part-returns-then-s-i : goal.small_part-returns-then-s-i
 small_part-returns-then-s-i t c =
@@ -177,20 +165,12 @@ small_part-returns-then-level-eq0 t c =
     small_shut a.inner a.s.now a.level a.p.at a.p.n a.p.left a.nodes.now c.spaces-i.result c.spaces-i.ensures.0 (omega (arith, c.if-s-i.false))
     c.if-b-eq40.true c.if-level-eq0.true _ c.refused-then-level-eq0.ensures
 
-pub small_part-returns-in_err-r : goal.small_part-returns-in_err-r
-small_part-returns-in_err-r t c =
-    let a = c.args in
-    let e = err_from_is_err_and c.from_residual.result c.from_residual.ensures.1 in
-    rw (e.1, e.2)
-    (small_broken a.inner a.s.now a.level a.p.at a.p.n a.p.left a.nodes.now c.spaces-i.result c.spaces-i.ensures.0 (omega (arith, c.if-s-i.false))
-    c.if-b-eq40.true c.if-level-eq0.false _ c.or_part.new.nodes c.in_err-r.ensures)
-
 pub small_part-returns-then-b-eq40 : goal.small_part-returns-then-b-eq40
 small_part-returns-then-b-eq40 t c =
     let a = c.args in
-    small_closed a.inner a.s.now a.level a.p.at a.p.n a.p.left a.nodes.now c.spaces-i.result c.spaces-i.ensures.0 (omega (arith, c.if-s-i.false))
+    small_paren a.inner a.s.now a.level a.p.at a.p.n a.p.left a.nodes.now c.spaces-i.result c.spaces-i.ensures.0 (omega (arith, c.if-s-i.false))
     c.if-b-eq40.true c.if-level-eq0.false
-    c.told-nodes c.requires.2 _ _ c.in_ok-r.ensures _ c.expect.ensures
+    c.told-nodes c.requires.2 c.or_part-r.result _ c.or_part-r.ensures _ c.expect.ensures
 
 pub small_part-returns-in-None : goal.small_part-returns-in-None
 small_part-returns-in-None t c =
@@ -210,29 +190,20 @@ small_part-returns-then-level-eq0-2 t c =
           c.in-Some.o c.in-Some.ensures w.if-level-eq0-2.false w.if-p-eq0.true _ c.refused-then-level-eq0-2.ensures
     ]
 
-pub small_part-returns-in_err-q-in-Some : goal.small_part-returns-in_err-q-in-Some
-small_part-returns-in_err-q-in-Some t c =
-    let a = c.args in
-    let e = err_from_is_err_and c.from_residual-in_err-q-in-Some.result c.from_residual-in_err-q-in-Some.ensures.1 in
-    rw (e.1, e.2)
-    (operand_refused a.inner a.s.now a.level a.p.at a.p.n a.p.left a.nodes.now c.spaces-i.result c.spaces-i.ensures.0 (omega (arith, c.if-s-i.false))
-    c.in-Some.o c.in-Some.ensures
-    c.if-level-eq0-2.false c.if-p-eq0.false _ c.small_part.new.nodes c.in_err-q-in-Some.ensures)
-
 pub small_part-with_one-requires : goal.small_part-with_one-requires
 small_part-with_one-requires t c =
     let a = c.args in
     let g = smalls (leaf_reader a.inner) (a.level - 1) (a.p.left - 1) (drop (c.spaces-i.result + 1) a.s.now) in
-    let o = room a.inner a.s.now a.p.n (a.p.left - 1) a.nodes.now _ _ g c.in_ok-q-in-Some.ensures in
-    (omega (arith, o.some), omega (arith, o.kept, c.if-p-eq0.false))
+    IfOk-weaker c.small_part-q.result _ _ (λ p o. (o.some, omega (arith, o.kept, c.if-p-eq0.false)))
+    (room_if_read a.inner a.s.now a.p.n (a.p.left - 1) a.nodes.now c.small_part-q.result _ g c.small_part-q.ensures)
 
-pub small_part-returns-in_ok-q-in-Some : goal.small_part-returns-in_ok-q-in-Some
-small_part-returns-in_ok-q-in-Some t c =
+pub small_part-returns-else-p-eq0 : goal.small_part-returns-else-p-eq0
+small_part-returns-else-p-eq0 t c =
     let a = c.args in
-    operand_read a.inner a.s.now a.level a.p.at a.p.n a.p.left a.nodes.now c.spaces-i.result c.spaces-i.ensures.0 (omega (arith, c.if-s-i.false))
+    operand_with a.inner a.s.now a.level a.p.at a.p.n a.p.left a.nodes.now c.spaces-i.result c.spaces-i.ensures.0 (omega (arith, c.if-s-i.false))
     c.in-Some.o c.in-Some.ensures
     c.if-level-eq0-2.false c.if-p-eq0.false
-    c.told-nodes c.requires.2 _ _ c.in_ok-q-in-Some.ensures _ _ c.with_one.ensures
+    c.told-nodes c.requires.2 c.small_part-q.result _ c.small_part-q.ensures _ c.byte.ensures _ _ c.with_one.ensures
 
 pub until_part-returns-in_err-r : goal.until_part-returns-in_err-r
 until_part-returns-in_err-r t c =
@@ -258,15 +229,6 @@ until_part-returns-then-level-eq0 t c =
           c.requires.2 c.in-Some.k c.in-Some.ensures w.if-level-eq0.false w.if-r-eq0.true _ c.refused.ensures
     ]
 
-pub until_part-returns-in_err-q-in-Some : goal.until_part-returns-in_err-q-in-Some
-until_part-returns-in_err-q-in-Some t c =
-    let a = c.args in
-    let e = err_from_is_err_and c.from_residual-in_err-q-in-Some.result c.from_residual-in_err-q-in-Some.ensures.1 in
-    rw (e.1, e.2)
-    (rest_refused a.inner a.s.now a.level a.p.at a.p.n a.p.left a.nodes.now c.in_ok-r.r c.small_part.new.nodes c.in_ok-r.ensures c.told-nodes
-    c.requires.2 c.in-Some.k c.in-Some.ensures
-    c.if-level-eq0.false c.if-r-eq0.false c.until_part.new.nodes _ c.in_err-q-in-Some.ensures)
-
 pub until_part-overflow_sub-r : goal.until_part-overflow_sub-r
 until_part-overflow_sub-r t c =
     let a = c.args in
@@ -278,15 +240,18 @@ pub until_part-with_two-requires : goal.until_part-with_two-requires
 until_part-with_two-requires t c =
     let a = c.args in
     let r = c.in_ok-r.r in
+    let q = c.until_part-q in
     let o = room a.inner a.s.now a.p.n a.p.left a.nodes.now _ _ (smalls (leaf_reader a.inner) a.level a.p.left (drop a.p.at a.s.now))
-    c.in_ok-r.ensures in
-    let x = room a.inner a.s.now r.n (r.left - 1) c.small_part.new.nodes _ _
-    (untils (leaf_reader a.inner) (a.level - 1) (r.left - 1) (drop (c.in-Some.k.at + 1) a.s.now)) c.in_ok-q-in-Some.ensures in
-    (omega (arith, x.some), omega (arith, x.kept, o.kept, c.if-r-eq0.false), omega (arith, o.kept, o.some))
+    c.in_ok-r.ensures in (
+      IfOk-weaker q.result _ _ (λ p x. (x.some, omega (arith, x.kept, o.kept, c.if-r-eq0.false)))
+          (room_if_read a.inner a.s.now r.n (r.left - 1) c.small_part.new.nodes q.result _
+          (untils (leaf_reader a.inner) (a.level - 1) (r.left - 1) (drop (c.in-Some.k.at + 1) a.s.now)) q.ensures),
+      omega (arith, o.kept, o.some),
+    )
 
-pub until_part-returns-in_ok-q-in-Some : goal.until_part-returns-in_ok-q-in-Some
-until_part-returns-in_ok-q-in-Some t c =
+pub until_part-returns-else-r-eq0 : goal.until_part-returns-else-r-eq0
+until_part-returns-else-r-eq0 t c =
     let a = c.args in
-    rest_read a.inner a.s.now a.level a.p.at a.p.n a.p.left a.nodes.now c.in_ok-r.r c.small_part.new.nodes c.in_ok-r.ensures c.told-nodes
+    rest_with a.inner a.s.now a.level a.p.at a.p.n a.p.left a.nodes.now c.in_ok-r.r c.small_part.new.nodes c.in_ok-r.ensures c.told-nodes
     c.requires.2 c.in-Some.k c.in-Some.ensures
-    c.if-level-eq0.false c.if-r-eq0.false c.until_part.new.nodes _ c.in_ok-q-in-Some.ensures _ _ c.with_two.ensures
+    c.if-level-eq0.false c.if-r-eq0.false c.until_part-q.new.nodes c.until_part-q.result c.until_part-q.ensures _ c.byte.ensures _ _ c.with_two.ensures

@@ -10,7 +10,7 @@ use Rattle.grammar.specs.Reader.{clause_line}
 use Rattle.sheet.specs.Rules.{told_verdict}
 use Rattle.sheet.specs.Room.{part_inside}
 use Rattle.sheet.specs.Lines.{from_line, too_long, empty, by_lines, all_read, line_33, line_refused, line_read}
-use Rattle.std.specs.Prelude.{Err}
+use Rattle.std.specs.Prelude.{Ok, Err}
 use Rattle.token.specs.declared.Fault.{Fault}
 use Rattle.sheet.proofs.reading.read_lines.Goals as goal
 
@@ -49,7 +49,7 @@ loop-line-preserved c =
     let l = c.loop-line in
     let n : 32 - l._line ≡ suc (31 - l._line) = omega (arith, c.loop-line-test.true) in
     let m : 31 - l._line ≡ 32 - (l._line + 1) = omega arith in (
-      part_inside false s 0 128 l.nodes _ _ (clause_line 128 (drop l.at s)) c.in_ok-r.ensures,
+      part_inside false s 0 128 l.nodes (Ok c.in_ok-r.r) _ (clause_line 128 (drop l.at s)) c.in_ok-r.ensures,
       l.invariant.1 ∙ ap (λ (j : ℕ). from_line s j l.at) n
           ∙ line_read s l.nodes c.read_clause.new.nodes (31 - l._line) l.at (omega (arith, c.if-s-at.false)) _ c.in_ok-r.ensures
           ∙ ap (λ (j : ℕ). from_line s j c.in_ok-r.r.at) m,
