@@ -1,5 +1,5 @@
 -- The tallies of single marks, kept from count to count.
-use Rattle.std.specs.Prelude.{ℕ, ◌+◌, ◌-◌, ◌*◌, ◌^◌, ◌≤◌, ◌<◌, ◌≡◌, Bool, cond, List, ◌⊎◌, get_or}
+use Rattle.std.specs.Prelude.{ℕ, ◌+◌, ◌-◌, ◌*◌, ◌^◌, ◌≤◌, ◌<◌, ◌≡◌, Bool, cond, List, ◌⊎◌, get_or, length}
 use Rattle.mask.specs.Mask.{signed}
 use Rattle.table.specs.Table.{told}
 use Rattle.quorum.specs.Words.{within}
@@ -24,4 +24,5 @@ TalliesOf g t from p at tallies = Tallied g.lasso.h g.lasso.l g.carts g.drift (w
 
 -- What is kept: of each mark and of its negation nothing yet, which 255 in the first byte says (no tally is above 32), or the tallies of all steps.
 pub record Tallies (g : Ground) (t tallies : List ℕ) : Type 0 where
+  pub size : length tallies ≡ 2048
   pub each : (from : ℕ) (p : Bool) (at : ℕ) → KeptAt g from p at → (get_or tallies at 0 ≡ 255) ⊎ TalliesOf g t from p at tallies

@@ -1,7 +1,7 @@
 -- Tallies are made one text at a time, and stay.
 use Rattle.std.specs.Prelude.{ℕ, ◌+◌, ◌-◌, ◌*◌, ◌^◌, ◌≤◌, ◌<◌, ◌≡◌, refl, Bool, true, false, ◌&&◌, List, ◌⊎◌, get_or, replicate}
 use Rattle.std.proofs.Common.{sym, ap, subst, ◌∙◌, inl, inr, ⊎_elim, arith}
-use Rattle.std.proofs.lemmas.List.{get_or-replicate}
+use Rattle.std.proofs.lemmas.List.{length-replicate, get_or-replicate}
 use Rattle.cltl.specs.Rules.{throughout}
 use Rattle.cltl.proofs.Basics.{lt_or_le}
 use Rattle.cltl.proofs.Agree.{throughout_agrees}
@@ -46,6 +46,7 @@ module _ (g : Ground) (from from' : ℕ) (p p' : Bool) (at at' : ℕ) (here : Ke
 -- nothing is kept at the start
 pub no_tallies : (g : Ground) (t : List ℕ) → Tallies g t (replicate 2048 255)
 no_tallies g t = record {
+  size = length-replicate {A = ℕ} 2048 255;
   each = λ from p at here. inl (get_or-replicate 2048 at 255 0 (omega (arith, here.room, g.lasso.lap)));
 }
 
@@ -59,6 +60,7 @@ module _ (g : Ground) where
   -- as long as the tables of the marks do
   pub still_tallied : (t t' tallies : List ℕ) → Kept (pairs_at g.marks g.lasso.h) t t' → Tallies g t tallies → Tallies g t' tallies
   still_tallied t t' tallies kept all = record {
+    size = all.size;
     each = λ from p at here. ⊎_elim inl (λ those. inr (λ s u. those s u ∙ same from p (ends from p at here) s)) (all.each from p at here);
   }
     where
@@ -106,6 +108,7 @@ module _ (g : Ground) where
 
       pub tallied_too : Tallies g t before → Tallies g t after
       tallied_too all = record {
+        size = made.kept ∙ all.size;
         each = λ from' p' at' there. ⊎_elim (λ same. this from' p' at' there same.0 same.1)
             (λ apart. other from' p' at' apart (all.each from' p' at' there)) (same_or_apart g from from' p p' at at' here there);
       }
