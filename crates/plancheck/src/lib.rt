@@ -3,7 +3,7 @@
 
 mod clauses;
 
-ghost use Rattle.std.specs.Prelude.{◌≡◌, ◌≤◌};
+ghost use Rattle.std.specs.Prelude.{◌≡◌, ◌≤◌, leb};
 ghost use Rattle.refusal.specs.Results.{checked};
 ghost use Rattle.refusal.specs.declared.Verdict.TheVariants.{Accepted};
 ghost use Rattle.sheet.specs.Rules.{rules_verdict};
@@ -34,6 +34,14 @@ fn judge_in<const N: usize>(
     judge_lines(floor, r, rules, marks, &mut t)
 }
 
+// Whether so many words have room for the tables of all marks at all steps, of all and of none, and for six pairs of places.
+fn fits(marks: usize, steps: usize, words: usize) -> bool
+    requires { (marks ≤ 32) × (steps ≤ 64) }
+    ensures { result ≡ leb (pairs_end marks steps) words }
+{
+    (marks + 14) * steps <= words
+}
+
 // Judges the clauses of an accepted sheet, in the smallest block that has room for the tables of all marks at all steps, of all and of none, and for six
 // pairs of places: a large one costs more to clear than a small floor to check.
 fn judge_clauses(floor: &[u8], r: &PlanRead, rules: &[u8]) -> Result<(), Refused>
@@ -43,11 +51,10 @@ fn judge_clauses(floor: &[u8], r: &PlanRead, rules: &[u8]) -> Result<(), Refused
 {
     let marks = marks::borne(floor, r.floor.places);
     let steps = r.plan.head.steps;
-    let words = (marks + 14) * steps;
-    if words <= 500 {
+    if fits(marks, steps, 500) {
         return judge_in::<500>(floor, r, rules, marks);
     }
-    if words <= 1000 {
+    if fits(marks, steps, 1000) {
         return judge_in::<1000>(floor, r, rules, marks);
     }
     judge_in::<2944>(floor, r, rules, marks)
