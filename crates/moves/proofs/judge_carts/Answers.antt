@@ -18,7 +18,7 @@ returns-in_err-judge_cart_row c =
     let size : length a.block.now ≡ 2048 = search rules in
     let e : c.from_residual.result ≡ Err c.in_err-judge_cart_row.field-0.0 = search rules in
     ap checked e
-    ∙ refused l.counts.carts a.h a.block.now c.loop-c.c l.accepted_floor.valid.few_carts c.loop-c-test.true c.requires.1 size l.floor.now
+    ∙ refused l.counts.carts a.h a.block.now c.loop-c.c l.accepted_floor.valid.few_carts (omega (arith, c.loop-c-test.true)) c.requires.1 size l.floor.now
     c.loop-c.invariant _ (sym (ap checked c.in_err-judge_cart_row.was) ∙ c.judge_cart_row.ensures) (refused_stops _)
 
 pub loop-c-preserved : goal.loop-c-preserved
@@ -26,7 +26,7 @@ loop-c-preserved c =
     let a = c.args in
     let l = a.lanes.now in
     let size : length a.block.now ≡ 2048 = search rules in
-    onward l.counts.carts a.h a.block.now c.loop-c.c l.accepted_floor.valid.few_carts c.loop-c-test.true c.requires.1 size l.floor.now
+    onward l.counts.carts a.h a.block.now c.loop-c.c l.accepted_floor.valid.few_carts (omega (arith, c.loop-c-test.true)) c.requires.1 size l.floor.now
     c.loop-c.invariant _ c.judge_cart_row.ensures (ap (λ r. is_accepted (checked r)) c.in_ok-judge_cart_row.was)
 
 pub returns : goal.returns
