@@ -12,6 +12,7 @@ use Rattle.grammar.specs.Limits.{mark_nodes, count_nodes}
 use Rattle.grammar.specs.Nodes.{top_n, mark_n, flat_mark, flat_count}
 use Rattle.grammar.specs.Reader.{Got, got, bind, skip, marks, smalls, untils, ors}
 use Rattle.token.specs.Block.{unary_byte, binary_byte}
+use Rattle.token.specs.Counted.{text_handed_on}
 use Rattle.token.specs.Counts.{CountEnds, count_got}
 use Rattle.token.specs.Joined.{part_length}
 use Rattle.token.specs.Leaves.{LeafIs, Expected, ExpectedIfRead, word_got}
@@ -251,6 +252,13 @@ module _ (inner : Bool) (s : List ℕ) (level i n left : ℕ) (before : List ℕ
               let o = room true s n (left - 1) before r block g h in
               (part_inside true s n (left - 1) before (Ok r) block g h, o.some, omega (arith, o.kept, some, few))
           text_fits few (Err f) block h = tt
+
+          -- refused text refuses the count, whatever length and room the block has
+          pub text_refused : (f : Fault) (block : List ℕ) → Text (Err f) block → Leaf (Err f) block
+          text_refused f block h =
+              of_clause (Err f) block
+              (subst (PartIs count_nodes flat_count s n left before (Err f) block) same
+              (text_handed_on s n (left - 1) left before f block (ors (λ j. marks) (level - 1) (left - 1) (drop (i + 1) s)) h))
 
           pub text_read : length before ≡ 512 → n + left ≤ 128 → (r : Result Part Fault) (block : List ℕ) → Text r block
               → (q : Result Part Fault) (after : List ℕ) → CountEnds s r block q after → Leaf q after
